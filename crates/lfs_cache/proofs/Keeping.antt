@@ -1,5 +1,5 @@
 -- What is kept of a device through changes of either.
-use Rattle.std.proofs.Common.{◌≡◌, ◌≢◌, ◌⊎◌, ◌<◌, ◌-◌, ℕ, zero, suc, List, [], ◌∷◌, Option, Some, None, nat_eq, true, false, cond, take, refl, sym, ap, ◌∙◌, subst, inl, inr, Bool, is_some, Result, Ok, Err, OnErr, length, get_or-set_same, get_or-set_other, slice_get}
+use Rattle.std.proofs.Common.{◌≡◌, ◌≢◌, ◌⊎◌, ◌<◌, ◌-◌, ℕ, zero, suc, List, [], ◌∷◌, Option, Some, None, nat_eq, true, false, cond, take, refl, sym, ap, ◌∙◌, subst, inl, inr, Bool, is_some, Result, Ok, Err, OnOk, OnErr, length, get_or-set_same, get_or-set_other, slice_get}
 use Rattle.std.specs.Option.{option_map, option_map_or}
 use Rattle.std.specs.Map.{lookup, lookup_entry, remove_entry, set_value}
 use Rattle.std.proofs.lemmas.Bool.{eqb-true, eq-eqb}
@@ -167,3 +167,8 @@ last_used kept s n v first same = by_entries kept.entries refl first
     by_entries (e ∷ es) is found =
         let head : e ≡ (n, v) = cc in
         subst (λ (k : Kept). IsLastUsed k s v) (ap (λ (l : Entries). lru_cache l kept.cap) (sym (is ∙ ap (λ (f : ℕ × List ℕ). f ∷ es) head))) (first_entry s n kept.cap v es same)
+
+-- what a write may leave, whether it is done or fails
+pub may_write : {A E : Type 0} (r : Result A E) (s : ℕ) (v : List ℕ) (old new : DeviceState) → OnOk r (new.keeps_model → new.content ≡ put old.content s v) → OnErr r (new.keeps_model → MayWrite s v old.content new.content) → new.keeps_model → MayWrite s v old.content new.content
+may_write (Ok x) s v old new written failed keeps = left_new (written keeps)
+may_write (Err e) s v old new written failed keeps = failed keeps

@@ -100,6 +100,10 @@ impl<D: SectorDevice> SectorDevice for CachedDevice<D> {
         self.sectors.write(sector, bytes)
     }
 
+    fn write_around(&mut self, sector: u32, bytes: &[u8; 512]) -> Result<(), DeviceFault> {
+        self.sectors.write_around(sector, bytes)
+    }
+
     fn sync(&mut self) -> Result<(), DeviceFault> {
         self.sectors.sync()
     }

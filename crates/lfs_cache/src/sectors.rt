@@ -167,6 +167,35 @@ impl<D: SectorDevice> Sectors<D> {
         }
     }
 
+    /// Writes a sector, of which nothing is kept after that.
+    pub(crate) fn write_around(&mut self, sector: u32, bytes: &[u8; 512]) -> Result<(), DeviceFault>
+        requires within { sector < (D.state self.old.device).size }
+        requires agrees { Agrees self.old.kept (D.state self.old.device) }
+        ensures agrees { Agrees self.new.kept (D.state self.new.device) }
+        ensures kept { self.new.kept ≡ without self.old.kept sector }
+        ensures written { OnOk result ((D.state self.new.device).keeps_model
+            → (D.state self.new.device).content ≡ put
+            (D.state self.old.device).content sector bytes.now) }
+        ensures failed_write { OnErr result ((D.state self.new.device).keeps_model
+            → MayWrite sector bytes.now (D.state self.old.device).content
+            (D.state self.new.device).content) }
+        ensures crash { CrashWrites sector bytes.now (D.state self.old.device)
+            (D.state self.new.device) }
+        ensures failed { OnErr result
+            ((D.state self.old.device).failures < (D.state self.new.device).failures) }
+        ensures no_failure { OnOk result ((D.state self.new.device).failures
+            ≡ (D.state self.old.device).failures) }
+        ensures carries { Carries (D.state self.old.device) (D.state self.new.device) }
+        ensures time { Elapses (D.state self.old.device) (D.state self.new.device) }
+        ensures told { OnOk result ((D.state self.new.device).told
+            ≡ order.Write sector bytes.now ∷ (D.state self.old.device).told) }
+        ensures may_tell { OnErr result (MayTell (order.Write sector bytes.now)
+            (D.state self.old.device).told (D.state self.new.device).told) }
+    {
+        forget(&mut self.kept, sector);
+        self.device.write_around(sector, bytes)
+    }
+
     /// Makes all contents durable.
     pub(crate) fn sync(&mut self) -> Result<(), DeviceFault>
         requires agrees { Agrees self.old.kept (D.state self.old.device) }

@@ -74,6 +74,31 @@ pub trait SectorDevice {
         ensures may_tell { OnErr result (MayTell (order.Write sector bytes.now)
             (state self.old).told (state self.new).told) };
 
+    /// Writes a sector that isn't likely to be read soon, as `write` does. A device in front of which
+    /// sectors are kept needn't keep this one.
+    ///
+    /// # Errors
+    ///
+    /// As `write`.
+    fn write_around(&mut self, sector: u32, bytes: &[u8; 512]) -> Result<(), DeviceFault>
+        requires { sector < (state self.old).size }
+        ensures written { OnOk result ((state self.new).keeps_model
+            → (state self.new).content ≡ put (state self.old).content sector bytes.now) }
+        ensures failed_write { OnErr result ((state self.new).keeps_model
+            → MayWrite sector bytes.now (state self.old).content (state self.new).content) }
+        ensures crash { CrashWrites sector bytes.now (state self.old) (state self.new) }
+        ensures failed { OnErr result ((state self.old).failures < (state self.new).failures) }
+        ensures no_failure { OnOk result ((state self.new).failures ≡ (state self.old).failures) }
+        ensures carries { Carries (state self.old) (state self.new) }
+        ensures time { Elapses (state self.old) (state self.new) }
+        ensures told { OnOk result ((state self.new).told
+            ≡ order.Write sector bytes.now ∷ (state self.old).told) }
+        ensures may_tell { OnErr result (MayTell (order.Write sector bytes.now)
+            (state self.old).told (state self.new).told) }
+    {
+        self.write(sector, bytes)
+    }
+
     /// Makes all contents durable.
     ///
     /// # Errors

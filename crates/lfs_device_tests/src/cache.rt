@@ -14,6 +14,8 @@ enum Step {
     Reads(u32, Result<u8, ReadFault>),
     /// A sector is filled with a byte: whether that succeeds.
     Fill(u32, u8, bool),
+    /// The same, around what is kept.
+    FillAround(u32, u8, bool),
 }
 
 /// What a read gives where the device fails it.
@@ -27,12 +29,18 @@ fn lent(cache: &mut CachedDevice<MemDevice>, sector: u32) -> Result<u8, ReadFaul
     only_byte(cache.read_ref(sector)?)
 }
 
+/// Whether a sector could be filled with a byte around what is kept.
+fn put_around(cache: &mut CachedDevice<MemDevice>, sector: u32, byte: u8) -> bool {
+    sector < cache.sectors() && cache.write_around(sector, &[byte; 512]).is_ok()
+}
+
 impl Row<CachedDevice<MemDevice>> for Step {
     fn is_well(self, cache: &mut CachedDevice<MemDevice>) -> bool {
         match self {
             Step::Lends(sector, holds) => lent(cache, sector) == holds,
             Step::Reads(sector, holds) => filled(cache, sector) == holds,
             Step::Fill(sector, byte, succeeds) => put(cache, sector, &[byte; 512]) == succeeds,
+            Step::FillAround(sector, byte, succeeds) => put_around(cache, sector, byte) == succeeds,
         }
     }
 }
@@ -114,6 +122,24 @@ fn writes_are_kept_unless_they_fail(rt: HostRuntime) {
     ];
     let faults = [(DeviceCall::Write, 2), (DeviceCall::Read, 0)];
     all_well(&rt, cached(rt.alloc(), 1, &faults), &steps);
+    all_well(&rt, cached(rt.alloc(), 2, &faults), &steps);
+}
+
+#[test]
+fn writes_around_are_not_kept(rt: HostRuntime) {
+    let steps = [
+        Step::Lends(0, Ok(0)),
+        Step::Lends(1, Ok(1)),
+        Step::FillAround(0, 5, true),
+        Step::Lends(1, Ok(1)),
+        // The third read that reaches the device.
+        Step::Lends(0, FAILED),
+        Step::Lends(0, Ok(5)),
+        Step::FillAround(0, 6, false),
+        Step::Lends(0, Ok(5)),
+        Step::Lends(1, Ok(1)),
+    ];
+    let faults = [(DeviceCall::Write, 1), (DeviceCall::Read, 2)];
     all_well(&rt, cached(rt.alloc(), 2, &faults), &steps);
 }
 

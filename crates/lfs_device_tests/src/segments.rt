@@ -358,8 +358,8 @@ enum Step {
 
 fn says(usage: &Usage) -> Option<SegmentUsage> {
     let count = usage.segments().checked_sub(64)? as usize;
-    let bytes = usage.encode(1);
-    Some(UsageView::decode(&bytes, count)?.get(7))
+    let bytes = usage.spelled(1);
+    Some(UsageView::decode(bytes, count)?.get(7))
 }
 
 impl Row<Usage> for Step {

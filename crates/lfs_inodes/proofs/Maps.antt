@@ -1,5 +1,5 @@
 -- The inode map in memory: what a loop leaves of it, and what its blocks spell.
-use Rattle.std.proofs.Common.{◌≡◌, ◌<◌, ◌≤◌, ⊎_elim, ◌+◌, ◌*◌, not, ℕ, zero, suc, Bool, true, false, cond, List, length, get_or, set, replicate, refl, sym, ◌∙◌, ap, arith, get_or-set_other, get_or-set_same}
+use Rattle.std.proofs.Common.{Fits, w32, slice_index_or, [], ◌∷◌, ◌^◌, IfSome, None, Option, Some, ◌≡◌, ◌<◌, ◌≤◌, ⊎_elim, ◌+◌, ◌*◌, not, ℕ, zero, suc, Bool, true, false, cond, List, length, get_or, set, replicate, refl, sym, ◌∙◌, ap, arith, get_or-set_other, get_or-set_same}
 use Rattle.std.proofs.lemmas.Bool.{cases_eq}
 use Rattle.lfs_model.specs.Fields.{read32}
 use Rattle.lfs_model.specs.Pointers.{FitsPointers, pointer_sector}
@@ -41,6 +41,17 @@ module _ (v : MapValue) (j : ℕ) (ns : List ℕ) (fits : FitsPointers ns) (each
     some = (some.0, some.1, (let is = word_of_pointers ns some.0 fits some.1 in let s = some.2 in omega arith));
   }
 
+  -- the block, if there is one
+  pub spelled_shown : (r : Option (List ℕ)) → IfSome r (λ bytes. bytes ≡ pointer_sector ns) → IfSome r (λ bytes. (i : ℕ) × (i < 128) × (0 < get_or ns i 0)) → IfSome r (SpellsShown v j)
+  spelled_shown None is some = tt
+  spelled_shown (Some bytes) is some = rw is (spells_shown some)
+
+-- words are numbers of 32 bits
+pub are32_of : (ns : List ℕ) → ((i : ℕ) → Fits w32 (slice_index_or ns i 0)) → (i : ℕ) → get_or ns i 0 < 2 ^ 32
+are32_of [] fits i = omega arith
+are32_of (n ∷ ns) fits zero = let first = (fits 0).fits in omega (arith, first)
+are32_of (n ∷ ns) fits (suc i) = are32_of ns (λ k. fits (suc k)) i
+
 -- what the map shows is what the log map shows
 shown_one : (b : Bool) (a : ℕ) → cond b 0 a ≡ cond (not b) a 0
 shown_one true a = refl
@@ -57,6 +68,10 @@ module _ (v : MapValue) (m : LogMap) (t : Tables) (is : IsMapOf v m t) where
     spells = λ i lt. s.spells i lt ∙ sym (shown_is (128 * j + i) (omega arith));
     some = s.some;
   }
+
+  pub spelled_map : (j : ℕ) (r : Option (List ℕ)) → j < 32 → IfSome r (SpellsShown v j) → AreSettled m t j → IfSome r (SpellsMap m t j)
+  spelled_map j None low s settled = tt
+  spelled_map j (Some bytes) low s settled = spells_map j bytes low s settled
 
   pub shows_none : (j : ℕ) → j < 32 → ShowsNone v j → (i : ℕ) → i < 128 → shown m t.at (Inode (128 * j + i)) ≡ 0
   shows_none j low none i lt = shown_is (128 * j + i) (omega arith) ∙ none i lt

@@ -5,6 +5,7 @@ ghost use Rattle.lfs_model.specs.Running.{Tables, IsSet};
 ghost use Rattle.lfs_model.specs.Committing.{SpellsMap};
 ghost use Rattle.lfs_model.specs.Memory.{shown};
 ghost use Rattle.lfs_model.specs.Entry.{Inode};
+ghost use Rattle.lfs_model.specs.Pointers.{FitsPointers, pointer_sector};
 ghost use Rattle.lfs_inodes.specs.MapValue.{MapValue, IsMap, IsEmptyMap, IsUnusedNumber, IsLoaded, IsMapOf, AreSettled, ShowsNone, SpellsShown, address_in, is_hidden_in, block_in, shown_in};
 
 use lfs_layout::{PointerView, encode_pointers};
@@ -106,6 +107,13 @@ impl InodeMap {
         self.blocks[index]
     }
 
+    /// The addresses of all blocks of the map.
+    pub fn block_addresses(&self) -> [u32; 32]
+        ensures { result ≡ self.now.blocks }
+    {
+        self.blocks
+    }
+
     /// The block of the map has this address.
     pub fn set_block_address(&mut self, index: usize, address: u32)
         requires { index < 32 }
@@ -164,6 +172,20 @@ impl InodeMap {
         shown
     }
 
+    /// The addresses of a block of the map, if it shows each of them: each file has a name.
+    fn named_block(&self, index: usize) -> Option<&[u32]>
+        requires { index < 32 }
+        ensures each { IfSome result (λ a. (i : ℕ) → i < 128
+            → get_or a.now i 0 ≡ shown_in self.now (128 * index + i)) }
+        ensures length { IfSome result (λ a. length a.now ≡ 128) }
+    {
+        let first = 128 * index;
+        if self.hidden[first..first + 128].contains(&true) {
+            return None;
+        }
+        Some(&self.addresses[first..first + 128])
+    }
+
     /// A block of the map as it is written, or `None` where it would show no inode.
     pub fn encode(&self, index: usize) -> Option<[u8; 512]>
         requires { index < 32 }
@@ -174,16 +196,30 @@ impl InodeMap {
         ensures dropped { (m : LogMap) (t : Tables) → IsMapOf self.now m t
             → IfNone result ((i : ℕ) → i < 128 → shown m t.at (Inode (128 * index + i)) ≡ 0) }
     {
-        let shown = self.shown_block(index);
-        if is_empty(&shown) {
-            return None;
+        if let Some(addresses) = self.named_block(index) {
+            return spelled(addresses);
         }
-        Some(encode_pointers(&shown))
+        spelled(&self.shown_block(index))
     }
 }
 
+/// The block of these addresses, unless all are 0.
+fn spelled(addresses: &[u32]) -> Option<[u8; 512]>
+    requires { length addresses.now ≡ 128 }
+    ensures fits { FitsPointers addresses.now }
+    ensures some { IfSome result (λ bytes. bytes ≡ pointer_sector addresses.now) }
+    ensures shows { IfSome result (λ bytes. (i : ℕ) × (i < 128) × (0 < get_or addresses.now i 0)) }
+    ensures none { IfNone result ((i : ℕ) → get_or addresses.now i 0 ≡ 0) }
+{
+    if is_empty(addresses) {
+        return None;
+    }
+    Some(encode_pointers(addresses))
+}
+
 /// Whether all addresses are 0.
-fn is_empty(addresses: &[u32; 128]) -> bool
+fn is_empty(addresses: &[u32]) -> bool
+    requires { length addresses.now ≡ 128 }
     ensures empty { IsTrue result → (i : ℕ) → get_or addresses.now i 0 ≡ 0 }
     ensures some { IsFalse result → (i : ℕ) × (i < 128) × (0 < get_or addresses.now i 0) }
 {

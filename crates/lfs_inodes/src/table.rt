@@ -194,15 +194,17 @@ impl DirtyTable {
         self.loose = false;
     }
 
-    /// Where a key stands in the index, or where it would go. The place where the last search found
-    /// its key is looked at first.
+    /// Where a key stands in the index, or where it would go. Three places are looked at first: where
+    /// the last search found its key, and both ends, where the block that goes next stands and the
+    /// inode of the last file.
     fn search(&self, key: BlockKey) -> Result<usize, usize>
         ensures found { IfOk result (HasNumberAt self.now.blocks key.code) }
         ensures missing { IfErr result (IsGapFor self.now.blocks key.code) }
     {
-        let last = self.found.get();
-        if self.stands_at(key, last) {
-            return Ok(last);
+        for at in [self.found.get(), 0, self.len().saturating_sub(1)] {
+            if self.stands_at(key, at) {
+                return Ok(at);
+            }
         }
         match self.search_all(key) {
             Ok(at) => {

@@ -14,7 +14,7 @@ mod zero;
 
 pub use checkpoint::{Checkpoint, is_segment_count, is_version, one_checkpoint_spelling};
 pub use inode::{Inode, InodeView, is_form, is_size, one_inode_spelling};
-pub use patch::{set_header, set_word, word};
+pub use patch::{set_header, set_usage_entry, set_word, word};
 pub use pointers::{PointerView, encode_pointers, one_pointer_spelling};
 pub use slot::{
     SlotBytes, SlotView, encode_slot, has_name, is_name, nth_slot, one_slot_spelling, slot_len,

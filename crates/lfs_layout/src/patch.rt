@@ -1,10 +1,12 @@
 //! Changing a block in place.
-ghost use Rattle.std.specs.Prelude.{◌≡◌, ◌<◌, ◌+◌, ◌*◌, [], ◌∷◌, ◌++◌, take, drop};
+ghost use Rattle.std.specs.Prelude.{◌≡◌, ◌<◌, ◌+◌, ◌*◌, [], ◌∷◌, ◌++◌, length, slice_set, take, drop};
 ghost use Rattle.lfs_model.specs.Inode.{kind_byte};
-ghost use Rattle.lfs_model.specs.Fields.{le32, read32, zeros};
+ghost use Rattle.lfs_model.specs.Fields.{le16, le32, read32, zeros};
+ghost use Rattle.lfs_model.specs.Usage.{usage_of};
 
 use crate::fields::number32_at;
 use crate::inode::byte_of;
+use crate::usage::SegmentUsage;
 use crate::writer::Writer;
 use byteorder::{ByteOrder, LittleEndian};
 use lfs_model::Kind;
@@ -26,6 +28,28 @@ pub fn set_word(block: &mut [u8; 512], place: usize, number: u32)
 {
     let at = 4 * place;
     LittleEndian::write_u32(&mut block[at..at + 4], number);
+}
+
+/// Puts a number at a place of 2 bytes.
+#[tactic(auto, unfolding(lfs_model::specs::Fields::le16))]
+fn set_half(block: &mut [u8; 512], place: usize, number: u16)
+    requires { place < 256 }
+    ensures { block.new ≡ take (2 * place) block.old ++ le16 number ++ drop
+        (2 * place + 2) block.old }
+{
+    let at = 2 * place;
+    LittleEndian::write_u16(&mut block[at..at + 2], number);
+}
+
+/// Gives a usage block this entry at a place. The other entries stay.
+pub fn set_usage_entry(block: &mut [u8; 512], entry: usize, usage: SegmentUsage)
+    requires { entry < 64 }
+    ensures entries { usage_of block.new ≡ slice_set (usage_of block.old) entry usage }
+    ensures length { length block.new ≡ 512 }
+{
+    set_half(block, 4 * entry, usage.used);
+    set_half(block, 4 * entry + 1, usage.live);
+    set_word(block, 2 * entry + 1, usage.age);
 }
 
 /// Makes a block the inode of this number with this kind, form, links and size in bytes. The

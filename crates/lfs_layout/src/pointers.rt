@@ -3,7 +3,7 @@ ghost use Rattle.std.specs.Prelude.{◌≡◌, ◌<◌, List, ℕ, length, slice
 ghost use Rattle.lfs_model.specs.Pointers.{FitsPointers, pointer_sector};
 
 use crate::fields::{number32_at, words_at};
-use crate::writer::SectorWriter;
+use byteorder::{ByteOrder, LittleEndian};
 use std::marker::Model;
 
 /// The 128 addresses of a block that stands in a sector. Contracts see their list.
@@ -48,13 +48,14 @@ impl<'a> PointerView<'a> {
 }
 
 /// The block of these addresses.
-#[tactic(auto, unfolding(lfs_model::specs::Pointers::pointer_sector))]
-pub fn encode_pointers(addresses: &[u32; 128]) -> [u8; 512]
+#[tactic(auto, unfolding(lfs_model::specs::Pointers::pointer_sector, lfs_model::specs::Fields::le32, lfs_model::specs::Fields::words))]
+pub fn encode_pointers(addresses: &[u32]) -> [u8; 512]
+    requires { length addresses.now ≡ 128 }
     ensures { result ≡ pointer_sector addresses.now }
 {
-    let mut sector = SectorWriter::new();
-    sector.words(addresses);
-    sector.finish()
+    let mut sector = [0; 512];
+    LittleEndian::write_u32_into(addresses, &mut sector);
+    sector
 }
 
 /// Two blocks of addresses that are spelled alike are one.

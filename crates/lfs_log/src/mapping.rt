@@ -50,7 +50,7 @@ fn write_map_block<D: SectorDevice>(
         index,
     };
     let address = memory.next_place(name, true, age);
-    write(device, &memory.usage, address, bytes)?;
+    write(device, &memory.usage, address, bytes, false)?;
     memory.map.set_block_address(index as usize, address);
     Ok(())
 }

@@ -87,9 +87,10 @@ fn write_block<D: SectorDevice>(
         → data_count memory.new.dirty + 1 ≡ data_count memory.old.dirty) }
 {
     let lives = !memory.map.is_hidden(key.file());
+    let again = memory.leads_on(key);
     let address = memory.next_place(key.name(), lives, age);
     let bytes = memory.dirty.block(key).unwrap();
-    write(device, &memory.usage, address, bytes)?;
+    write(device, &memory.usage, address, bytes, again)?;
     memory.dirty.moved(key, address);
     memory.point(key, address);
     Ok(())

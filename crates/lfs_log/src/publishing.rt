@@ -2,7 +2,6 @@
 ghost use Rattle.std.specs.Prelude.{◌≡◌, ◌<◌, ◌≤◌, ◌+◌, ◌^◌, ◌-◌, ℕ, get_or, length, OnOk, OnErr};
 ghost use Rattle.lfs_model.specs.Device.{Only};
 ghost use Rattle.lfs_memory.specs.segments.Table.{address_of};
-ghost use Rattle.lfs_memory.specs.inodes.MapValue.{block_in};
 ghost use Rattle.lfs_memory.specs.Memory.{IsMemory, HasRoom};
 ghost use Rattle.lfs_log.specs.Versions.{number_of};
 ghost use Rattle.lfs_log.specs.Publishing.{IsAllOut, IsNext, LeavesEither, Publishes, PublishFails, Syncs};
@@ -11,20 +10,8 @@ use crate::layout_version::LayoutVersion;
 use lfs_device::{DeviceFault, SectorDevice};
 use lfs_layout::Checkpoint;
 use lfs_memory::LogMemory;
-use lfs_memory::inodes::InodeMap;
 use lfs_memory::segments::Usage;
 use lfs_verify::root::replace;
-
-/// The addresses of the blocks of the inode map.
-fn map_blocks(map: &InodeMap) -> [u32; 32]
-    ensures { (j : ℕ) → j < 32 → get_or result j 0 ≡ block_in map.now j }
-{
-    let mut blocks = [0; 32];
-    for index in 0..32usize {
-        blocks[index] = map.block_address(index);
-    }
-    blocks
-}
 
 /// The addresses of the blocks of the usage table.
 fn usage_blocks(usage: &Usage) -> [u32; 16]
@@ -47,7 +34,7 @@ fn next_checkpoint(memory: &LogMemory, version: LayoutVersion, number: u64) -> C
         number + 1,
         memory.usage.segments(),
         version.number(),
-        map_blocks(&memory.map),
+        memory.map.block_addresses(),
         usage_blocks(&memory.usage),
     )
 }

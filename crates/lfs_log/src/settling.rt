@@ -191,8 +191,8 @@ fn fill_block<D: SectorDevice>(
     if !place.stale {
         return Ok(());
     }
-    let bytes = memory.usage.encode(index);
-    write(device, &memory.usage, place.address, &bytes)?;
+    let bytes = memory.usage.spelled(index);
+    write(device, &memory.usage, place.address, bytes, false)?;
     memory.usage.set_block(index, place.address, false);
     Ok(())
 }

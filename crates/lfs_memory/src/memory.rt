@@ -6,9 +6,10 @@ ghost use Rattle.lfs_memory.specs.Memory.{IsMemory, IsPointedAt, Places, room_of
 ghost use Rattle.lfs_segments.specs.Table.{clean_in};
 ghost use Rattle.lfs_segments.specs.Chunk.{due_in};
 
+use crate::present::header_of;
 use lfs_inodes::{BlockKey, DirtyTable, InodeMap};
 use lfs_layout::BlockName;
-use lfs_model::BlockKind;
+use lfs_model::{BlockKind, Kind};
 use lfs_segments::{ChunkWriter, Usage};
 
 /// The inode map, the segment usage table, the blocks of files that changed, and the chunk that is
@@ -36,6 +37,20 @@ impl LogMemory {
             self.chunk.begin(&mut self.usage, age).unwrap();
         }
         self.chunk.place(&mut self.usage, name, lives)
+    }
+
+    /// Whether look-ups go through a block, so that it is likely to be read soon: an inode, a block of
+    /// pointers, and a block of a directory whose inode is in memory.
+    pub fn leads_on(&self, key: BlockKey) -> bool {
+        !key.is_data() || self.is_of_directory(key)
+    }
+
+    /// Whether the inode of a block's file is in memory, and is a directory's.
+    fn is_of_directory(&self, key: BlockKey) -> bool {
+        match self.dirty.block(BlockKey::inode(key.file())) {
+            Some(inode) => header_of(inode).kind == Kind::Directory,
+            None => false,
+        }
     }
 
     /// The block of this key is at the address from now on, if the inode map points to it.

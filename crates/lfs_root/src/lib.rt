@@ -132,7 +132,7 @@ fn write_durably<D: SectorDevice>(
     ensures carries { Carries (D.state device.old) (D.state device.new) }
     ensures told { length (D.state device.new).told ≤ length (D.state device.old).told + 2 }
 {
-    device.write(sector, bytes)?;
+    device.write_around(sector, bytes)?;
     device.sync()?;
     Ok(())
 }

@@ -2,6 +2,7 @@ pub mod Table
 pub mod Early
 pub mod Steps
 pub mod Settled
+pub mod Spelling
 pub mod Chunk
 pub mod Victims
 pub mod Choosing

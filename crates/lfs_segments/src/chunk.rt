@@ -165,7 +165,8 @@ impl ChunkWriter {
             ≤ length (D.state device.old).told + 1) }
     {
         let summary = encode_summary(self.names.as_slice());
-        write(device, usage, 2 + 64 * self.segment + self.start, &summary)?;
+        let address = 2 + 64 * self.segment + self.start;
+        write(device, usage, address, &summary, false)?;
         self.names.clear();
         Ok(())
     }
@@ -191,7 +192,8 @@ fn last_with_room(usage: &Usage) -> Option<u32>
 }
 
 /// Writes a block or a summary to a sector that wasn't in use as the acknowledged checkpoint was
-/// written, and to no other.
+/// written, and to no other. `again` tells whether it is likely to be read soon, and is worth
+/// keeping in front of the device.
 ///
 /// # Errors
 ///
@@ -201,6 +203,7 @@ pub fn write<D: SectorDevice>(
     usage: &Usage,
     address: u32,
     bytes: &[u8; 512],
+    again: bool,
 ) -> Result<(), DeviceFault>
     requires free { IsUnkeptBy usage.now address }
     requires above { 2 ≤ address }
@@ -220,5 +223,9 @@ pub fn write<D: SectorDevice>(
     ensures may_tell { OnErr result (length (D.state device.new).told
         ≤ length (D.state device.old).told + 1) }
 {
-    device.write(address, bytes)
+    if again {
+        device.write(address, bytes)
+    } else {
+        device.write_around(address, bytes)
+    }
 }

@@ -7,6 +7,7 @@ mod candidate;
 mod chunk;
 mod order;
 mod releasing;
+mod spelled;
 mod state;
 mod usage;
 pub mod victims;

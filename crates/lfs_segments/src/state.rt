@@ -8,10 +8,10 @@ pub struct SegmentState {
     pub used: u16,
     /// How many of its blocks the next checkpoint reaches.
     pub live: u16,
-    /// How many of its blocks are those of files without a name.
-    pub held: u16,
     /// The number of the checkpoint for which it was written last, at most 2^32 - 1.
     pub age: u32,
+    /// How many of its blocks are those of files without a name.
+    pub held: u16,
     /// How many of its sectors were in use as the acknowledged checkpoint was written. None of
     /// them is written before the next one.
     pub kept: u16,

@@ -1,16 +1,17 @@
 //! What is known of each segment, after the segment usage table of the Sprite LFS paper (1992,
 //! section 3.6).
 ghost use Rattle.std.specs.Prelude.{◌≡◌, ◌≢◌, ◌<◌, ◌≤◌, ◌+◌, ◌-◌, ◌*◌, ◌/◌, ◌^◌, ◌==◌, ℕ, suc, Bool, true, false, cond, not, length, get_or, replicate, slice_set, IfOk, IfSome, IfNone, IsTrue, IsFalse, None, Some};
-ghost use Rattle.lfs_segments.specs.Steps.{Notes, Lifts, TakesAway, HidesBlocks, TakesSegment, GoesOn, PutsPlace, Releases, SpellsBlock, saved};
-ghost use Rattle.lfs_model.specs.Usage.{IsUse, no_use};
+ghost use Rattle.lfs_segments.specs.Steps.{Notes, Lifts, TakesAway, HidesBlocks, TakesSegment, GoesOn, PutsPlace, Releases, SpellsBlock};
+ghost use Rattle.lfs_model.specs.Usage.{IsUse};
 ghost use Rattle.lfs_segments.specs.Table.{SegmentNumbers, PlaceInSegment, no_segment, no_place, used_of, live_of, held_of, age_of, kept_of, address_of, stale_of, clean_in, FitsSegment, FitsTable};
 ghost use Rattle.lfs_segments.specs.Chunk.{TakesChunk};
 ghost use Rattle.lfs_segments.specs.Early.{AreUntaken, early_of, taken_of, early_in, taken_in};
 ghost use Rattle.lfs_segments.specs.Settled.{ListsUnsettled};
 
 use crate::releasing::{Unsettled, released};
+use crate::spelled::SpelledBlocks;
 use crate::state::{SegmentState, UsageBlock};
-use lfs_layout::{SegmentUsage, encode_usage};
+use lfs_layout::SegmentUsage;
 use std::alloc::{AllocError, Global};
 use std::marker::Model;
 
@@ -27,12 +28,6 @@ const NO_BLOCK: UsageBlock = UsageBlock {
     stale: false,
 };
 
-const UNUSED: SegmentUsage = SegmentUsage {
-    used: 0,
-    live: 0,
-    age: 0,
-};
-
 /// What is known of each segment of a volume, and of the blocks of its usage table.
 /// All of its memory is taken as it is made.
 #[derive(Drop)]
@@ -46,12 +41,15 @@ pub struct Usage {
     last: Option<u32>,
     /// The segments whose numbers change as the next checkpoint is acknowledged.
     unsettled: Unsettled,
+    /// The blocks of the table as they are written.
+    spelled: SpelledBlocks,
 }
 
 impl Model for Usage {
     ghost use Rattle.std.specs.Prelude.{◌≡◌};
     ghost use Rattle.lfs_segments.specs.Table.{UsageTable, FitsTable};
     ghost use Rattle.lfs_segments.specs.Early.{AreTotals};
+    ghost use Rattle.lfs_segments.specs.Spelling.{AreSpelled};
 
     ghost Value = { UsageTable };
 
@@ -59,7 +57,7 @@ impl Model for Usage {
 
     ghost use Rattle.lfs_segments.specs.Settled.{ListsUnsettled};
 
-    ghost invariant = { λ u. FitsTable (record { segments = u.states.items; blocks = u.blocks.items; last = u.last }) × AreTotals u.states.items u.clean u.early u.taken × ListsUnsettled u.unsettled u.states.items };
+    ghost invariant = { λ u. FitsTable (record { segments = u.states.items; blocks = u.blocks.items; last = u.last }) × AreTotals u.states.items u.clean u.early u.taken × ListsUnsettled u.unsettled u.states.items × AreSpelled u.spelled.blocks.items u.states.items };
 }
 
 impl Usage {
@@ -72,6 +70,7 @@ impl Usage {
     {
         let states = Vec::from_elem(alloc, CLEAN, segments as usize)?;
         let blocks = Vec::from_elem(alloc, NO_BLOCK, 16)?;
+        let spelled = SpelledBlocks::new(alloc)?;
         Ok(Usage {
             states,
             blocks,
@@ -80,6 +79,7 @@ impl Usage {
             taken: 0,
             last: None,
             unsettled: Unsettled::new(),
+            spelled,
         })
     }
 
@@ -95,6 +95,7 @@ impl Usage {
         self.taken = other.taken;
         self.last = other.last;
         self.unsettled = other.unsettled;
+        self.spelled.copy_from(&other.spelled);
     }
 
     /// How many segments there are.
@@ -219,6 +220,7 @@ impl Usage {
         self.taken = exchanged(self.taken, taken_sectors(was), taken_sectors(state));
         self.states[segment as usize] = state;
         self.unsettled.note(segment, was, state);
+        self.spelled.put(segment, state);
     }
 
     /// One sector more of a segment is in use, for a block that lives there, or one of a file
@@ -343,44 +345,11 @@ impl Usage {
 
     /// The usage block of this index, as a checkpoint has it: a segment where nothing lives has
     /// used 0 and age 0.
-    pub fn encode(&self, index: u32) -> [u8; 512]
+    pub fn spelled(&self, index: u32) -> &[u8; 512]
         requires { index < 16 }
-        ensures { SpellsBlock self.now index result }
+        ensures { SpellsBlock self.now index result.now }
     {
-        let mut block = [UNUSED; 64];
-        self.fill(index, &mut block);
-        encode_usage(&block)
-    }
-
-    fn fill(&self, index: u32, block: &mut [SegmentUsage; 64])
-        requires { index < 16 }
-        ensures each { (i : ℕ) → i < 64
-            → get_or block.new i no_use ≡ saved
-            (get_or self.now.segments (64 * index + i) no_segment) }
-        ensures fits { (i : ℕ) → i < 64 → IsUse (get_or block.new i no_use) }
-        ensures length { length block.new ≡ 64 }
-    {
-        for i in 0..64u32 {
-            block[i as usize] = self.saved(64 * index + i);
-        }
-    }
-
-    fn saved(&self, segment: u32) -> SegmentUsage
-        ensures value { result ≡ saved (get_or self.now.segments segment no_segment) }
-        ensures fits { IsUse result }
-    {
-        if segment >= self.segments() {
-            return UNUSED;
-        }
-        let state = self.state(segment);
-        if state.live == 0 {
-            return UNUSED;
-        }
-        SegmentUsage {
-            used: state.used,
-            live: state.live,
-            age: state.age,
-        }
+        self.spelled.get(index)
     }
 
     fn make_stale(&mut self, index: u32)

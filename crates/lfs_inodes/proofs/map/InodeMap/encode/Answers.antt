@@ -1,15 +1,18 @@
-use Rattle.std.proofs.Common.{rules}
-use Rattle.lfs_model.specs.Fields.{Are32}
-use Rattle.lfs_model.specs.Pointers.{FitsPointers}
-use Rattle.lfs_inodes.proofs.Maps.{spells_shown, spells_map}
+use Rattle.lfs_inodes.proofs.Maps.{spelled_shown, spelled_map}
 use Rattle.lfs_inodes.proofs.map.InodeMap.encode.Goals as goal
 
+pub returns-in-Some-clause-some : goal.returns-in-Some-clause-some
+returns-in-Some-clause-some c =
+    spelled_shown c.args.self.now c.args.index c.in-Some.addresses.now c.spelled.ensures.fits c.in-Some.ensures.each c.spelled.result c.spelled.ensures.some c.spelled.ensures.shows
+
+pub returns-in-Some-clause-written : goal.returns-in-Some-clause-written
+returns-in-Some-clause-written c m t is settled =
+    spelled_map c.args.self.now m t is c.args.index c.spelled.result c.requires (returns-in-Some-clause-some c) settled
+
 pub returns-clause-some : goal.returns-clause-some
-unfolding Are32
 returns-clause-some c =
-    let fits : FitsPointers c.shown_block-shown.result = record { count = search rules; fits = search rules } in
-    rw c.encode_pointers.ensures (spells_shown c.args.self.now c.args.index c.shown_block-shown.result fits c.shown_block-shown.ensures (search rules))
+    spelled_shown c.args.self.now c.args.index c.shown_block.result c.spelled-2.ensures.fits c.shown_block.ensures c.spelled-2.result c.spelled-2.ensures.some c.spelled-2.ensures.shows
 
 pub returns-clause-written : goal.returns-clause-written
 returns-clause-written c m t is settled =
-    spells_map c.args.self.now m t is c.args.index c.encode_pointers.result c.requires (returns-clause-some c) settled
+    spelled_map c.args.self.now m t is c.args.index c.spelled-2.result c.requires (returns-clause-some c) settled

@@ -1,5 +1,6 @@
-use Rattle.std.proofs.Common.{None, rules, ◌≡◌, length, replicate}
-use Rattle.lfs_segments.specs.Table.{no_segment}
+use Rattle.std.proofs.Common.{None, rules, ◌≡◌, List, length, replicate, sym, subst}
+use Rattle.lfs_segments.specs.Table.{SegmentNumbers, no_segment}
+use Rattle.lfs_segments.specs.Spelling.{AreSpelled}
 use Rattle.lfs_segments.proofs.Numbers.{new_fits}
 use Rattle.lfs_segments.proofs.Early.{totals_new}
 use Rattle.lfs_segments.proofs.Listed.{lists_new}
@@ -9,4 +10,9 @@ pub invariant_of-result : goal.invariant_of-result
 invariant_of-result c =
     let is : c.in_ok-states.states.items ≡ replicate c.args.segments no_segment = search rules in
     let whole : length c.in_ok-blocks.blocks.items ≡ 16 = search rules in
-    (new_fits None c.in_ok-states.states.items c.in_ok-blocks.blocks.items c.args.segments c.requires is whole, totals_new c.in_ok-states.states.items c.args.segments is, lists_new c.new.result c.in_ok-states.states.items c.args.segments c.new.ensures.count c.new.ensures.size is)
+    let spelled = c.in_ok-spelled.ensures c.args.segments in (
+      new_fits None c.in_ok-states.states.items c.in_ok-blocks.blocks.items c.args.segments c.requires is whole,
+      totals_new c.in_ok-states.states.items c.args.segments is,
+      lists_new c.new-2.result c.in_ok-states.states.items c.args.segments c.new-2.ensures.count c.new-2.ensures.size is,
+      subst (λ (segments : List SegmentNumbers). AreSpelled c.in_ok-spelled.spelled.blocks.items segments) (sym is) spelled,
+    )

@@ -62,4 +62,5 @@ invariant_of-self c =
       set_fits c.self.inside.last c.self.inside.states.items c.self.inside.blocks.items c.args.segment c.args.state c.self.invariant.0 inside c.requires.fits,
       totals_change c.self.inside.states.items c.args.segment c.args.state c.self.inside.clean c.self.inside.early c.self.inside.taken c.exchanged-self-inside.result c.exchanged-self-inside-2.result c.exchanged-self-inside-3.result inside c.self.invariant.1 cleans earlies takens,
       c.note.ensures c.self.inside.states.items inside (search rules) c.self.invariant.2,
+      c.put.ensures c.self.inside.states.items inside c.self.invariant.3,
     )
