@@ -33,7 +33,14 @@
  * Memory. The library keeps the sectors, of 514 bytes each, the orders that wait, of 520 each, and 0.4 to 4.4 MB besides. Where memory
  * for an order is refused the volume is halted, as by a device that failed: unmount it, and begin anew. pansuyog_mount takes memory for
  * `room` orders before; 1,100 are enough, where orders are carried out after each call, unless the cleaner has to make much room at once
- * on a large volume that is nearly full. Then more memory is asked for. */
+ * on a large volume that is nearly full. Then more memory is asked for.
+ *
+ * So many orders come of one call of a mounted volume at most, also where it is refused, where the volume has N segments:
+ *  - none of a call that only reads, nor of pansuyog_open and pansuyog_close;
+ *  - 516 of pansuyog_sync and pansuyog_fsync, and of each other call but those that clean while N / 8 + 16 segments are clean, which is so
+ *    on 128 segments or more where no cleaning is due;
+ *  - 8 * N + 520 of pansuyog_clean_once;
+ *  - N / 8 * (8 * N + 4) + 516 of any other. */
 #ifndef PANSUYOG_H
 #define PANSUYOG_H
 
@@ -180,8 +187,13 @@ int32_t pansuyog_entry(pansuyog *volume, size_t place, pansuyog_entry_t *entry, 
 /* After 0, and once the orders that wait are carried out, every call before this one survives a loss of power. */
 int32_t pansuyog_fsync(pansuyog *volume, uint32_t handle);
 int32_t pansuyog_sync(pansuyog *volume);
-/* Cleans segments until a quarter of them is clean. */
+/* Cleans segments until a quarter of them is clean. What isn't saved is saved before. */
 int32_t pansuyog_clean(pansuyog *volume);
+/* 1 where fewer than a quarter of the segments is clean, so that the two calls that clean have something to do; else 0. */
+int32_t pansuyog_is_cleaning_due(pansuyog *volume);
+/* One pass of the cleaner where that is so, and nothing else. What isn't saved is saved before. A program that calls it in its idle
+ * moments waits seldom for the cleaner in another call. */
+int32_t pansuyog_clean_once(pansuyog *volume);
 int32_t pansuyog_space(pansuyog *volume, pansuyog_space_t *space);
 /* 1 or 2. */
 int32_t pansuyog_version(pansuyog *volume);

@@ -18,6 +18,7 @@ static void unmounted(pansuyog *v) {
     check(pansuyog_symlink(v, PATH("/a"), PATH("/b")) == none && pansuyog_readlink(v, PATH("/a"), bytes, 8) == none);
     check(pansuyog_stat(v, PATH("/a"), &stat) == none && pansuyog_lstat(v, PATH("/a"), &stat) == none);
     check(pansuyog_list(v, PATH("/")) == none && pansuyog_fsync(v, 0) == none && pansuyog_sync(v) == none && pansuyog_clean(v) == none);
+    check(pansuyog_is_cleaning_due(v) == none && pansuyog_clean_once(v) == none);
     check(pansuyog_space(v, &space) == none && pansuyog_version(v) == none && pansuyog_upgrade(v) == none);
     check(pansuyog_widen(v, PATH("/")) == none);
     check(pansuyog_unmount(v) == none);
@@ -191,6 +192,39 @@ static void orders(pansuyog *v, int fd) {
     pansuyog_free(other);
 }
 
+/* Blocks of a large file are overwritten at random until a cleaning is due. Then passes are made, each of which gives so many orders at
+ * most, until none is due; the file is as it was written. */
+static void cleaning(pansuyog *v, int fd) {
+    enum { BLOCKS = 4000, PART = 125, MOST_PASSES = 128 / 8, MOST_ORDERS = 8 * 128 + 520 };
+    static unsigned char part[PART * SECTOR], last[BLOCKS];
+    int32_t file = pansuyog_create(v, PATH("/large"));
+    uint32_t passes = 0, writes = 0;
+    memset(part, 1, sizeof part);
+    memset(last, 1, sizeof last);
+    check(file >= 0 && pansuyog_is_cleaning_due(v) == 0);
+    for (uint64_t at = 0; at < BLOCKS * SECTOR; at += sizeof part) check(pansuyog_pwrite(v, (uint32_t)file, at, part, sizeof part) == sizeof part);
+    check(pansuyog_save_fd(v, fd) == 0);
+    uint64_t told = pansuyog_told(v);
+    check(pansuyog_is_cleaning_due(v) == 0 && pansuyog_clean_once(v) == 0 && pansuyog_told(v) == told);
+    for (; pansuyog_is_cleaning_due(v) == 0; writes++) {
+        uint32_t block = chance(BLOCKS);
+        last[block] = (unsigned char)(1 + writes % 255);
+        memset(part, last[block], SECTOR);
+        check(writes < 10000 && pansuyog_pwrite(v, (uint32_t)file, (uint64_t)block * SECTOR, part, SECTOR) == SECTOR);
+        check(pansuyog_save_fd(v, fd) == 0);
+    }
+    for (; pansuyog_is_cleaning_due(v) == 1; passes++) {
+        told = pansuyog_told(v);
+        check(passes < MOST_PASSES && pansuyog_clean_once(v) == 0);
+        check(pansuyog_told(v) > told && pansuyog_told(v) - told <= MOST_ORDERS && pansuyog_carry(v, fd) == 0);
+    }
+    check(passes > 0 && pansuyog_is_cleaning_due(v) == 0);
+    for (uint64_t block = 0; block < BLOCKS; block++) {
+        check(pansuyog_pread(v, (uint32_t)file, block * SECTOR, part, SECTOR) == SECTOR);
+        check(part[0] == last[block] && part[SECTOR - 1] == last[block]);
+    }
+}
+
 /* What isn't saved goes with an unmount, and numbers of orders go on. */
 static void unmounting(pansuyog *v, int fd) {
     uint64_t told = pansuyog_told(v);
@@ -215,6 +249,7 @@ int main(int argc, char **argv) {
     names(&volume);
     looks(&volume);
     orders(&volume, fd);
+    cleaning(&volume, fd);
     unmounting(&volume, fd);
     pansuyog_free(volume);
     check(pansuyog_damage(-101) == 1 && pansuyog_damage(-115) == 15 && pansuyog_damage(PANSUYOG_NOT_MOUNTED) == 0);

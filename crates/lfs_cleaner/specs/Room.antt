@@ -36,6 +36,10 @@ passes_orders segments = segments / 8 * pass_orders segments
 abbrev pub room_orders : ℕ → ℕ
 room_orders segments = commit_orders + passes_orders segments
 
+-- and one pass with a commit before it
+abbrev pub once_orders : ℕ → ℕ
+once_orders segments = commit_orders + pass_orders segments
+
 -- how many checkpoints are written at most: one where anything waits for one, and one for each pass
 abbrev pub most_checkpoints : {D : Type 0} → Held D → ℕ
 most_checkpoints h = length h.memory.usage.segments / 8 + min 1 (waiting_in h)
@@ -104,6 +108,24 @@ module _ {D : Type 0} (state : D → DeviceState) where
   -- A quarter of the segments is clean.
   abbrev pub CleansQuarter : Held D → Held D → Type 0
   CleansQuarter h h' = Repeats h h' (most_checkpoints h) × HasQuarter h'
+
+  -- a commit, or nothing where all is saved
+  abbrev pub CommitsUnsaved : Held D → Held D → Type 0
+  CommitsUnsaved h h' = Saves state h h' ⊎ (AreAllSaved h × (h' ≡ h))
+
+  -- one pass where fewer than a quarter of the segments is clean, and nothing where a quarter is
+  abbrev pub PassesWhereDue : Held D → Held D → Type 0
+  PassesWhereDue h h' = PassesInNeed h h' ⊎ (HasQuarter h × (h' ≡ h))
+
+  -- What is unsaved is committed, and a pass follows where one is due still.
+  pub record CleansBehind (h h' : Held D) : Type 0 where
+    pub between : Held D
+    pub commits : CommitsUnsaved h between
+    pub passes : PassesWhereDue between h'
+
+  -- so where fewer than a quarter of the segments is clean, and nothing where a quarter is
+  abbrev pub CleansOnce : Held D → Held D → Type 0
+  CleansOnce h h' = CleansBehind h h' ⊎ (HasQuarter h × (h' ≡ h))
 
   -- A failure of the device ended a commit or a pass, after at most so many checkpoints.
   pub record HaltsLater (h h' : Held D) (most : ℕ) : Type 0 where

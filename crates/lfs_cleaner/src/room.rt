@@ -3,7 +3,7 @@
 ghost use Rattle.std.specs.Prelude.{◌≡◌, ◌≢◌, ◌<◌, ◌≤◌, ◌+◌, ◌*◌, ◌/◌, true, false, [], length, OnOk, IsErrOf, IsTrue, IsFalse};
 ghost use Rattle.lfs_log.specs.memory.segments.Table.{clean_in};
 ghost use Rattle.lfs_log.specs.Held.{Halts, IsFull, AreAllSaved, waiting_in};
-ghost use Rattle.lfs_cleaner.specs.Room.{CleansQuarter, HaltsLater, HasQuarter, IsReadied, IsRoomFault, KeepsMap, MayNotMakeRoom, Repeats, most_checkpoints, passes_orders, room_orders};
+ghost use Rattle.lfs_cleaner.specs.Room.{CleansQuarter, CommitsUnsaved, HaltsLater, HasQuarter, IsReadied, IsRoomFault, KeepsMap, MayNotMakeRoom, Repeats, most_checkpoints, passes_orders, room_orders};
 ghost use Rattle.lfs_log.specs.Saving.{commit_orders};
 
 use crate::passing::pass;
@@ -68,9 +68,10 @@ fn pass_until_quarter<D: SectorDevice>(log: &mut Log<D>) -> Result<(), LogFault>
 /// # Errors
 ///
 /// As those of `Log::commit`.
-fn commit_unsaved<D: SectorDevice>(log: &mut Log<D>) -> Result<(), LogFault>
+pub(crate) fn commit_unsaved<D: SectorDevice>(log: &mut Log<D>) -> Result<(), LogFault>
     requires { log.old.halted ≡ false }
     ensures done { OnOk result (IsReadied D.SectorDevice.state log.old log.new) }
+    ensures once { OnOk result (CommitsUnsaved D.SectorDevice.state log.old log.new) }
     ensures totals { log.new.totals ≡ log.old.totals }
     ensures full { IsErrOf result LogFault.Full → (log.new ≡ log.old) × IsFull log.old }
     ensures waiting { IsErrOf result LogFault.Full → 0 < waiting_in log.old }
@@ -78,8 +79,7 @@ fn commit_unsaved<D: SectorDevice>(log: &mut Log<D>) -> Result<(), LogFault>
     ensures other { IsErrOf result LogFault.Device → ⊥ }
     ensures told { length (D.state log.new.device).told
         ≤ length (D.state log.old.device).told + commit_orders }
-    ensures quiet { AreAllSaved log.old
-        → (D.state log.new.device).told ≡ (D.state log.old.device).told }
+    ensures quiet { AreAllSaved log.old → log.new ≡ log.old }
 {
     if log.is_saved() {
         return Ok(());

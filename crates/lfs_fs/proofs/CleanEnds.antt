@@ -1,19 +1,20 @@
 -- The ends of a clean, as steps of the model.
-use Rattle.std.proofs.Common.{◌≡◌, ◌<◌, ◌≤◌, ◌+◌, ◌/◌, ◌^◌, false, length, refl, sym, ◌∙◌, ap, subst, inl, inr, arith}
+use Rattle.std.proofs.Common.{◌≡◌, ◌<◌, ◌≤◌, ◌+◌, ◌/◌, ◌^◌, false, ℕ, length, refl, sym, ◌∙◌, ap, subst, inl, inr, arith}
 use Rattle.lfs_model.specs.Call.{Answer, Clean, Done, Refuse}
-use Rattle.lfs_model.specs.Checkpoint.{CheckpointValue}
+use Rattle.lfs_model.specs.Checkpoint.{CheckpointValue, IsSegmentCount}
 use Rattle.lfs_model.specs.Device.{DeviceState, IsLawful}
 use Rattle.lfs_model.specs.Refusal.{Device, Halted, Stuck, Worn}
 use Rattle.lfs_model.specs.Run.{Point, StepsOr}
 use Rattle.lfs_model.specs.Stands.{LogMap}
 use Rattle.lfs_files.specs.declared.fault.LogFault.{LogFault}
 use Rattle.lfs_files.specs.declared.fault.LogFault.TheVariants as log
-use Rattle.lfs_store.specs.cleaner.Room.{HaltsLater, IsRoomFault, room_orders}
+use Rattle.lfs_store.specs.cleaner.Room.{HaltsLater, IsRoomFault, once_orders, room_orders}
 use Rattle.lfs_store.specs.log.Held.{Held}
 use Rattle.lfs_store.specs.declared.store.Store.{Store}
 use Rattle.lfs_store.specs.log.verify.declared.totals.BlockTotals.{BlockTotals}
 use Rattle.lfs_store.specs.Accepting.{CannotMakeRoom, HasClean, MakesRoom, most_written}
 use Rattle.lfs_store.proofs.Acceptings.{room_stores, written_most}
+use Rattle.lfs_store.proofs.of_cleaner.Onces.{once_within}
 use Rattle.lfs_fs.specs.declared.error.FsError.{FsError}
 use Rattle.lfs_fs.specs.declared.error.FsError.TheVariants as error
 use Rattle.lfs_fs.specs.declared.fs.Fs.{Fs}
@@ -32,6 +33,16 @@ use Rattle.lfs_fs.proofs.Serving.{map_dropped, point_of, served_still}
 use Rattle.lfs_fs.proofs.WritingEnds.{halts_serves, still_none}
 
 module _ {D : Type 0} (state : D → DeviceState) (lawful : (d : D) → IsLawful (state d)) where
+  -- one pass gives the device no more than where room is made
+  pub once_tells : (old new : Held D) → IsSegmentCount (length old.memory.usage.segments) → TellsAtMost state old new (once_orders (length old.memory.usage.segments))
+      → TellsAtMost state old new (room_orders (length old.memory.usage.segments))
+  once_tells old new count tells =
+      let within = once_within (length old.memory.usage.segments) count in
+      more (once_orders (length old.memory.usage.segments)) (room_orders (length old.memory.usage.segments)) within tells
+    where
+      more : (few many : ℕ) → few ≤ many → TellsAtMost state old new few → TellsAtMost state old new many
+      more few many le tells = omega (arith, le, tells)
+
   -- past the last number nothing is cleaned
   pub worn_serves : (v : Mounted D) → v.log.halted ≡ false → (fault : FsError) → fault ≡ error.Worn → 2 ^ 62 ≤ v.log.number → Serves state v v Clean (Refuse (refusal_of fault))
   worn_serves v was fault is high = subst (λ (e : FsError). Serves state v v Clean (Refuse (refusal_of e))) (sym is)

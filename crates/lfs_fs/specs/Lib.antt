@@ -16,3 +16,4 @@ pub mod Removing
 pub mod HardLinks
 pub mod Upgrading
 pub use Rattle.lfs_store.specs.log
+pub use Rattle.lfs_store.specs.cleaner

@@ -168,6 +168,22 @@ fn segments_never_run_out(rt: HostRuntime) -> Result<(), Fail> {
 }
 
 #[test]
+fn a_pass_is_made_where_one_is_due(rt: HostRuntime) -> Result<(), Fail> {
+    // Each file's inode goes to a segment of its own, and what else is there was written with the
+    // last one. So with 49 of them 15 of 64 are clean, and a pass gains four.
+    let device = files_made(rt.alloc(), 64, 49, 1)?;
+    let steps = [
+        Step::IsCleaningDue(true),
+        Step::CleanOnce(Ok(())),
+        Step::IsCleaningDue(false),
+        Step::CleanOnce(Ok(())),
+        Step::Count(49),
+    ];
+    assert_eq!(rt; first_wrong(rt.alloc(), device, &steps)?, None);
+    Ok(())
+}
+
+#[test]
 fn a_directory_of_1024_entries_is_full(rt: HostRuntime) -> Result<(), Fail> {
     let device = files_made(rt.alloc(), 176, 1_023, 60)?;
     // 128 blocks of the root, 1,025 inodes and a block of pointers.

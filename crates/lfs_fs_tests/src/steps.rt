@@ -43,6 +43,8 @@ pub enum Step<'a> {
     Stat(&'a [u8], Result<Stat, FsError>),
     Sync(Result<(), FsError>),
     Clean(Result<(), FsError>),
+    CleanOnce(Result<(), FsError>),
+    IsCleaningDue(bool),
     Space(Space),
     /// The files of the root.
     Tree(&'a [Row<'a>]),
@@ -129,6 +131,8 @@ fn is_well(fs: &mut Fs<MemDevice>, step: Step) -> bool {
         Step::Stat(path, want) => fs.stat(path) == want,
         Step::Sync(want) => fs.sync() == want,
         Step::Clean(want) => fs.clean() == want,
+        Step::CleanOnce(want) => fs.clean_once() == want,
+        Step::IsCleaningDue(want) => fs.is_cleaning_due() == want,
         Step::Space(want) => fs.space() == Ok(want),
         Step::Tree(rows) => has_rows(fs, rows),
         Step::Count(count) => has_entries(fs, count),

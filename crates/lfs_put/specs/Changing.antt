@@ -1,6 +1,6 @@
 -- Calls that are made in order up to the first that is refused, and what the commands that change a volume ask of it. The commands are own choices.
-use Rattle.std.specs.Prelude.{◌≡◌, ℕ, List, [], ◌∷◌, ◌++◌, Result, Ok, Err, map}
-use Rattle.lfs_model.specs.Call.{Answer, Call, Done, LstatOf, Refuse, Rmdir, Status, Sync, Unlink}
+use Rattle.std.specs.Prelude.{◌≡◌, ◌⊎◌, ◌<◌, ◌≤◌, ℕ, zero, suc, List, [], ◌∷◌, ◌++◌, Result, Ok, Err, map}
+use Rattle.lfs_model.specs.Call.{Answer, Call, Clean, Done, LstatOf, Refuse, Rmdir, Status, Sync, Unlink}
 use Rattle.lfs_model.specs.Device.{DeviceState}
 use Rattle.lfs_model.specs.Refusal.{Refusal}
 use Rattle.lfs_model.specs.declared.Kind.{Kind}
@@ -9,6 +9,7 @@ use Rattle.lfs_fs.specs.Refusals.{refusal_of}
 use Rattle.lfs_fs.specs.Seen.{answer_by}
 use Rattle.lfs_fs.specs.Volume.{Mounted, Serves}
 use Rattle.lfs_fs.specs.declared.error.FsError.{FsError}
+use Rattle.lfs_fs.specs.cleaner.Room.{CleansOnce, HasQuarter}
 use Rattle.lfs_put.specs.Calls.{Made, ServesAll, made}
 
 -- these calls, each of them done
@@ -45,6 +46,31 @@ module _ {D : Type 0} (state : D → DeviceState) where
   abbrev pub SavesBehind : {X : Type 0} → Mounted D → Mounted D → Result X FsError → Result X FsError → Type 0
   SavesBehind old new (Ok done) result = Serves state old new Sync (answer_by (λ done. Done) result)
   SavesBehind old new (Err fault) result = (new ≡ old) × (result ≡ Err fault)
+
+  -- so many calls that clean were done, one after the other, each of them by one pass
+  abbrev pub PassesOn : ℕ → Mounted D → Mounted D → Type 0
+  PassesOn zero old new = new ≡ old
+  PassesOn (suc count) old new = (mid : Mounted D) × PassesOn count old mid × Serves state mid new Clean Done × CleansOnce state mid.log new.log
+
+  -- by a result: these calls were done, as many as are wanted or until a quarter of the segments was clean; or one behind fewer was refused
+  abbrev pub EndsPasses : {X : Type 0} → ℕ → ℕ → Mounted D → Mounted D → Result X FsError → Type 0
+  EndsPasses count most mid new (Ok done) = (new ≡ mid) × ((count ≡ most) ⊎ HasQuarter mid.log)
+  EndsPasses count most mid new (Err fault) = (count < most) × Serves state mid new Clean (Refuse (refusal_of fault))
+
+  -- Passes of the cleaner, so many at most.
+  pub record MakesPasses {X : Type 0} (old new : Mounted D) (most : ℕ) (result : Result X FsError) : Type 0 where
+    pub count : ℕ
+    pub mid : Mounted D
+    pub few : count ≤ most
+    pub passes : PassesOn count old mid
+    pub ends : EndsPasses count most mid new result
+
+  -- Passes, so many at most, and a sync behind them, where they were done.
+  pub record CleansSome {X : Type 0} (old new : Mounted D) (most : ℕ) (result : Result X FsError) : Type 0 where
+    pub mid : Mounted D
+    pub cleaned : Result X FsError
+    pub passes : MakesPasses old mid most cleaned
+    pub saves : SavesBehind mid new cleaned result
 
   -- by what is told of a path: what stands there is taken away and that is saved; or nothing is told, and nothing more done
   abbrev pub GoesOnBy : {X : Type 0} → Mounted D → Mounted D → List ℕ → Answer → Result X FsError → Type 0

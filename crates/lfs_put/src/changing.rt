@@ -3,7 +3,7 @@ ghost use Rattle.std.specs.Prelude.{[], ◌∷◌};
 ghost use Rattle.lfs_model.specs.Call.{Clean, Done, Mkdir, Rename, Sync, Upgrade};
 ghost use Rattle.lfs_fs.specs.Seen.{answer_by, seen};
 ghost use Rattle.lfs_fs.specs.Volume.{Serves};
-ghost use Rattle.lfs_put.specs.Changing.{MakesInOrder, Removes, SavesBehind, removal};
+ghost use Rattle.lfs_put.specs.Changing.{CleansSome, MakesInOrder, MakesPasses, Removes, SavesBehind, removal};
 
 use lfs_device::SectorDevice;
 use lfs_fs::{Fs, FsError};
@@ -91,6 +91,35 @@ pub fn clean<D: SectorDevice>(fs: &mut Fs<D>) -> Result<(), FsError>
         (Clean ∷ Sync ∷ []) result }
 {
     let cleaned = fs.clean();
+    save(fs, cleaned)
+}
+
+// Makes passes of the cleaner, so many at most, while fewer than a quarter of the segments is clean.
+fn make_passes<D: SectorDevice>(fs: &mut Fs<D>, most: u32) -> Result<(), FsError>
+    ensures { MakesPasses D.SectorDevice.state (seen fs.old) (seen fs.new) most result }
+{
+    for _ in 0..most {
+        if !fs.is_cleaning_due() {
+            return Ok(());
+        }
+        match fs.clean_once() {
+            Ok(()) => {}
+            Err(fault) => return Err(fault),
+        }
+    }
+    Ok(())
+}
+
+/// Makes so many passes of the cleaner at most, while fewer than a quarter of the segments is clean,
+/// and syncs.
+///
+/// # Errors
+///
+/// Those of `clean_once` and of `sync`.
+pub fn clean_some<D: SectorDevice>(fs: &mut Fs<D>, most: u32) -> Result<(), FsError>
+    ensures { CleansSome D.SectorDevice.state (seen fs.old) (seen fs.new) most result }
+{
+    let cleaned = make_passes(fs, most);
     save(fs, cleaned)
 }
 

@@ -7,7 +7,7 @@ mod largest;
 mod putting;
 mod telling;
 
-pub use changing::{clean, make_directory, remove, rename, upgrade};
+pub use changing::{clean, clean_some, make_directory, remove, rename, upgrade};
 pub use getting::{GetFault, get};
 pub use putting::{PutFault, UNFINISHED, check_place, put};
 pub use telling::largest_new_file;

@@ -4,6 +4,7 @@ pub mod Readings
 pub mod Mounted
 pub mod Acceptings
 pub mod EarlyRoom
+pub mod Onces
 pub mod PiecesLaid
 pub mod PiecesRead
 pub mod PiecesStored

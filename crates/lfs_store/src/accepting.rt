@@ -13,7 +13,7 @@ use crate::store::Store;
 use lfs_cache::CachedDevice;
 use lfs_cleaner::volume_log::verify::Tables;
 use lfs_cleaner::volume_log::{Log, LogFault, MountFault};
-use lfs_cleaner::{has_quarter, make_room};
+use lfs_cleaner::{clean_once, has_quarter, make_room};
 use lfs_device::SectorDevice;
 use lfs_files::StoreFault;
 use std::alloc::Global;
@@ -27,7 +27,7 @@ const MOST_BLOCKS: usize = 256;
 impl<D: SectorDevice> Store<D> {
     ghost use Rattle.lfs_cleaner.specs.log.Held.{AreAllSaved, Halts, IsFull, Saves, WritesEarly};
     ghost use Rattle.lfs_cleaner.specs.log.Saving.{commit_orders, orders_for};
-    ghost use Rattle.lfs_cleaner.specs.Room.{HaltsLater, HasQuarter, IsAtRest, IsRoomFault, passes_orders, room_orders};
+    ghost use Rattle.lfs_cleaner.specs.Room.{CleansOnce, HaltsLater, HasQuarter, IsAtRest, IsRoomFault, once_orders, passes_orders, room_orders};
     ghost use Rattle.lfs_store.specs.Recounting.{MountsTotals};
     ghost use Rattle.lfs_store.specs.Accepting.{MountsStore, Commits, MakesRoom, Readies, CannotMakeRoom, Accepts, Declines, IsAcceptFault, HasClean, HasCleanForTwo, HasRoomFor, most_written};
 
@@ -181,6 +181,15 @@ impl<D: SectorDevice> Store<D> {
         self.drafted = self.log.totals();
     }
 
+    /// Whether fewer than a quarter of the segments is clean, so that `clean` and `clean_once` have
+    /// something to do.
+    pub fn is_cleaning_due(&self) -> bool
+        ensures due { IsTrue result → HasQuarter self.now.log → ⊥ }
+        ensures quarter { IsFalse result → HasQuarter self.now.log }
+    {
+        !has_quarter(&self.log)
+    }
+
     /// Makes a quarter of the segments clean, where fewer are: a commit saves what isn't saved, and
     /// passes of the cleaner follow, an eighth of the segments times at most. The draft stays as it
     /// is. It takes no memory.
@@ -233,6 +242,54 @@ impl<D: SectorDevice> Store<D> {
             Err(fault) => return Err(fault),
         }
         match make_room(&mut self.log) {
+            Ok(()) => Ok(()),
+            Err(fault) => Err(fault),
+        }
+    }
+
+    /// One pass of the cleaner where fewer than a quarter of the segments is clean, and none else: a
+    /// commit saves what isn't saved before it. The draft stays as it is. It takes no memory.
+    ///
+    /// # Errors
+    ///
+    /// As those of `clean`.
+    pub fn clean_once(&mut self) -> Result<(), LogFault>
+        ensures done { OnOk result (MakesRoom D.SectorDevice.state self.old.log self.old.saved
+            self.new.log self.new.saved) }
+        ensures once { OnOk result (CleansOnce D.SectorDevice.state self.old.log self.new.log) }
+        ensures draft { self.new.draft ≡ self.old.draft }
+        ensures totals { self.new.log.totals ≡ self.old.log.totals }
+        ensures drafted { self.new.drafted ≡ self.old.drafted }
+        ensures full { IsErrOf result LogFault.Full →
+            MakesRoom D.SectorDevice.state self.old.log self.old.saved self.new.log self.new.saved }
+        ensures never { IsErrOf result LogFault.Full
+            → CannotMakeRoom D.SectorDevice.state self.old.log self.old.saved self.new.log }
+        ensures kept { IsErrOf result LogFault.Device →
+            MakesRoom D.SectorDevice.state self.old.log self.old.saved self.new.log self.new.saved }
+        ensures failed { IsErrOf result LogFault.Device
+            → IsRoomFault D.SectorDevice.state self.old.log self.new.log }
+        ensures halted { IsErrOf result LogFault.Halted → self.old.log.halted ≢ true
+            → HaltsLater D.SectorDevice.state self.old.log self.new.log
+            (most_written self.old.log self.old.saved) }
+        ensures still { self.old.log.halted ≡ true → (self.new.log ≡ self.old.log)
+            × (self.new.saved ≡ self.old.saved) × IsErrOf result LogFault.Halted }
+        ensures told { length (D.state self.new.log.device).told
+            ≤ length (D.state self.old.log.device).told
+            + once_orders (length self.old.log.memory.usage.segments) }
+        ensures quiet { HasQuarter self.old.log → (self.new.log ≡ self.old.log)
+            × (self.new.saved ≡ self.old.saved) }
+    {
+        if self.log.is_halted() {
+            return Err(LogFault::Halted);
+        }
+        if !self.is_cleaning_due() {
+            return Ok(());
+        }
+        match self.commit() {
+            Ok(()) => {}
+            Err(fault) => return Err(fault),
+        }
+        match clean_once(&mut self.log) {
             Ok(()) => Ok(()),
             Err(fault) => Err(fault),
         }

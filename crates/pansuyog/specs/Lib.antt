@@ -1,4 +1,5 @@
 pub mod Bytes
+pub mod Cleaning
 pub mod Codes
 pub mod Lending
 pub mod Making

@@ -1,5 +1,7 @@
 //! Calls on the whole volume (POSIX.1-2017: fsync, sync), and those that the volume has besides.
+ghost use Rattle.std.specs.Prelude.{◌≡◌};
 ghost use Rattle.lfs_model.specs.Call.{Fsync, Sync, Clean, Version, Upgrade};
+ghost use Rattle.pansuyog.specs.Cleaning.{CleansOnceIn, TellsDue};
 ghost use Rattle.pansuyog.specs.Serving.{KeepsRest, ServesCall};
 
 use crate::codes::{NOT_MOUNTED, counted, done};
@@ -38,6 +40,33 @@ pub extern "C" fn pansuyog_clean(volume: &mut Handle) -> i32
 {
     match &mut volume.volume().fs {
         Some(fs) => done(fs.clean()),
+        None => NOT_MOUNTED,
+    }
+}
+
+/// 1 where fewer than a quarter of the segments is clean, so that a cleaning has something to do;
+/// else 0.
+#[unsafe(no_mangle)]
+pub extern "C" fn pansuyog_is_cleaning_due(volume: &mut Handle) -> i32
+    ensures tells { TellsDue volume.old.value.fs result }
+    ensures same { volume.new.value ≡ volume.old.value }
+{
+    match &volume.volume().fs {
+        Some(fs) => i32::from(fs.is_cleaning_due()),
+        None => NOT_MOUNTED,
+    }
+}
+
+/// One pass of the cleaner where that is so, and none else. What isn't saved is saved before it. The
+/// device is told at most 520 orders, and 8 more for each segment.
+#[unsafe(no_mangle)]
+pub extern "C" fn pansuyog_clean_once(volume: &mut Handle) -> i32
+    ensures serves { ServesCall volume.old.value volume.new.value Clean result }
+    ensures once { CleansOnceIn volume.old.value.fs volume.new.value.fs result }
+    ensures rest { KeepsRest volume.old.value volume.new.value }
+{
+    match &mut volume.volume().fs {
+        Some(fs) => done(fs.clean_once()),
         None => NOT_MOUNTED,
     }
 }

@@ -1,4 +1,4 @@
-use Rattle.std.proofs.Common.{rules, ◌≡◌, length, false, sym, ◌∙◌, subst, arith}
+use Rattle.std.proofs.Common.{rules, ◌≡◌, length, false, sym, ◌∙◌, ap, subst, arith}
 use Rattle.lfs_log.specs.Held.{Held}
 use Rattle.lfs_cleaner.specs.Room.{KeepsMap, most_checkpoints}
 use Rattle.lfs_cleaner.proofs.Rooms.{keeps_none, keeps_weaker, repeats_none, repeats_weaker}
@@ -68,4 +68,4 @@ returns-clause-told g c =
 pub returns-clause-saved : goal.returns-clause-saved
 returns-clause-saved g c nothing =
     passes_told (g.D.SectorDevice.state c.args.log.now.device).told (g.D.SectorDevice.state c.commit_unsaved.new.log.device).told (length (g.D.SectorDevice.state c.pass_until_quarter.new.log.device).told)
-    (length c.args.log.now.memory.usage.segments) (length c.commit_unsaved.new.log.memory.usage.segments) c.in-Ok.ensures.done.repeats.keeps.segments (c.commit_unsaved.ensures.quiet nothing) c.pass_until_quarter.ensures.told
+    (length c.args.log.now.memory.usage.segments) (length c.commit_unsaved.new.log.memory.usage.segments) c.in-Ok.ensures.done.repeats.keeps.segments (ap (λ (h : Held g.row.D.Denot). (g.D.SectorDevice.state h.device).told) (c.commit_unsaved.ensures.quiet nothing)) c.pass_until_quarter.ensures.told
