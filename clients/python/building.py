@@ -1,21 +1,33 @@
-"""Builds the wheel of the client, with the standard library alone, for `pip install` without a network."""
+"""Builds the wheel of the client, with the standard library alone, for `pip install` without a network. The library goes into it where
+`./library` built it before."""
 import base64
 import hashlib
 import os
+import sysconfig
 import zipfile
 
 HERE = os.path.dirname(os.path.realpath(__file__))
 MODULE = "pansuyog.py"
+LIBRARY = f"{HERE}/../c/out/libpansuyog.so.0"
 NAME, VERSION = "pansuyog", "0.1.0"
 INFO = f"{NAME}-{VERSION}.dist-info"
 
 
+def _tag():
+    """For which machines the wheel is: for any without the library."""
+    machine = sysconfig.get_platform().replace("-", "_").replace(".", "_")
+    return f"py3-none-{machine if os.path.exists(LIBRARY) else 'any'}"
+
+
 def _files():
-    with open(f"{HERE}/{MODULE}", "rb") as file:
-        yield MODULE, file.read()
+    for path in (f"{HERE}/{MODULE}", LIBRARY):
+        if os.path.exists(path):
+            with open(path, "rb") as file:
+                yield os.path.basename(path), file.read()
     metadata = f"Metadata-Version: 2.1\nName: {NAME}\nVersion: {VERSION}\nRequires-Python: >=3.8\n"
     yield f"{INFO}/METADATA", metadata.encode()
-    yield f"{INFO}/WHEEL", b"Wheel-Version: 1.0\nGenerator: pansuyog\nRoot-Is-Purelib: true\nTag: py3-none-any\n"
+    pure = str(not os.path.exists(LIBRARY)).lower()
+    yield f"{INFO}/WHEEL", f"Wheel-Version: 1.0\nGenerator: pansuyog\nRoot-Is-Purelib: {pure}\nTag: {_tag()}\n".encode()
 
 
 def _line(name, data):
@@ -25,7 +37,7 @@ def _line(name, data):
 
 def build_wheel(wheel_directory, config_settings=None, metadata_directory=None):
     """Writes the wheel into a folder: its name (PEP 517)."""
-    name = f"{NAME}-{VERSION}-py3-none-any.whl"
+    name = f"{NAME}-{VERSION}-{_tag()}.whl"
     files = list(_files())
     record = "".join(_line(*it) for it in files) + f"{INFO}/RECORD,,\n"
     with zipfile.ZipFile(os.path.join(wheel_directory, name), "w") as wheel:

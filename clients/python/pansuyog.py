@@ -1,4 +1,4 @@
-"""Files on a Pansuyog volume, from Python: a client of the program `lfs` that needs the standard library alone.
+"""Files on a Pansuyog volume, from Python, with the standard library alone.
 
     from pansuyog import NoEntry, Volume
 
@@ -17,18 +17,32 @@ Whole files and folders go in and out by the methods of `Files`:
         volume.write_tree("a folder")
         volume.export("a new folder")
 
-Each other method is one call of the volume (docs/CALLS.md), and one line of a script (docs/SCRIPT.md), which a child process `lfs run IMAGE`
-answers before the method returns. A refusal is an exception of the refusal's name: `NoEntry`, `NoSpace`, `Device` and so on. Its text
-has the call and the cause. What was acknowledged by `sync` stays through any stop of the device or of the child; what wasn't may be gone
-at the next mount.
+Each other method is one call of the volume (docs/CALLS.md). There are two classes, with the same methods:
+
+- `Volume` is the library `libpansuyog.so` (docs/LIBRARY.md), in this process.
+- `ProcessVolume` is a child process `lfs run IMAGE`, which answers a line of a script (docs/SCRIPT.md) for each call.
+
+`make` makes an empty volume, by the library or by the program.
+
+A refusal is an exception of the refusal's name: `NoEntry`, `NoSpace`, `Device` and so on. Its text has the call and the cause. What was
+acknowledged by `sync` stays through any stop of the device or of the process; what wasn't may be gone at the next mount.
 
 Paths are `str` (taken as UTF-8) or `bytes`. Nothing is saved when the volume is closed: call `sync` before.
 """
+import contextlib
+import ctypes
+import errno
+import fcntl
+import functools
 import os
+import stat
 import subprocess
+import threading
+import time
+import weakref
 from typing import NamedTuple
 
-__all__ = ["Calls", "Files", "Volume", "Refused", "ChildDied", "BadLine", "Entry", "Space", "Stat", "TreeRow", "make"]
+__all__ = ["Calls", "Files", "Volume", "ProcessVolume", "Refused", "ChildDied", "BadLine", "Entry", "Space", "Stat", "TreeRow", "make"]
 
 # What people are told of a call that is refused, as in crates/lfs_image/src/reason.rt: the reply to a line has the name alone.
 _NO_MEMORY = "there isn't enough memory"
@@ -146,14 +160,25 @@ def _hex(data):
 
 
 def _number(value, bits):
-    """A number of a line. One that no line can have is an error before anything is sent."""
+    """A number of a call. One that no call can have is an error before anything is called."""
     if not 0 <= value < 1 << bits:
         raise ValueError(f"{value} is not from 0 to 2^{bits} - 1")
-    return str(int(value))
+    return int(value)
 
 
 def _unhex(word):
     return b"" if word == "-" else bytes.fromhex(word)
+
+
+def _line(name, arguments):
+    """A call as a line of a script."""
+    spelt = _hex if name == "pwrite" else _escape
+    return " ".join([name, *(spelt(it) if isinstance(it, bytes) else str(it) for it in arguments)])
+
+
+def _refused_call(name, arguments, refusal):
+    """The exception of a call that is refused."""
+    return _refusal(refusal, f"{_line(name, arguments)[:80]}: {_CALL_TEXTS.get(refusal, refusal)}")
 
 
 def _head(kind, word):
@@ -166,7 +191,7 @@ def _started(lfs, words):
         return subprocess.Popen([lfs, *words], stdin=subprocess.PIPE, stdout=subprocess.PIPE, stderr=subprocess.PIPE)
     except FileNotFoundError:
         where = "there" if os.path.dirname(lfs) else "in PATH"
-        raise FileNotFoundError(f'the program {lfs} isn\'t {where}; pass Volume(image, lfs="../lfs")') from None
+        raise FileNotFoundError(f'the program {lfs} isn\'t {where}; pass ProcessVolume(image, lfs="../lfs")') from None
 
 
 def _cause(errors, reply):
@@ -174,9 +199,16 @@ def _cause(errors, reply):
     return errors.decode(errors="replace").strip().removeprefix("lfs: ") or reply
 
 
-def make(image, segments, lfs="lfs", format=1):
-    """Makes an empty volume in an image file: a multiple of 8 segments of 32 KiB, from 64 to 1,024. An earlier content is gone. A name in it has
-    up to 59 bytes in format 1, and up to 123 in format 2."""
+def make(image, segments, lfs=None, format=1, *, library=None):
+    """Makes an empty volume in an image file: a multiple of 8 segments of 32 KiB, from 64 to 1,024. An earlier content is gone. A name in it
+    has up to 59 bytes in format 1, and up to 123 in format 2. The library makes it, or else the program whose path is `lfs`."""
+    if lfs is None:
+        Volume._make(image, segments, format, library)
+    else:
+        _make_by_program(image, segments, lfs, format)
+
+
+def _make_by_program(image, segments, lfs, format):
     with _started(lfs, ["mkfs", os.fspath(image), "--segments", str(segments), "--format", str(format)]) as child:
         output, errors = child.communicate()
     reply = output.decode(errors="replace").strip()
@@ -187,22 +219,18 @@ def make(image, segments, lfs="lfs", format=1):
 
 
 class Calls:
-    """The calls of a volume. A subclass has `_call`, which makes one call, a line of words, and answers the words behind `ok`, and `_row`,
-    which answers the words of the next row where the reply to `readdir` or `tree` has rows."""
+    """The calls of a volume. A subclass has `_call`, which makes a call by its name, with numbers, paths and data, and gives its answer."""
 
-    def _call(self, *words):
-        raise NotImplementedError
-
-    def _row(self):
+    def _call(self, name, *arguments):
         raise NotImplementedError
 
     def create(self, path):
         """Makes a file and opens it: its handle."""
-        return int(self._call("create", _escape(path))[0])
+        return self._call("create", _bytes(path))
 
     def open(self, path):
         """Opens a file: its handle."""
-        return int(self._call("open", _escape(path))[0])
+        return self._call("open", _bytes(path))
 
     def close_handle(self, handle):
         """Closes a handle. A file without a name goes with its last one."""
@@ -210,16 +238,16 @@ class Calls:
 
     def pread(self, handle, offset, length):
         """At most `length` bytes, 65,536 at most, from `offset` on."""
-        return _unhex(self._call("pread", _number(handle, 32), _number(offset, 64), _number(length, 32))[0])
+        return self._call("pread", _number(handle, 32), _number(offset, 64), _number(length, 32))
 
     def pwrite(self, handle, offset, data):
         """Writes bytes, 65,536 at most, from `offset` on: how many were written. More are refused, as `Inval`."""
         # One byte too many is refused as any number of them, and fits a line.
-        return int(self._call("pwrite", _number(handle, 32), _number(offset, 64), _hex(data[:65_537]))[0])
+        return self._call("pwrite", _number(handle, 32), _number(offset, 64), bytes(data[:65_537]))
 
     def fill(self, handle, offset, length, byte):
         """Writes `length` times the same byte."""
-        return int(self._call("fill", _number(handle, 32), _number(offset, 64), _number(length, 32), _number(byte, 8))[0])
+        return self._call("fill", _number(handle, 32), _number(offset, 64), _number(length, 32), _number(byte, 8))
 
     def truncate(self, handle, length):
         """Gives a file this length: it is cut, or zeros are added."""
@@ -227,44 +255,43 @@ class Calls:
 
     def mkdir(self, path):
         """Makes a directory."""
-        self._call("mkdir", _escape(path))
+        self._call("mkdir", _bytes(path))
 
     def symlink(self, text, path):
         """Makes a symbolic link with this text."""
-        self._call("symlink", _escape(text), _escape(path))
+        self._call("symlink", _bytes(text), _bytes(path))
 
     def readlink(self, path):
         """The text of a link."""
-        return _unescape(self._call("readlink", _escape(path))[0])
+        return self._call("readlink", _bytes(path))
 
     def link(self, path, name):
         """Gives what stands at a path another name."""
-        self._call("link", _escape(path), _escape(name))
+        self._call("link", _bytes(path), _bytes(name))
 
     def unlink(self, path):
         """Takes away the name of a file or of a link. An open file stays until its handles are closed."""
-        self._call("unlink", _escape(path))
+        self._call("unlink", _bytes(path))
 
     def rmdir(self, path):
         """Removes a directory without entries."""
-        self._call("rmdir", _escape(path))
+        self._call("rmdir", _bytes(path))
 
     def rename(self, path, name):
         """Gives what stands at a path another name, in one step. What that name gave before loses it, as by `unlink` or `rmdir`."""
-        self._call("rename", _escape(path), _escape(name))
+        self._call("rename", _bytes(path), _bytes(name))
 
     def stat(self, path):
         """What stands at a path."""
-        return self._status("stat", path)
+        return self._call("stat", _bytes(path))
 
     def lstat(self, path):
         """The same, where a last link isn't followed."""
-        return self._status("lstat", path)
+        return self._call("lstat", _bytes(path))
 
     def readdir(self, path):
         """Each entry of one directory."""
-        count = int(self._call("readdir", _escape(path))[0])
-        return [self._entry() for _ in range(count)]
+        return self._call("readdir", _bytes(path))
 
     def fsync(self, handle):
         """Saves all that was done, as `sync`, through an open handle."""
@@ -280,11 +307,11 @@ class Calls:
 
     def space(self):
         """The blocks that the files take, and the need and its limit."""
-        return Space(*map(int, self._call("space")))
+        return self._call("space")
 
     def version(self):
         """The version of the volume's layout, 1 or 2: the format that it has."""
-        return int(self._call("version")[0])
+        return self._call("version")
 
     def upgrade(self):
         """Gives the volume format 2. Directories that are made from then on take names of up to 123 bytes."""
@@ -292,24 +319,11 @@ class Calls:
 
     def widen(self, path):
         """Lets a directory of a volume of format 2 take such names too. It then has twice as many bytes."""
-        self._call("widen", _escape(path))
+        self._call("widen", _bytes(path))
 
     def tree(self):
         """Each entry of each directory."""
-        count = int(self._call("tree")[0])
-        return [self._tree_row() for _ in range(count)]
-
-    def _status(self, word, path):
-        number, kind, links, size = self._call(word, _escape(path))
-        return Stat(int(number), kind, int(links), int(size))
-
-    def _entry(self):
-        name, number, kind = self._row()
-        return Entry(_unescape(name), int(number), kind)
-
-    def _tree_row(self):
-        directory, name, kind, number, links, size, head = self._row()
-        return TreeRow(int(directory), _unescape(name), kind, int(number), int(links), int(size), _head(kind, head))
+        return self._call("tree")
 
 
 # The name under which a file stands until it is whole, in the directory that is to have it. `lfs put` has the same.
@@ -482,8 +496,9 @@ class Files(Calls):
                 raise
 
 
-class Volume(Files):
-    """A mounted volume. `lfs` is the program's path; one process at a time may have an image. A volume that isn't mounted is refused here."""
+class ProcessVolume(Files):
+    """A mounted volume in a child process. `lfs` is the program's path; one process at a time may have an image. A volume that isn't mounted
+    is refused here."""
 
     def __init__(self, image, lfs="lfs"):
         self._child = _started(lfs, ["run", os.fspath(image)])
@@ -536,12 +551,447 @@ class Volume(Files):
         """The child's status, once it has ended, and what it says of that."""
         return self._child.wait(), _cause(self._child.stderr.read(), reply)
 
-    def _call(self, *words):
-        self._send(" ".join(words))
+    def _call(self, name, *arguments):
+        self._send(_line(name, arguments))
         first, *rest = self._row()
         if first == "err":
-            raise _refusal(rest[0], f"{self._sent}: {_CALL_TEXTS.get(rest[0], ' '.join(rest))}")
+            raise _refused_call(name, arguments, rest[0])
         if first == "bad":
             _, cause = self._end("the program doesn't know this line")
             raise BadLine(f"{self._sent}: {cause}")
-        return rest
+        return self._answer(name, rest)
+
+    def _answer(self, name, words):
+        """What the words behind `ok` answer, with the rows behind them."""
+        if name in ("pread", "readlink"):
+            return _unhex(words[0]) if name == "pread" else _unescape(words[0])
+        if name in ("stat", "lstat"):
+            number, kind, links, size = words
+            return Stat(int(number), kind, int(links), int(size))
+        if name in ("readdir", "tree"):
+            row_of = self._entry if name == "readdir" else self._tree_row
+            return [row_of() for _ in range(int(words[0]))]
+        return Space(*map(int, words)) if name == "space" else int(words[0]) if words else None
+
+    def _entry(self):
+        name, number, kind = self._row()
+        return Entry(_unescape(name), int(number), kind)
+
+    def _tree_row(self):
+        directory, name, kind, number, links, size, head = self._row()
+        return TreeRow(int(directory), _unescape(name), kind, int(number), int(links), int(size), _head(kind, head))
+
+
+# The library. Its functions are those of clients/c/pansuyog.h, whose names have `pansuyog_` before them.
+
+_LIBRARY = "libpansuyog.so.0"
+_SECTOR = 512
+# Sectors of one read or write.
+_RUN = 128
+# Those of a volume of 1,024 segments: what a larger device has behind them isn't read.
+_MOST_SECTORS = 65_538
+_KINDS = {1: "file", 2: "dir", 3: "link"}
+# The names of its numbers, of which the first stand in the order of the header.
+_CODES = {**dict(enumerate(_CALL_TEXTS, 1)), 30: "TooSmall", 31: "NoCheckpoint", **dict.fromkeys(range(101, 116), "Damaged")}
+# Methods whose function has another name.
+_FUNCTION_OF = {"fill": "pwrite", "readdir": "list"}
+_VOLUME_TEXTS = {
+    "Inval": "a volume has 64 to 1024 segments, a multiple of 8",
+    "NoMemory": _NO_MEMORY,
+    "Device": _DEVICE,
+    "TooSmall": "it is shorter than its volume, or than any volume",
+    "NoCheckpoint": "neither of its first two sectors is a checkpoint",
+}
+
+
+class _RawVolume(ctypes.Structure):
+    _fields_ = [("inside", ctypes.c_void_p)]
+
+
+class _RawStat(ctypes.Structure):
+    _fields_ = [("size", ctypes.c_uint64), ("number", ctypes.c_uint32), ("kind", ctypes.c_uint32), ("links", ctypes.c_uint32)]
+
+
+class _RawSpace(ctypes.Structure):
+    _fields_ = [(name, ctypes.c_uint64) for name in ("data", "meta", "need", "limit")]
+
+
+class _RawEntry(ctypes.Structure):
+    _fields_ = [("number", ctypes.c_uint32), ("kind", ctypes.c_uint32)]
+
+
+_U32, _U64, _SIZE = ctypes.c_uint32, ctypes.c_uint64, ctypes.c_size_t
+_GIVEN, _TAKEN = [ctypes.c_char_p, _SIZE], [ctypes.c_void_p, _SIZE]
+# What each function takes behind the volume.
+_FUNCTIONS = {
+    **dict.fromkeys(["new", "abandon", "carried", "told", "done", "sync", "clean", "version", "upgrade"], []),
+    **dict.fromkeys(["is_cleaning_due", "clean_once"], []),
+    **dict.fromkeys(["begin", "mount", "close", "fsync"], [_U32]),
+    **dict.fromkeys(["open", "create", "mkdir", "rmdir", "unlink", "widen", "list"], _GIVEN),
+    **dict.fromkeys(["link", "rename", "symlink"], _GIVEN * 2),
+    **dict.fromkeys(["stat", "lstat"], [*_GIVEN, ctypes.POINTER(_RawStat)]),
+    "give": [_U32, *_GIVEN],
+    "format": [_U32] * 3,
+    "run": [_U64, ctypes.POINTER(_U32), *_TAKEN],
+    "pread": [_U32, _U64, *_TAKEN],
+    "pwrite": [_U32, _U64, *_GIVEN],
+    "truncate": [_U32, _U64],
+    "readlink": [*_GIVEN, *_TAKEN],
+    "entry": [_SIZE, ctypes.POINTER(_RawEntry), *_TAKEN],
+    "space": [ctypes.POINTER(_RawSpace)],
+}
+
+
+@functools.lru_cache(maxsize=None)
+def _library(path):
+    """The functions of the library at a path, or without one of that which stands beside this module or which the system's loader finds."""
+    beside = os.path.join(os.path.dirname(os.path.realpath(__file__)), _LIBRARY)
+    found = os.path.abspath(path) if path else beside if os.path.exists(beside) else _LIBRARY
+    try:
+        library = ctypes.CDLL(found)
+    except OSError as error:
+        if found != _LIBRARY and os.path.exists(found):
+            raise
+        how = "./library builds it, and another ./install puts it beside this module"
+        raise FileNotFoundError(
+            f"the library {found} isn't there: {how}; Volume(image, library=..) takes another path, and ProcessVolume drives the program lfs"
+        ) from error
+    functions = {}
+    for name, taken in _FUNCTIONS.items():
+        functions[name] = getattr(library, f"pansuyog_{name}")
+        functions[name].argtypes = [ctypes.POINTER(_RawVolume), *taken]
+        functions[name].restype = {"abandon": None, "carried": _U64, "told": _U64}.get(name, ctypes.c_int32)
+    functions["free"] = library.pansuyog_free
+    functions["free"].argtypes, functions["free"].restype = [_RawVolume], None
+    return functions
+
+
+# What people are told of an image that isn't used.
+_IMAGE_TEXTS = {
+    errno.ENOENT: "there is no such file or folder",
+    errno.EACCES: "permission denied",
+    errno.EROFS: "it is on a file system that is read-only",
+    errno.EISDIR: "it is a folder",
+    errno.ENOTBLK: "it is neither a regular file nor a block device",
+    errno.EWOULDBLOCK: "it is in use: another program has held its lock for a second",
+}
+_LOCK_TRIES, _LOCK_PAUSE = 1_000, 0.001
+
+
+def _refused_image(image, text):
+    return _refusal("Image", f"{os.fsdecode(image)}: {text}")
+
+
+@contextlib.contextmanager
+def _told_of(image):
+    """Lets errors of the system be refusals of an image."""
+    try:
+        yield
+    except OSError as error:
+        text = _IMAGE_TEXTS.get(error.errno, "the system refuses to open it or to tell its length")
+        raise _refused_image(image, text) from error
+
+
+def _look_up(image):
+    """Refuses what is neither a file nor a block device before it is opened, since opening a pipe waits for its other end."""
+    mode = os.stat(image).st_mode
+    if not stat.S_ISREG(mode) and not stat.S_ISBLK(mode):
+        raise OSError(errno.EISDIR if stat.S_ISDIR(mode) else errno.ENOTBLK, "no image")
+    return mode
+
+
+def _lock(file):
+    """Keeps other programs out. One that looks may hold the lock for a short time. A file system without locks refuses nothing."""
+    for _ in range(_LOCK_TRIES):
+        try:
+            fcntl.flock(file, fcntl.LOCK_EX | fcntl.LOCK_NB)
+        except BlockingIOError:
+            time.sleep(_LOCK_PAUSE)
+        except OSError:
+            return
+        else:
+            return
+    raise BlockingIOError(errno.EWOULDBLOCK, "the lock is held")
+
+
+def _opened(image, flags=0):
+    """The descriptor of an image that is to be written, with its lock. It isn't one of a standard stream that is closed."""
+    first = os.open(image, os.O_RDWR | os.O_CLOEXEC | flags, 0o666)
+    try:
+        file = fcntl.fcntl(first, fcntl.F_DUPFD_CLOEXEC, 3)
+    finally:
+        os.close(first)
+    try:
+        _lock(file)
+    except OSError:
+        os.close(file)
+        raise
+    return file
+
+
+def _write_all(file, data, offset):
+    while data:
+        count = os.pwrite(file, data, offset)
+        data, offset = data[count:], offset + count
+
+
+def _sync_folder(image):
+    """Lets the name of a new image stay too, where the file system can."""
+    with contextlib.suppress(OSError):
+        folder = os.open(os.path.dirname(os.path.abspath(image)), os.O_RDONLY)
+        try:
+            os.fsync(folder)
+        finally:
+            os.close(folder)
+
+
+def _give_back(functions, raw, file):
+    functions["free"](raw)
+    os.close(file)
+
+
+class Volume(Files):
+    """A mounted volume in the library. One process at a time may have an image, and not a child that was forked from it. Threads may share a
+    volume: calls are made one at a time. `library` is the path of the shared object, where it isn't installed. A volume that isn't mounted
+    is refused here.
+
+    The image is read whole, and kept in memory: 2.1 MB for a volume of 64 segments, 33.6 MB for one of 1,024.
+    """
+
+    def __init__(self, image, *, library=None):
+        functions = _library(library)
+        with _told_of(image):
+            _look_up(image)
+            file = _opened(image)
+        self._start(image, functions, file)
+        self._begin("mount")
+
+    @classmethod
+    def _make(cls, image, segments, format, library):
+        """Makes an empty volume in a file, of which nothing is mounted."""
+        functions = _library(library)
+        if segments not in range(64, 1_025, 8):
+            raise _refusal("Inval", f"{os.fsdecode(image)}: {_VOLUME_TEXTS['Inval']}")
+        if format not in (1, 2):
+            raise _refusal("Inval", f"{os.fsdecode(image)}: a volume has format 1 or 2")
+        with _told_of(image):
+            if os.path.exists(image) and stat.S_ISBLK(_look_up(image)):
+                raise _refused_image(image, "it is a block device: lfs mkfs --force makes a volume on one")
+            file = _opened(image, os.O_CREAT)
+        made = cls.__new__(cls)
+        made._start(image, functions, file)
+        with contextlib.closing(made):
+            made._empty(_SECTOR * (2 + 64 * segments))
+            made._begin("format", segments, format)
+        _sync_folder(image)
+
+    def __enter__(self):
+        return self
+
+    def __exit__(self, *_):
+        self.close()
+
+    def close(self):
+        """Gives the image and the memory back. What wasn't synced may be gone."""
+        with self._one_call():
+            self._finish()
+
+    # A stop takes no more away.
+    kill = close
+
+    def is_cleaning_due(self):
+        """Whether fewer than a quarter of the segments is clean, so that the two calls that clean have something to do."""
+        return self._call("is_cleaning_due") == 1
+
+    def clean_once(self):
+        """Makes one pass of the cleaner where that is so, and nothing else. What isn't saved is saved before. A program that calls it in its
+        idle moments waits seldom for the cleaner in another call."""
+        self._call("clean_once")
+
+    def tree(self):
+        """Each entry of each directory. A file is opened for its first bytes."""
+        rows, waiting = [], [(1, b"")]
+        while waiting:
+            number, path = waiting.pop()
+            for entry in self.readdir(path + b"/"):
+                below = path + b"/" + entry.name
+                told = self.lstat(below)
+                rows.append(TreeRow(number, entry.name, entry.kind, entry.number, told.links, told.size, self._head(below, entry.kind)))
+                if entry.kind == "dir":
+                    waiting.append((entry.number, below))
+        return sorted(rows)
+
+    def _head(self, path, kind):
+        if kind != "file":
+            return self.readlink(path) if kind == "link" else b""
+        handle = self.open(path)
+        try:
+            return self.pread(handle, 0, 16)
+        finally:
+            self.close_handle(handle)
+
+    def _start(self, image, functions, file):
+        """Holds what a volume has, before it is mounted."""
+        self._image, self._functions, self._file = image, functions, file
+        self._raw = _RawVolume()
+        # The thread whose call is under way.
+        self._lock, self._caller = threading.RLock(), None
+        self._is_halted = False
+        self._run = ctypes.create_string_buffer(_RUN * _SECTOR)
+        # One byte more than a call takes: so many are refused as any number of them.
+        self._taken = ctypes.create_string_buffer(_LONGEST_TRANSFER + 1)
+        if functions["new"](self._raw) < 0:
+            os.close(file)
+            raise _refusal("NoMemory", f"{os.fsdecode(image)}: {_NO_MEMORY}")
+        self._finish = weakref.finalize(self, _give_back, functions, self._raw, file)
+        # Another thread may be in a call when the program ends.
+        self._finish.atexit = False
+
+    @contextlib.contextmanager
+    def _one_call(self):
+        """Lets in one call at a time. One within another of its thread, as a handler of a signal may make, is an error."""
+        if self._caller == threading.get_ident():
+            raise RuntimeError("a call of this volume is under way in this thread")
+        with self._lock:
+            self._caller = threading.get_ident()
+            try:
+                yield
+            finally:
+                self._caller = None
+
+    def _empty(self, size):
+        """Gives the image this size, with nothing in it."""
+        try:
+            os.ftruncate(self._file, 0)
+            os.ftruncate(self._file, size)
+        except OSError as error:
+            raise _refused_image(self._image, "the file can't have the length of the volume") from error
+
+    def _begin(self, name, *numbers):
+        """Reads the image, and makes or mounts its volume."""
+        try:
+            sectors = self._read_all()
+            # Memory is taken for the orders of a pass of the cleaner and of a commit.
+            code = self._functions[name](self._raw, *numbers, 8 * (sectors // 64) + 520)
+            self._carry()
+        except OSError as error:
+            self.close()
+            raise self._refused_volume("Device") from error
+        if code < 0:
+            self.close()
+            raise self._refused_volume(_CODES.get(-code), -100 - code)
+
+    def _refused_volume(self, name, stage=0):
+        cause = _VOLUME_TEXTS.get(name, f"stage {stage} of its check fails")
+        return _refusal(name, f"{os.fsdecode(self._image)}: {cause}")
+
+    def _read_all(self):
+        """Gives the library all sectors that can be read: how many there are."""
+        os.fsync(self._file)
+        sectors = min(os.lseek(self._file, 0, os.SEEK_END) // _SECTOR, _MOST_SECTORS)
+        if self._functions["begin"](self._raw, sectors) < 0:
+            self.close()
+            raise self._refused_volume("NoMemory")
+        sector = 0
+        while sector < sectors:
+            # Where a run can't be read its first sector is tried alone, and isn't given where that can't be read.
+            sector += self._give(sector, min(_RUN, sectors - sector)) or self._give(sector, 1) or 1
+        return sectors
+
+    def _give(self, first, count):
+        """Gives sectors that follow one another: how many of them could be read."""
+        try:
+            data = os.pread(self._file, count * _SECTOR, first * _SECTOR)
+        except OSError:
+            return 0
+        self._functions["give"](self._raw, first, data, len(data))
+        return len(data) // _SECTOR
+
+    def _carry(self):
+        """Carries out the orders that wait. Where the device fails the volume is given up."""
+        number, told = self._functions["carried"](self._raw), self._functions["told"](self._raw)
+        if number == told:
+            return
+        try:
+            while number < told:
+                number += self._carry_run(number)
+        except OSError:
+            self._is_halted = True
+            self._functions["abandon"](self._raw)
+            raise
+        self._functions["done"](self._raw)
+
+    def _carry_run(self, number):
+        """Carries out a sync, or writes to sectors that follow one another: how many orders."""
+        first = _U32()
+        count = self._functions["run"](self._raw, number, first, self._run, _RUN)
+        if count < 0:
+            raise RuntimeError(f"the library has no order {number}")
+        if count == 0:
+            os.fsync(self._file)
+            return 1
+        _write_all(self._file, memoryview(self._run)[: count * _SECTOR], first.value * _SECTOR)
+        return count
+
+    def _call(self, name, *arguments):
+        more = self._MORE.get(name)
+        with self._one_call():
+            if not self._finish.alive:
+                raise ValueError("the volume is closed")
+            return more(self, name, *arguments) if more else self._ask(name, arguments)
+
+    def _ask(self, name, arguments, *given):
+        """Makes a call with what is given, or else with its arguments, each path with its length: the number that it answers."""
+        if self._is_halted:
+            raise _refused_call(name, arguments, "Halted")
+        if not given:
+            given = [it for argument in arguments for it in ((argument, len(argument)) if isinstance(argument, bytes) else (argument,))]
+        code = self._functions[_FUNCTION_OF.get(name, name)](self._raw, *given)
+        try:
+            self._carry()
+        except OSError as error:
+            raise _refused_call(name, arguments, "Halted") from error
+        if code < 0:
+            raise _refused_call(name, arguments, _CODES.get(-code, str(code)))
+        return code
+
+    def _read(self, name, handle, offset, length):
+        count = self._ask(name, (handle, offset, length), handle, offset, self._taken, min(length, len(self._taken)))
+        return ctypes.string_at(self._taken, count)
+
+    def _fill(self, name, handle, offset, length, byte):
+        data = bytes([byte]) * min(length, len(self._taken))
+        return self._ask(name, (handle, offset, length, byte), handle, offset, data, len(data))
+
+    def _text(self, name, path):
+        count = self._ask(name, (path,), path, len(path), self._taken, len(self._taken))
+        return ctypes.string_at(self._taken, count)
+
+    def _status(self, name, path):
+        told = _RawStat()
+        self._ask(name, (path,), path, len(path), told)
+        return Stat(told.number, _KINDS[told.kind], told.links, told.size)
+
+    def _entries(self, name, path):
+        return [self._entry(place) for place in range(self._ask(name, (path,)))]
+
+    def _entry(self, place):
+        told = _RawEntry()
+        length = self._functions["entry"](self._raw, place, told, self._taken, len(self._taken))
+        return Entry(ctypes.string_at(self._taken, length), told.number, _KINDS[told.kind])
+
+    def _measure(self, name):
+        told = _RawSpace()
+        self._ask(name, (), told)
+        return Space(told.data, told.meta, told.need, told.limit)
+
+    # The calls that answer more than a number, or whose arguments aren't the function's.
+    _MORE = {
+        "pread": _read,
+        "fill": _fill,
+        "readlink": _text,
+        "stat": _status,
+        "lstat": _status,
+        "readdir": _entries,
+        "space": _measure,
+    }

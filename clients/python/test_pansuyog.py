@@ -1,21 +1,44 @@
-"""Tests of the client against the real program: python3 test_pansuyog.py LFS"""
+"""Tests of the client over the program: python3 test_pansuyog.py LFS. Most of them `test_library.py` has over the library too."""
 import os
 import random
 import re
+import shutil
 import signal
 import subprocess
 import sys
 import tempfile
-import textwrap
 import time
 import unittest
 
 import pansuyog
 
-LFS = os.environ.get("LFS", "lfs")
 HERE = os.path.dirname(os.path.realpath(__file__))
 VOLUMES = 10
 KILLS = 10  # of the recorder, on each volume
+
+
+class Program:
+    """Volumes that the program makes and mounts."""
+
+    name = "program"
+
+    def __init__(self, path):
+        self.path = path
+
+    def make(self, image, segments, format=1):
+        pansuyog.make(image, segments, self.path, format)
+
+    def mounted(self, image):
+        return pansuyog.ProcessVolume(image, self.path)
+
+    def shown(self, code, image):
+        """What a page shows of `Volume`, as code over an image."""
+        return code.replace("Volume", "ProcessVolume").replace('"disk.img"', f"{image!r}, {self.path!r}")
+
+
+# The program, and what is tested.
+program = os.environ.get("LFS", "lfs")
+used = Program(program)
 
 
 class OnAVolume(unittest.TestCase):
@@ -23,10 +46,10 @@ class OnAVolume(unittest.TestCase):
         folder = tempfile.TemporaryDirectory()
         self.addCleanup(folder.cleanup)
         self.image = os.path.join(folder.name, "disk.img")
-        pansuyog.make(self.image, 64, LFS)
+        used.make(self.image, 64)
 
     def mounted(self):
-        volume = pansuyog.Volume(self.image, LFS)
+        volume = used.mounted(self.image)
         self.addCleanup(volume.close)
         return volume
 
@@ -112,7 +135,7 @@ class Calls(OnAVolume):
         with self.assertRaises(pansuyog.NameTooLong):
             volume.mkdir("/" + "n" * 60)
         volume.close()
-        pansuyog.make(self.image, 64, LFS, format=2)
+        used.make(self.image, 64, format=2)
         volume = self.mounted()
         self.assertEqual(volume.version(), 2)
         volume.write_file("/" + "n" * 123, b"one")
@@ -150,7 +173,8 @@ class Calls(OnAVolume):
     def test_each_call_of_the_base_is_a_call_of_a_volume(self):
         with self.assertRaises(NotImplementedError):
             pansuyog.Calls().sync()
-        self.assertTrue(issubclass(pansuyog.Volume, pansuyog.Files) and issubclass(pansuyog.Files, pansuyog.Calls))
+        self.assertTrue(issubclass(pansuyog.Files, pansuyog.Calls))
+        self.assertTrue(all(issubclass(it, pansuyog.Files) for it in (pansuyog.Volume, pansuyog.ProcessVolume)))
 
 
 class Files(OnAVolume):
@@ -206,6 +230,17 @@ class Files(OnAVolume):
             self.assertEqual(self.mounted().export(out), told)
             self.assertEqual(subprocess.run(["diff", "-r", "--no-dereference", folder, out]).returncode, 0)
 
+    def test_nothing_is_written_over(self):
+        with tempfile.TemporaryDirectory() as room:
+            self.assertRaises(FileExistsError, self.mounted().export, room)
+
+
+class BesideTheProgram(OnAVolume):
+    def setUp(self):
+        if shutil.which(program) is None:
+            self.skipTest(f"for want of the program {program}")
+        super().setUp()
+
     def test_the_program_exports_what_the_client_put(self):
         with tempfile.TemporaryDirectory() as folder:
             put, out = f"{folder}/put", f"{folder}/out"
@@ -216,7 +251,7 @@ class Files(OnAVolume):
             os.symlink("d/e", f"{put}/l")
             with self.mounted() as volume:
                 files, size = volume.write_tree(put)
-            ran = subprocess.run([LFS, "export", self.image, out], capture_output=True, text=True, check=False)
+            ran = subprocess.run([program, "export", self.image, out], capture_output=True, text=True, check=False)
             self.assertEqual((ran.returncode, ran.stdout), (0, f"ok {files} files {size} bytes\n"))
             ran = subprocess.run(["diff", "-r", "--no-dereference", put, out], capture_output=True, text=True, check=False)
             self.assertEqual((ran.returncode, ran.stdout), (0, ""))
@@ -224,28 +259,25 @@ class Files(OnAVolume):
     def test_the_largest_new_file_fits_and_no_larger(self):
         for number, size in enumerate((100, 57_344, 200_000, 65_000, 3)):
             self.put(f"/fill {number}", size, f"ok {size}\n")
-            ran = subprocess.run([LFS, "df", self.image], capture_output=True, text=True, check=True)
+            ran = subprocess.run([program, "df", self.image], capture_output=True, text=True, check=True)
             free = int(re.search(r"free (\d+) bytes", ran.stdout).group(1))
             self.put("/new", free + 1, "err NoSpace\n")
             self.put("/new", free, f"ok {free}\n")
             self.put("/more", 1, "err NoSpace\n")
-            subprocess.run([LFS, "rm", self.image, "/new"], check=True, capture_output=True)
+            subprocess.run([program, "rm", self.image, "/new"], check=True, capture_output=True)
 
     def put(self, path, size, reply):
         data = random.randbytes(size).replace(b"\0", b"\1")
-        ran = subprocess.run([LFS, "put", self.image, path], input=data, capture_output=True, check=False)
+        ran = subprocess.run([program, "put", self.image, path], input=data, capture_output=True, check=False)
         self.assertEqual(ran.stdout, reply.encode())
-
-    def test_nothing_is_written_over(self):
-        with tempfile.TemporaryDirectory() as room:
-            self.assertRaises(FileExistsError, self.mounted().export, room)
 
 
 class Page(OnAVolume):
     def test_what_readme_shows_can_be_run_twice(self):
         with open(f"{HERE}/../../README.md", encoding="utf-8") as file:
-            shown = re.search(r"^    from pansuyog .*?\n(?=\S)", file.read(), re.M | re.S).group(0)
-        code = textwrap.dedent(shown).replace('Volume("disk.img")', f"Volume({self.image!r}, {LFS!r})")
+            shown = re.findall(r"^```python\n(from pansuyog .*?)^```", file.read(), re.M | re.S)
+        self.assertEqual(len(shown), 1)
+        code = used.shown(shown[0], self.image)
         for _ in range(2):
             exec(code, {})
         self.assertEqual(self.mounted().tree(), [pansuyog.TreeRow(1, b"notes", "file", 2, 1, 18, (b"a record\n" * 2)[:16])])
@@ -266,23 +298,28 @@ class Refusals(OnAVolume):
         self.assertEqual(self.refused(pansuyog.Busy, volume.rename, "/", "/a b"), "rename / /a\\20b: the root can't be removed or renamed")
 
     def test_a_volume_that_is_not_made_tells_the_cause(self):
-        text = self.refused(pansuyog.Inval, pansuyog.make, self.image, 65, LFS)
+        text = self.refused(pansuyog.Inval, used.make, self.image, 65)
         self.assertEqual(text, f"{self.image}: a volume has 64 to 1024 segments, a multiple of 8")
 
     def test_a_volume_that_is_not_mounted_tells_the_cause(self):
         missing = f"{self.image}.none"
-        self.assertEqual(self.refused(pansuyog.Image, pansuyog.Volume, missing, LFS), f"{missing}: there is no such file or folder")
+        self.assertEqual(self.refused(pansuyog.Image, used.mounted, missing), f"{missing}: there is no such file or folder")
         os.truncate(self.image, 512)
-        self.assertTrue(self.refused(pansuyog.TooSmall, pansuyog.Volume, self.image, LFS).startswith(f"{self.image}: "))
+        self.assertTrue(self.refused(pansuyog.TooSmall, used.mounted, self.image).startswith(f"{self.image}: "))
 
     def test_a_second_volume_of_an_image_is_refused(self):
         self.mounted()
-        self.assertIn("it is in use", self.refused(pansuyog.Image, pansuyog.Volume, self.image, LFS))
+        self.assertIn("it is in use", self.refused(pansuyog.Image, used.mounted, self.image))
 
     def test_a_program_that_is_not_there_is_told(self):
-        text = self.refused(FileNotFoundError, pansuyog.Volume, self.image, "no-such-lfs")
-        self.assertEqual(text, 'the program no-such-lfs isn\'t in PATH; pass Volume(image, lfs="../lfs")')
+        text = self.refused(FileNotFoundError, pansuyog.ProcessVolume, self.image, "no-such-lfs")
+        self.assertEqual(text, 'the program no-such-lfs isn\'t in PATH; pass ProcessVolume(image, lfs="../lfs")')
         self.assertIn("isn't there", self.refused(FileNotFoundError, pansuyog.make, self.image, 64, f"{HERE}/no-such-lfs"))
+
+    def test_a_library_that_is_not_there_is_told(self):
+        text = self.refused(FileNotFoundError, lambda: pansuyog.Volume(self.image, library="/no/such.so"))
+        self.assertTrue(text.startswith("the library /no/such.so isn't there: ./library builds it"))
+        self.assertRaises(TypeError, pansuyog.Volume, self.image, "/no/such.so")
 
     def test_a_misspelt_refusal_is_no_name(self):
         self.assertFalse(hasattr(pansuyog, "NoEntri"))
@@ -292,8 +329,15 @@ class Refusals(OnAVolume):
         with open(f"{HERE}/../../crates/lfs_image/src/reason.rt", encoding="utf-8") as file:
             source = file.read()
         constants = dict(re.findall(r'const (\w+): &str =\s*"(.*)";', source))
-        texts = re.findall(r'FsError::(\w+) => \{?\s*(?:"(.*)"|(\w+))', source)
-        self.assertEqual(pansuyog._CALL_TEXTS, {name: text or constants[constant] for name, text, constant in texts})
+
+        def texts_of(kind):
+            texts = re.findall(kind + r'::(\w+) => \{?\s*(?:"(.*)"|(\w+))', source)
+            return {name: text or constants.get(constant) for name, text, constant in texts}
+
+        self.assertEqual(pansuyog._CALL_TEXTS, texts_of("FsError"))
+        texts = {**texts_of("MountFault"), "Inval": texts_of("FormatFault")["Inval"]}
+        self.assertEqual(pansuyog._VOLUME_TEXTS, {name: text for name, text in texts.items() if name in pansuyog._VOLUME_TEXTS})
+        self.assertLessEqual(set(pansuyog._IMAGE_TEXTS.values()), set(texts_of("ImageFault").values()))
 
 
 class Child(OnAVolume):
@@ -313,28 +357,31 @@ class Recorder(unittest.TestCase):
         for _ in range(VOLUMES):
             with tempfile.TemporaryDirectory() as folder:
                 image = os.path.join(folder, "disk.img")
-                pansuyog.make(image, 1024, LFS)
+                used.make(image, 1024)
                 acknowledged = 0
                 for _ in range(KILLS):
-                    acknowledged = self.killed(image, acknowledged)
+                    acknowledged = self.killed(image, acknowledged, 10)
                 self.assertGreaterEqual(acknowledged, 10 * KILLS)
 
-    def killed(self, image, acknowledged):
-        recorder = os.path.join(HERE, "recorder.py")
-        child = subprocess.Popen([sys.executable, recorder, LFS, image, "append"], stdout=subprocess.PIPE, text=True, start_new_session=True)
-        first = child.stdout.readline()
+    def killed(self, image, acknowledged, each, lines=1):
+        """Lets a recorder acknowledge records so many times, kills it a few milliseconds later, and looks: how many were acknowledged by then."""
+        child = subprocess.Popen([*self.recorder(image), "append", str(each)], stdout=subprocess.PIPE, text=True, start_new_session=True)
+        said = "".join(child.stdout.readline() for _ in range(lines))
         time.sleep(random.uniform(0, 0.02))
         os.killpg(child.pid, signal.SIGKILL)
-        lines = (first + child.communicate()[0]).split("\n")
         # the last line may be cut off
-        acknowledged = max([acknowledged, *map(int, lines[:-1])])
-        self.assertGreaterEqual(self.counted(recorder, image), acknowledged)
+        whole = (said + child.communicate()[0]).split("\n")[:-1]
+        acknowledged = max([acknowledged, *map(int, whole)])
+        self.assertGreaterEqual(self.counted(image), acknowledged)
         return acknowledged
 
-    def counted(self, recorder, image):
+    def recorder(self, image):
+        return [sys.executable, os.path.join(HERE, "recorder.py"), used.name, used.path, image]
+
+    def counted(self, image):
         """The records that a mount finds. A program that was killed may hold the lock of the image a moment longer than its parent lives."""
         for _ in range(100):
-            found = subprocess.run([sys.executable, recorder, LFS, image, "count"], capture_output=True, text=True, check=False)
+            found = subprocess.run([*self.recorder(image), "count"], capture_output=True, text=True, check=False)
             if "pansuyog.Image" not in found.stderr:
                 break
             time.sleep(0.05)
@@ -344,5 +391,6 @@ class Recorder(unittest.TestCase):
 
 if __name__ == "__main__":
     if len(sys.argv) > 1:
-        LFS = os.path.abspath(sys.argv.pop(1))
+        program = os.path.abspath(sys.argv.pop(1))
+        used = Program(program)
     unittest.main()
