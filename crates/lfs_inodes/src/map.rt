@@ -199,6 +199,15 @@ impl InodeMap {
         if let Some(addresses) = self.named_block(index) {
             return spelled(addresses);
         }
+        self.encode_shown(index)
+    }
+
+    /// The same of a block that hides some of its files, which is put together first.
+    fn encode_shown(&self, index: usize) -> Option<[u8; 512]>
+        requires { index < 32 }
+        ensures some { IfSome result (SpellsShown self.now index) }
+        ensures none { IfNone result (ShowsNone self.now index) }
+    {
         spelled(&self.shown_block(index))
     }
 }

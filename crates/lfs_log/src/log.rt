@@ -1,5 +1,5 @@
 //! The log of a volume, over its device.
-ghost use Rattle.std.specs.Prelude.{[], ◌≡◌, ◌≢◌, ◌⊎◌, ◌<◌, ◌≤◌, ◌+◌, ◌-◌, ◌*◌, ◌^◌, true, false, length, IfSome, IfNone, IfOk, IfErr, OnOk, OnErr, IsErrOf, MatchResult, IsTrue, IsFalse};
+ghost use Rattle.std.specs.Prelude.{[], None, ◌≡◌, ◌≢◌, ◌⊎◌, ◌<◌, ◌≤◌, ◌+◌, ◌-◌, ◌*◌, ◌^◌, true, false, length, IfSome, IfNone, IfOk, IfErr, OnOk, OnErr, IsErrOf, MatchResult, IsTrue, IsFalse};
 ghost use Rattle.lfs_model.specs.Checkpoint.{IsVersion};
 ghost use Rattle.lfs_model.specs.Device.{Only, IsUntouched, Carries, LeavesOnly};
 ghost use Rattle.lfs_model.specs.Fields.{zeros};
@@ -537,7 +537,7 @@ impl<D: SectorDevice> Log<D> {
         if self.halted {
             return Err(LogFault::Halted);
         }
-        self.pointers = None;
+        drop_run(&mut self.pointers);
         match stage_tight(
             &mut self.device,
             &mut self.memory,
@@ -573,7 +573,7 @@ impl<D: SectorDevice> Log<D> {
         if self.halted {
             return Err(LogFault::Halted);
         }
-        self.pointers = None;
+        drop_run(&mut self.pointers);
         let Ok(()) = remove_tight(&mut self.device, &mut self.memory, number, &mut self.counts)
         else {
             return Err(LogFault::Device);
@@ -621,7 +621,7 @@ impl<D: SectorDevice> Log<D> {
         if self.halted {
             return Err(LogFault::Halted);
         }
-        self.pointers = None;
+        drop_run(&mut self.pointers);
         let age = age_after(self.number);
         match write_chunks(&mut self.device, &mut self.memory, age) {
             Ok(()) => Ok(()),
@@ -660,7 +660,7 @@ impl<D: SectorDevice> Log<D> {
         if self.is_full() {
             return Err(LogFault::Full);
         }
-        self.pointers = None;
+        drop_run(&mut self.pointers);
         match save(
             &mut self.device,
             &mut self.memory,
@@ -719,7 +719,7 @@ impl<D: SectorDevice> Log<D> {
         if self.number == u64::MAX || !may_clean(&self.memory, victims) {
             return Err(LogFault::Full);
         }
-        self.pointers = None;
+        drop_run(&mut self.pointers);
         let most = most_of(victims.len());
         match relocate(
             &mut self.device,
@@ -757,5 +757,14 @@ impl<D: TendedDevice> Log<D> {
         ensures reads { Reads D.SectorDevice.state self.old self.new }
     {
         self.device.tend();
+    }
+}
+
+/// Nothing is known of pointers any more. Where nothing was, no byte is cleared for that.
+fn drop_run(kept: &mut Option<PointerRun>)
+    ensures { kept.new ≡ None }
+{
+    if kept.is_some() {
+        *kept = None;
     }
 }

@@ -9,10 +9,6 @@ pub returns-in-Some-clause-written : goal.returns-in-Some-clause-written
 returns-in-Some-clause-written c m t is settled =
     spelled_map c.args.self.now m t is c.args.index c.spelled.result c.requires (returns-in-Some-clause-some c) settled
 
-pub returns-clause-some : goal.returns-clause-some
-returns-clause-some c =
-    spelled_shown c.args.self.now c.args.index c.shown_block.result c.spelled-2.ensures.fits c.shown_block.ensures c.spelled-2.result c.spelled-2.ensures.some c.spelled-2.ensures.shows
-
 pub returns-clause-written : goal.returns-clause-written
 returns-clause-written c m t is settled =
-    spelled_map c.args.self.now m t is c.args.index c.spelled-2.result c.requires (returns-clause-some c) settled
+    spelled_map c.args.self.now m t is c.args.index c.encode_shown.result c.requires c.encode_shown.ensures.some settled
