@@ -5,15 +5,16 @@ use lfs_image::image;
 use lfs_image::looking::read_path;
 use lfs_image::printing::{print, refuse};
 use lfs_image::room::refusal_of;
-use lfs_put::{clean, make_directory, remove, rename, upgrade};
+use lfs_put::{clean, clean_some, make_directory, remove, rename, upgrade};
 use lfs_script::fs::{Fs, FsError};
+use lfs_script::read_u32;
 use std::alloc::Global;
 use std::fs::File;
 use std::io::Write;
 use std::rt::Files;
 use std::time::Clock;
 
-/// A change of a volume. Its paths are words still.
+/// A change of a volume. Its paths and its number are words still.
 #[derive(Clone, Copy)]
 pub enum Change<'a> {
     /// What stands at a path is removed.
@@ -21,8 +22,8 @@ pub enum Change<'a> {
     /// What stands at the first path gets the second.
     Rename(&'a str, &'a str),
     MakeDirectory(&'a str),
-    /// Segments are cleaned.
-    Clean,
+    /// Segments are cleaned, by so many passes at most where a number is given.
+    Clean(Option<&'a str>),
     /// The version of the layout becomes 2.
     Upgrade,
 }
@@ -34,7 +35,7 @@ impl<'a> Change<'a> {
             Change::Remove(path) | Change::Rename(path, _) | Change::MakeDirectory(path) => {
                 Some(path)
             }
-            Change::Clean | Change::Upgrade => None,
+            Change::Clean(_) | Change::Upgrade => None,
         }
     }
 }
@@ -49,7 +50,43 @@ fn paths_of(alloc: Global, change: Change<'_>) -> Result<(Vec<u8>, Vec<u8>), Fau
             let from = read_path(alloc, from)?;
             Ok((from, read_path(alloc, to)?))
         }
-        Change::Clean | Change::Upgrade => Ok((Vec::new(alloc), Vec::new(alloc))),
+        Change::Clean(_) | Change::Upgrade => Ok((Vec::new(alloc), Vec::new(alloc))),
+    }
+}
+
+// The most passes that a change makes of the cleaner, where it is a cleaning that says so.
+fn most_passes(change: Change<'_>) -> Result<Option<u32>, Fault> {
+    match change {
+        Change::Clean(Some(word)) => match read_u32(word.as_bytes()) {
+            Some(most) => Ok(Some(most)),
+            None => Err(Fault::Passes),
+        },
+        Change::Clean(None) | Change::Upgrade => Ok(None),
+        Change::Remove(_) | Change::Rename(..) | Change::MakeDirectory(_) => Ok(None),
+    }
+}
+
+/// What the words of a change say.
+#[derive(Drop)]
+struct Words {
+    /// The bytes of its path, the first of two; none where it has no path.
+    path: Vec<u8>,
+    to: Vec<u8>,
+    most: Option<u32>,
+}
+
+// Reads the words of a change.
+fn read_words(alloc: Global, change: Change<'_>) -> Result<Words, Fault> {
+    let (path, to) = paths_of(alloc, change)?;
+    let most = most_passes(change)?;
+    Ok(Words { path, to, most })
+}
+
+// Cleans a mounted volume, by so many passes at most where a number is given.
+fn clean_by<D: SectorDevice>(fs: &mut Fs<D>, most: Option<u32>) -> Result<(), FsError> {
+    match most {
+        Some(most) => clean_some(fs, most),
+        None => clean(fs),
     }
 }
 
@@ -57,14 +94,13 @@ fn paths_of(alloc: Global, change: Change<'_>) -> Result<(Vec<u8>, Vec<u8>), Fau
 fn change_by<D: SectorDevice>(
     fs: &mut Fs<D>,
     change: Change<'_>,
-    path: &[u8],
-    to: &[u8],
+    words: &Words,
 ) -> Result<(), FsError> {
     match change {
-        Change::Remove(_) => remove(fs, path),
-        Change::Rename(..) => rename(fs, path, to),
-        Change::MakeDirectory(_) => make_directory(fs, path),
-        Change::Clean => clean(fs),
+        Change::Remove(_) => remove(fs, words.path.as_slice()),
+        Change::Rename(..) => rename(fs, words.path.as_slice(), words.to.as_slice()),
+        Change::MakeDirectory(_) => make_directory(fs, words.path.as_slice()),
+        Change::Clean(_) => clean_by(fs, words.most),
         Change::Upgrade => upgrade(fs),
     }
 }
@@ -84,25 +120,25 @@ fn end_change<D: SectorDevice, W: Write>(
     }
 }
 
-// Changes the volume of an image, at paths of these bytes.
+// Changes the volume of an image, by what the words of the change say.
 fn change_in<Here: World, R: Files<File = File> + Clock, W: Write>(
     rt: &R,
     alloc: Global,
     image: &str,
     change: Change<'_>,
-    (path, to): (&[u8], &[u8]),
+    words: &Words,
     output: &mut W,
 ) -> Result<Ending, Fault> {
     match image::mount_to_write::<Here, R>(rt, alloc, image) {
         Ok(mut fs) => {
-            let done = change_by(&mut fs, change, path, to);
+            let done = change_by(&mut fs, change, words);
             end_change(&mut fs, done, output)
         }
         Err(refusal) => refuse(output, refusal),
     }
 }
 
-/// Changes the volume of an image. The spelling of paths comes before the image.
+/// Changes the volume of an image. The spelling of paths and numbers comes before the image.
 pub fn change_volume<Here: World, R: Files<File = File> + Clock, W: Write>(
     rt: &R,
     alloc: Global,
@@ -110,13 +146,6 @@ pub fn change_volume<Here: World, R: Files<File = File> + Clock, W: Write>(
     change: Change<'_>,
     output: &mut W,
 ) -> Result<Ending, Fault> {
-    let (path, to) = paths_of(alloc, change)?;
-    change_in::<Here, R, W>(
-        rt,
-        alloc,
-        image,
-        change,
-        (path.as_slice(), to.as_slice()),
-        output,
-    )
+    let words = read_words(alloc, change)?;
+    change_in::<Here, R, W>(rt, alloc, image, change, &words, output)
 }

@@ -21,6 +21,7 @@ use lfs_image::looking::{end_look, show};
 use lfs_image::printing::{flush, print, put_count, refuse};
 use lfs_image::viewing::look;
 use lfs_image::{image, making};
+use lfs_recover::{explain, recover};
 use lfs_script::{
     Looks, ScriptEnd, StrictEnd, Witness, read_u32, use_and_stop_told, use_volume_told,
 };
@@ -297,6 +298,8 @@ fn act<Here: World, R: Files<File = File> + Clock, I: Read, W: Write>(
             making::mkfs::<Here, R, W>(rt, alloc, image, making, output)
         }
         Action::Look(asked) => look::<Here, R, W>(rt, alloc, image, asked, output),
+        Action::Explain => explain::<Here, R, W>(rt, alloc, image, output),
+        Action::Recover(asked) => recover::<Here, R, W>(rt, alloc, image, asked, output),
         Action::Change(asked) => change_volume::<Here, R, W>(rt, alloc, image, asked, output),
         Action::Run => run::<Here, R, I, W>(rt, alloc, image, input, output),
         Action::Put(source) => put_into::<Here, R, I, W>(rt, alloc, image, source, input, output),

@@ -24,6 +24,7 @@ pub enum Verb {
     Df,
     Info,
     Export,
+    Recover,
 }
 
 /// How a parameter is given.
@@ -35,6 +36,8 @@ enum Form<'a> {
     OptionalWord,
     /// An option with a value, which has to be given.
     Value,
+    /// An option with a value, which may be left out.
+    OptionalValue,
     /// An option with one of these values, which has to be given.
     Choice(&'a [&'a str]),
     /// An option with one of these values, which may be left out.
@@ -43,6 +46,8 @@ enum Form<'a> {
     Switch,
     /// An option without a value that has a letter too, and isn't given beside another one.
     Letter(char, &'a str),
+    /// An option without a value that has a letter too.
+    Lettered(char),
 }
 
 /// A parameter of a command.
@@ -81,6 +86,8 @@ pub const TO: &str = "TO";
 
 pub const SEGMENTS: &str = "segments";
 
+pub const PASSES: &str = "passes";
+
 pub const FORMAT: &str = "format";
 
 pub const FIRST_FORMAT: &str = "1";
@@ -100,6 +107,13 @@ pub const NULL: &str = "null";
 pub const STOP: &str = "stop";
 
 pub const LEFT: &str = "left";
+
+pub const VERBOSE: &str = "verbose";
+
+pub const CHECKPOINT: &str = "checkpoint";
+
+/// The word of the checkpoint before the newest.
+pub const OLDER: &str = "older";
 
 /// The words of the versions of the layout.
 const FORMATS: &[&str] = &[FIRST_FORMAT, SECOND_FORMAT];
@@ -185,6 +199,13 @@ const THE_SEGMENTS: Parameter = Parameter {
     help: "How many segments of 32 KiB: 64 to 1024, a multiple of 8",
 };
 
+const THE_PASSES: Parameter = Parameter {
+    name: PASSES,
+    form: Form::OptionalValue,
+    value: "N",
+    help: "How many passes of the cleaner are made at most",
+};
+
 const THE_FORMAT: Parameter = Parameter {
     name: FORMAT,
     form: Form::OptionalChoice(FORMATS),
@@ -227,7 +248,21 @@ const WHAT_IS_LEFT: Parameter = Parameter {
     help: "What stays of sectors that aren't synced",
 };
 
-const USAGES: &[Usage] = &[
+const IN_WORDS: Parameter = Parameter {
+    name: VERBOSE,
+    form: Form::Lettered('v'),
+    value: "",
+    help: "Say in words where the volume is damaged, and what else is odd",
+};
+
+const WHICH_CHECKPOINT: Parameter = Parameter {
+    name: CHECKPOINT,
+    form: Form::OptionalChoice(&[OLDER]),
+    value: "WHICH",
+    help: "Begin with the checkpoint before the newest",
+};
+
+const VOLUME_USAGES: &[Usage] = &[
     Usage {
         verb: Verb::Mkfs,
         name: "mkfs",
@@ -244,8 +279,10 @@ const USAGES: &[Usage] = &[
         about: "Check the whole volume, and print its segments and space",
         details: "Check the whole volume, and print `ok N DATA META NEED LIMIT`: its segments, the\n\
             blocks of data of its files, their inodes and blocks of pointers, the blocks\n\
-            that the tree needs, and the most that it may need.",
-        parameters: &[THE_IMAGE],
+            that the tree needs, and the most that it may need. With -v further lines say\n\
+            where a damaged volume fails, and name a slot without a checkpoint and what an\n\
+            unfinished `put` left.",
+        parameters: &[THE_IMAGE, IN_WORDS],
     },
     Usage {
         verb: Verb::Mount,
@@ -299,6 +336,10 @@ const USAGES: &[Usage] = &[
             command ends with status 1 and prints no line with `err`.",
         parameters: &[THE_IMAGE, THE_PATH],
     },
+];
+
+/// Commands that bring files in and out, change them, or tell of the volume.
+const FILE_USAGES: &[Usage] = &[
     Usage {
         verb: Verb::Get,
         name: "get",
@@ -347,8 +388,9 @@ const USAGES: &[Usage] = &[
         name: "clean",
         about: "Clean segments until a quarter of them is clean",
         details: "Clean segments until a quarter of them is clean, and print `ok`. The tree stays\n\
-            as it is, and so does the space that is free.",
-        parameters: &[THE_IMAGE],
+            as it is, and so does the space that is free. With --passes a smaller part of the\n\
+            segments may be clean at the end.",
+        parameters: &[THE_IMAGE, THE_PASSES],
     },
     Usage {
         verb: Verb::Upgrade,
@@ -387,6 +429,17 @@ const USAGES: &[Usage] = &[
             `omitted` names it, and the status is 1.",
         parameters: &[THE_IMAGE, TO_FOLDER],
     },
+    Usage {
+        verb: Verb::Recover,
+        name: "recover",
+        about: "Copy what a damaged volume still holds",
+        details: "Copy what a damaged volume still holds into a new folder of the host.\n\
+            Nothing is written to the volume. A line `part` names a file that lacks blocks,\n\
+            with a line for each behind it. What no name leads to goes to `lost+found`\n\
+            under its number. The last line has how many files are whole, and how many are\n\
+            there in part.",
+        parameters: &[THE_IMAGE, TO_FOLDER, WHICH_CHECKPOINT],
+    },
 ];
 
 fn argument<'a>(alloc: Global, parameter: Parameter<'a>) -> Result<Arg<'a>, AllocError> {
@@ -399,6 +452,12 @@ fn argument<'a>(alloc: Global, parameter: Parameter<'a>) -> Result<Arg<'a>, Allo
                 .long(parameter.name)
                 .value_name(parameter.value)
                 .required(true)
+                .action(ArgAction::Set),
+        ),
+        Form::OptionalValue => Ok(
+            argument
+                .long(parameter.name)
+                .value_name(parameter.value)
                 .action(ArgAction::Set),
         ),
         Form::Choice(values) => Ok(
@@ -422,6 +481,12 @@ fn argument<'a>(alloc: Global, parameter: Parameter<'a>) -> Result<Arg<'a>, Allo
             .long(parameter.name)
             .action(ArgAction::SetTrue)
             .conflicts_with(other),
+        Form::Lettered(letter) => Ok(
+            argument
+                .short(letter)
+                .long(parameter.name)
+                .action(ArgAction::SetTrue),
+        ),
     }
 }
 
@@ -435,21 +500,49 @@ fn subcommand<'a>(alloc: Global, usage: Usage<'a>) -> Result<Command<'a>, AllocE
     Ok(command)
 }
 
-/// The program's command line. Values are taken as words, and read afterwards.
-pub fn program<'a>(alloc: Global) -> Result<Command<'a>, AllocError> {
-    let mut program = Command::new(alloc, "lfs")
-        .version(VERSION)
-        .about(ABOUT)
-        .subcommand_required(true);
-    for usage in USAGES {
+// The program with these commands too.
+fn with_usages<'a>(
+    alloc: Global,
+    mut program: Command<'a>,
+    usages: &'a [Usage<'a>],
+) -> Result<Command<'a>, AllocError> {
+    for usage in usages {
         program = program.subcommand(subcommand(alloc, *usage)?)?;
     }
     Ok(program)
 }
 
+/// The program's command line. Values are taken as words, and read afterwards.
+pub fn program<'a>(alloc: Global) -> Result<Command<'a>, AllocError> {
+    let program = Command::new(alloc, "lfs")
+        .version(VERSION)
+        .about(ABOUT)
+        .subcommand_required(true);
+    let program = with_usages(alloc, program, VOLUME_USAGES)?;
+    with_usages(alloc, program, FILE_USAGES)
+}
+
 /// The command of a name.
 pub fn verb_of(name: &str) -> Option<Verb> {
-    for usage in USAGES {
+    match volume_verb(name) {
+        Some(verb) => Some(verb),
+        None => file_verb(name),
+    }
+}
+
+// Each half of the table is looked through by a function of its own: as one constant it is too large
+// for the prover.
+fn volume_verb(name: &str) -> Option<Verb> {
+    verb_in(VOLUME_USAGES, name)
+}
+
+fn file_verb(name: &str) -> Option<Verb> {
+    verb_in(FILE_USAGES, name)
+}
+
+// The command of a name among these.
+fn verb_in(usages: &[Usage], name: &str) -> Option<Verb> {
+    for usage in usages {
         if usage.name == name {
             return Some(usage.verb);
         }

@@ -5,8 +5,9 @@ ghost use Rattle.lfs_command.specs.Asking.{HasWord, IsStrict};
 
 use crate::changing::Change;
 use crate::grammar::{
-    FILE, FIRST_FORMAT, FOLDER, FORCE, FORMAT, FROM, IMAGE, LEFT, LONG, NULL, PATH, RESERVE,
-    SECOND_FORMAT, SEGMENTS, STOP, STRICT, TO, Verb, program, verb_of,
+    CHECKPOINT, FILE, FIRST_FORMAT, FOLDER, FORCE, FORMAT, FROM, IMAGE, LEFT, LONG, NULL, OLDER,
+    PASSES, PATH, RESERVE, SECOND_FORMAT, SEGMENTS, STOP, STRICT, TO, VERBOSE, Verb, program,
+    verb_of,
 };
 use crate::putting::Source;
 use clap::error::ErrorKind;
@@ -15,6 +16,7 @@ use lfs_device::Left;
 use lfs_image::fault::Fault;
 use lfs_image::listing::Style;
 use lfs_image::looking::Look;
+use lfs_recover::Recovery;
 use std::alloc::{AllocError, Global};
 
 /// The path that is listed where none is given.
@@ -31,6 +33,9 @@ pub enum Action<'a> {
         reserve: bool,
     },
     Look(Look<'a>),
+    /// The volume is checked, and where it is damaged is told in words.
+    Explain,
+    Recover(Recovery<'a>),
     Change(Change<'a>),
     Run,
     Put(Source<'a>),
@@ -43,6 +48,7 @@ impl<'a> Action<'a> {
             Action::Look(look) => look.path(),
             Action::Put(source) => Some(source.path),
             Action::Change(change) => change.path(),
+            Action::Explain | Action::Recover(_) => None,
             Action::Mkfs { .. } | Action::Run => None,
         }
     }
@@ -155,23 +161,39 @@ fn read_put<'a>(found: &ArgMatches<'a>) -> Option<Action<'a>> {
     }))
 }
 
+fn read_check<'a>(found: &ArgMatches<'a>) -> Action<'a> {
+    if found.get_flag(VERBOSE) {
+        Action::Explain
+    } else {
+        Action::Look(Look::Check)
+    }
+}
+
+fn read_recover<'a>(found: &ArgMatches<'a>) -> Option<Action<'a>> {
+    Some(Action::Recover(Recovery {
+        folder: found.get_str(FOLDER)?,
+        older: found.get_str(CHECKPOINT) == Some(OLDER),
+    }))
+}
+
 fn asked<'a>(verb: Verb, found: &ArgMatches<'a>) -> Option<Request<'a>> {
     match verb {
         Verb::Mkfs => on_image(read_mkfs(found), found),
         Verb::Mount => looks(Look::Mount, found),
-        Verb::Check => looks(Look::Check, found),
+        Verb::Check => on_image(Some(read_check(found)), found),
         Verb::Tree => looks(Look::Tree(path_or_root(found)), found),
         Verb::Ls => looks(Look::List(path_or_root(found), style_of(found)), found),
         Verb::Cat => looks(Look::Cat(found.get_str(PATH)?), found),
         Verb::Get => looks(read_get(found)?, found),
         Verb::Export => looks(Look::Export(found.get_str(FOLDER)?), found),
+        Verb::Recover => on_image(read_recover(found), found),
         Verb::Put => on_image(read_put(found), found),
         Verb::Info => looks(Look::Info, found),
         Verb::Df => looks(Look::Free, found),
         Verb::Rm => changes(Some(Change::Remove(found.get_str(PATH)?)), found),
         Verb::Mv => changes(read_rename(found), found),
         Verb::Mkdir => changes(Some(Change::MakeDirectory(found.get_str(PATH)?)), found),
-        Verb::Clean => changes(Some(Change::Clean), found),
+        Verb::Clean => changes(Some(Change::Clean(found.get_str(PASSES))), found),
         Verb::Upgrade => changes(Some(Change::Upgrade), found),
         Verb::Run if found.get_flag(STRICT) => Some(Request::Strict {
             image: found.get_str(IMAGE)?,

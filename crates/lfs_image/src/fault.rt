@@ -62,6 +62,8 @@ pub enum Refusal {
     Mount(MountFault),
     /// It isn't mounted, and neither of its first two sectors begins as a checkpoint does.
     Foreign(MountFault),
+    /// It has one checkpoint, and the other one is asked for.
+    NoOlder,
     /// It is shorter than its volume, of so many segments.
     Cut(u32),
     Call(FsError),
@@ -80,6 +82,7 @@ impl Refusal {
             Refusal::Format(fault) => fault.name(),
             Refusal::Damaged(_) => "Damaged",
             Refusal::Mount(fault) | Refusal::Foreign(fault) => fault.name(),
+            Refusal::NoOlder => MountFault::NoCheckpoint.name(),
             Refusal::Cut(_) => MountFault::TooSmall.name(),
             Refusal::Call(fault) => fault.name(),
             Refusal::Full(_) => FsError::NoSpace.name(),
@@ -122,6 +125,7 @@ impl Refusal {
             Refusal::Damaged(code) => reason::of_damage(code),
             Refusal::Mount(fault) => reason::of_mount(fault),
             Refusal::Foreign(_) => reason::FOREIGN,
+            Refusal::NoOlder => reason::NO_OLDER,
             Refusal::Cut(_) => reason::of_mount(MountFault::TooSmall),
             Refusal::Call(fault) => reason::of_call(fault),
             Refusal::Full(_) => reason::of_call(FsError::NoSpace),
@@ -163,6 +167,8 @@ pub enum Ending {
     DoneBeside,
     /// The work is done but for what the host can't have, which was told.
     Partial,
+    /// What a volume still holds is copied. Something is missing or has another name, which was told.
+    InPart,
     Refused(Refusal),
     /// The script's line of this number, counted from 1, is bad.
     BadLine(u64),
@@ -175,7 +181,7 @@ impl Ending {
     {
         match self {
             Ending::Done | Ending::DoneBeside => 0,
-            Ending::Partial | Ending::Refused(_) => 1,
+            Ending::Partial | Ending::InPart | Ending::Refused(_) => 1,
             Ending::BadLine(_) => 2,
         }
     }
@@ -264,6 +270,7 @@ impl Display for Ending {
             Ending::Done => f.write_str("done"),
             Ending::DoneBeside => f.write_str(reason::BESIDE),
             Ending::Partial => f.write_str(reason::PARTIAL),
+            Ending::InPart => f.write_str(reason::IN_PART),
             Ending::Refused(Refusal::Cut(segments)) => {
                 write!(f, "it is cut: its checkpoint names {segments} segments")
             }
@@ -305,6 +312,8 @@ pub enum Fault {
     Segments,
     #[error("lfs: the write to stop at is no decimal number below 2^64 without leading zeros")]
     Stop,
+    #[error("lfs: the number of passes is no decimal number below 2^32 without leading zeros")]
+    Passes,
     #[error("lfs: PATH is no word of the script language, whose escapes are a backslash and two digits")]
     Path,
     /// A block device is mounted on a folder.
@@ -327,7 +336,8 @@ impl Fault {
         ensures { (result ≡ 1) ⊎ (result ≡ 2) }
     {
         match self {
-            Fault::Line(_) | Fault::Segments | Fault::Stop | Fault::Path => 2,
+            Fault::Line(_) | Fault::Segments | Fault::Stop => 2,
+            Fault::Passes | Fault::Path => 2,
             Fault::Mounted { .. } | Fault::Host { .. } => 1,
             Fault::Input | Fault::Output | Fault::Memory(_) => 1,
         }

@@ -1,4 +1,6 @@
 //! Why a device isn't mounted, as far as its first two sectors tell more than the mount's fault.
+ghost use Rattle.std.specs.Prelude.{◌≡◌};
+
 use crate::fault::Refusal;
 use lfs_device::SectorDevice;
 use lfs_layout::Checkpoint;
@@ -21,7 +23,9 @@ enum Slot {
     Whole(u32),
 }
 
-fn slot_of<D: SectorDevice>(device: &mut D, sector: u32) -> Slot {
+fn slot_of<D: SectorDevice>(device: &mut D, sector: u32) -> Slot
+    ensures { (D.state device.new).told ≡ (D.state device.old).told }
+{
     let mut bytes = [0; 512];
     if sector >= device.sectors() || device.read(sector, &mut bytes).is_err() {
         return Slot::Other;
@@ -42,7 +46,9 @@ fn of_whole(fault: MountFault, segments: u32) -> Refusal {
 }
 
 /// The refusal of a device that isn't mounted for this fault.
-pub fn explained<D: SectorDevice>(fault: MountFault, device: &mut D) -> Refusal {
+pub fn explained<D: SectorDevice>(fault: MountFault, device: &mut D) -> Refusal
+    ensures { (D.state device.new).told ≡ (D.state device.old).told }
+{
     match fault {
         MountFault::NoCheckpoint => of_slots(fault, device),
         MountFault::TooSmall => of_slots(fault, device),
@@ -51,7 +57,9 @@ pub fn explained<D: SectorDevice>(fault: MountFault, device: &mut D) -> Refusal 
 }
 
 // The same, by what the slots of the checkpoint show.
-fn of_slots<D: SectorDevice>(fault: MountFault, device: &mut D) -> Refusal {
+fn of_slots<D: SectorDevice>(fault: MountFault, device: &mut D) -> Refusal
+    ensures { (D.state device.new).told ≡ (D.state device.old).told }
+{
     let mut is_foreign = true;
     for sector in 0..SLOTS {
         match slot_of(device, sector) {

@@ -73,8 +73,8 @@ impl Display for HostFault {
     }
 }
 
-// What became of something that was to be made.
-fn made<T: Drop>(done: io::Result<T>) -> Result<T, HostFault> {
+/// What became of something that was to be made or written.
+pub fn made<T: Drop>(done: io::Result<T>) -> Result<T, HostFault> {
     match done {
         Ok(made) => Ok(made),
         Err(error) => Err(HostFault::of(error.kind(), HostFault::Unwritten)),

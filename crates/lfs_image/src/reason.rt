@@ -19,6 +19,13 @@ pub const BESIDE: &str = "another program writes it, so what was printed may be 
 /// Of an export that leaves out what the host can't have.
 pub const PARTIAL: &str = "what the host can't have was left out, and is named on standard output";
 
+/// Of a volume that has one checkpoint alone, where the one before it is asked for.
+pub const NO_OLDER: &str = "its other checkpoint slot holds no checkpoint";
+
+/// Of a recovery that isn't whole.
+pub const IN_PART: &str =
+    "what is missing, or isn't under its own name, is named on standard output";
+
 /// Of an image that isn't used.
 pub fn of_image(fault: ImageFault) -> &'static str {
     match fault {

@@ -878,6 +878,126 @@ fn damaged_images(rt: HostRuntime) {
     want(&rt, DAMAGED);
 }
 
+// The file comes out of the image with one byte, whatever of it is damaged: without its block, without
+// its name, and without the directory that has its name.
+const RECOVERED: &[Step] = &[
+    Step::Change("r.img", 0, &[]),
+    Step::Change("r.img", LEN, NEW),
+    Step::Change("r.img", LEN, ONE_BYTE),
+    Step::Change("r.want", 1, &[(0, 0, b"a")]),
+    Step::Says(&["lfs check -v r.img"], b"", 0, FILE_SPACE),
+    Step::Says(
+        &["lfs recover r.img r.whole"],
+        b"",
+        0,
+        Said::Reply(b"ok 1 files whole, 0 in part\n"),
+    ),
+    Step::Same("r.whole/f", "r.want"),
+    Step::Says(
+        &["lfs recover r.img r.whole"],
+        b"",
+        1,
+        Said::Tells(
+            b"",
+            b"lfs: r.whole: it is there already; nothing was written over\n",
+        ),
+    ),
+    Step::Says(
+        &["lfs recover --checkpoint older r.img r.older"],
+        b"",
+        1,
+        Said::Tells(
+            b"err NoCheckpoint\n",
+            b"lfs: r.img: its other checkpoint slot holds no checkpoint\n",
+        ),
+    ),
+    Step::Change("r.img", LEN, &[(7, 32, &[0xff, 0xff])]),
+    Step::Says(
+        &["lfs check -v r.img"],
+        b"",
+        1,
+        Said::Reply(b"err Damaged 7\nstage 7: first at inode 2, block 0, sector 65535, path /f\n"),
+    ),
+    Step::Says(
+        &["lfs recover r.img r.part"],
+        b"",
+        1,
+        Said::Tells(
+            b"part /f\n  block 0 sector 65535\nok 0 files whole, 1 in part\n",
+            b"lfs: r.img: what is missing, or isn't under its own name, is named on standard output\n",
+        ),
+    ),
+    Step::Change("r.img", LEN, &[(7, 32, &[8, 0]), (6, 4, &[0])]),
+    Step::Says(
+        &["lfs check -v r.img"],
+        b"",
+        1,
+        Said::Reply(b"err Damaged 10\nstage 10: first at inode 1, slot 0, sector 6, path /\n"),
+    ),
+    Step::Says(
+        &["lfs recover r.img r.slot"],
+        b"",
+        1,
+        Said::Reply(
+            b"part /\n  slot 0 sector 6\nfound /lost+found/2\nok 1 files whole, 0 in part\n",
+        ),
+    ),
+    Step::Same("r.slot/lost+found/2", "r.want"),
+    Step::Change("r.img", LEN, &[(6, 4, &[1]), (3, 0, &[9]), (0, 0, b"torn")]),
+    Step::Says(
+        &["lfs check -v r.img"],
+        b"",
+        1,
+        Said::Reply(
+            b"err Damaged 4\nnote: slot 0 holds no checkpoint: a newer state may be lost\n\
+            stage 4: first at inode 1, sector 3, path /\n",
+        ),
+    ),
+    Step::Says(
+        &["lfs recover r.img r.root"],
+        b"",
+        1,
+        Said::Reply(b"lost / sector 3\nfound /lost+found/2\nok 1 files whole, 0 in part\n"),
+    ),
+    Step::Same("r.root/lost+found/2", "r.want"),
+    Step::Change("r.img", LEN, &[(1, 0, b"s")]),
+    Step::Says(
+        &["lfs recover r.img r.none", "lfs check -v r.img"],
+        b"",
+        1,
+        Said::Reply(b"err NoCheckpoint\n"),
+    ),
+    Step::Lacks("r.none"),
+    // What a put leaves that was stopped.
+    Step::Change("r.img", 0, &[]),
+    Step::Change("r.img", LEN, NEW),
+    Step::Says(
+        &["lfs run r.img"],
+        b"create /.lfs-put\nsync\n",
+        0,
+        Said::Reply(b"ok 0\nok\n"),
+    ),
+    Step::Says(
+        &["lfs check -v r.img"],
+        b"",
+        0,
+        Said::Reply(
+            b"ok 64 1 2 735 3008\nnote: a put was stopped in /: it has an unfinished .lfs-put\n",
+        ),
+    ),
+    Step::Remove("r.img"),
+    Step::Remove("r.want"),
+    Step::RemoveFolder("r.whole"),
+    Step::RemoveFolder("r.part"),
+    Step::RemoveFolder("r.slot"),
+    Step::RemoveFolder("r.root"),
+];
+
+#[test]
+fn damaged_volumes_are_recovered(rt: HostRuntime) {
+    want(&rt, RECOVERED);
+}
+
 const ONE_FILE: &[u8] = b"create /a\nsync\n";
 
 const LINES: &[Step] = &[
@@ -970,6 +1090,9 @@ const LINES: &[Step] = &[
             "lfs get kept.img \\2f new.img",
             "lfs export kept.img",
             "lfs export kept.img new.img /f",
+            "lfs check -v",
+            "lfs recover kept.img",
+            "lfs recover kept.img new.img --checkpoint newest",
             "lfs rm kept.img",
             "lfs rm kept.img \\2f",
             "lfs mv kept.img /f",
@@ -977,6 +1100,11 @@ const LINES: &[Step] = &[
             "lfs mkdir kept.img",
             "lfs mkdir kept.img \\2f",
             "lfs clean kept.img /f",
+            "lfs clean kept.img --passes",
+            "lfs clean kept.img --passes 01",
+            "lfs clean kept.img --passes 4294967296",
+            "lfs clean kept.img --passes 1 --passes 1",
+            "lfs mkdir kept.img /d --passes 1",
             "lfs upgrade",
             "lfs upgrade kept.img /f",
             "lfs upgrade kept.img --format 2",
@@ -1255,7 +1383,16 @@ const CHANGES: &[Step] = &[
     Step::Says(&["lfs mkdir c.img /d"], b"", 0, OK),
     Step::Says(&["lfs put c.img /a"], b"one", 0, Said::Reply(b"ok 3\n")),
     Step::Says(&["lfs mv c.img /a /d/b"], b"", 0, OK),
-    Step::Says(&["lfs clean c.img"], b"", 0, OK),
+    Step::Says(
+        &[
+            "lfs clean c.img",
+            "lfs clean c.img --passes 0",
+            "lfs clean --passes 4294967295 c.img",
+        ],
+        b"",
+        0,
+        OK,
+    ),
     Step::Says(
         &["lfs tree c.img"],
         b"",

@@ -1,0 +1,92 @@
+//! What the blocks of files and links hold, as far as they can be read.
+ghost use Rattle.std.specs.Prelude.{◌≡◌};
+
+use lfs_device::SectorDevice;
+use lfs_image::host::{HostFault, made};
+use lfs_layout::Inode;
+use lfs_salvage::{Blocks, Gap, MOST_STEPS, Piece, Readings};
+use std::alloc::{AllocError, AllocFailed, Global};
+use std::fs::File;
+use std::os::unix::fs::FileExt;
+
+/// The bytes of a block.
+const BLOCK_LEN: u64 = 512;
+
+/// Why the blocks of a file don't come out.
+#[derive(Clone, Copy)]
+pub enum Stop {
+    Memory(AllocError),
+    Host(HostFault),
+}
+
+impl<T: Drop> From<AllocFailed<T>> for Stop {
+    fn from(_failed: AllocFailed<T>) -> Stop {
+        Stop::Memory(AllocError)
+    }
+}
+
+impl From<HostFault> for Stop {
+    fn from(fault: HostFault) -> Stop {
+        Stop::Host(fault)
+    }
+}
+
+// Writes a block at its place in a file of the host.
+fn write_block(file: &File, block: u32, bytes: &[u8; 512]) -> Result<(), HostFault> {
+    made(file.write_all_at(bytes, u64::from(block) * BLOCK_LEN))
+}
+
+/// Copies the blocks of a file into one of the host, which gets its size: what is missing of them.
+///
+/// # Errors
+///
+/// Where memory runs out, or the host's file can't be written.
+pub fn fill<D: SectorDevice>(
+    alloc: Global,
+    device: &mut D,
+    readings: &mut Readings,
+    inode: &Inode,
+    file: &File,
+) -> Result<Vec<Gap>, Stop>
+    ensures { (D.state device.new).told ≡ (D.state device.old).told }
+{
+    let mut gaps = Vec::new(alloc);
+    let mut blocks = Blocks::new(readings, *inode);
+    for _ in 0..MOST_STEPS {
+        match blocks.step(device, readings) {
+            Some(Piece::Nothing) => {}
+            Some(Piece::Block(block, _, bytes)) => write_block(file, block, &bytes)?,
+            Some(Piece::Gap(gap)) => gaps.push(gap)?,
+            None => break,
+        }
+    }
+    made(file.set_len(u64::from(inode.size)))?;
+    Ok(gaps)
+}
+
+/// The text of a link, all of whose addresses stand in its inode. None where a block of it isn't
+/// there.
+///
+/// # Errors
+///
+/// Where memory runs out.
+pub fn text_of<D: SectorDevice>(
+    alloc: Global,
+    device: &mut D,
+    readings: &mut Readings,
+    inode: &Inode,
+) -> Result<Option<Vec<u8>>, AllocError>
+    ensures { (D.state device.new).told ≡ (D.state device.old).told }
+{
+    let mut text = Vec::new(alloc);
+    let mut blocks = Blocks::new(readings, *inode);
+    for _ in 0..MOST_STEPS {
+        match blocks.step(device, readings) {
+            Some(Piece::Block(_, _, bytes)) => text.extend_from_slice(&bytes)?,
+            Some(Piece::Nothing | Piece::Gap(_)) => return Ok(None),
+            None => break,
+        }
+    }
+    text.truncate(inode.size as usize);
+    Ok(Some(text))
+}

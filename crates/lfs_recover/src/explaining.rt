@@ -1,0 +1,115 @@
+//! The command that checks a volume, and says in words where it is damaged.
+ghost use Rattle.std.specs.Prelude.{◌≡◌};
+
+use crate::wording::{put_damage, put_slot, put_unfinished};
+use lfs_device::{SectorDevice, World};
+use lfs_image::fault::{Ending, Fault, Refusal};
+use lfs_image::image::open_to_look;
+use lfs_image::looking::Look;
+use lfs_image::printing::flush;
+use lfs_image::viewing::look;
+use lfs_layout::Checkpoint;
+use lfs_put::UNFINISHED;
+use lfs_salvage::{Damage, Slot, find_damage, read_addresses, read_paths, read_slots};
+use std::alloc::{AllocError, Global};
+use std::fs::File;
+use std::io::Write;
+use std::rt::Files;
+
+// Where the volume is damaged, if the stage that fails here has the code that the mount answered.
+fn damage_of<D: SectorDevice>(
+    alloc: Global,
+    device: &mut D,
+    checkpoint: &Checkpoint,
+    code: u8,
+) -> Result<Option<Damage>, AllocError>
+    ensures { (D.state device.new).told ≡ (D.state device.old).told }
+{
+    if code == 0 {
+        return Ok(None);
+    }
+    match find_damage(alloc, device, checkpoint)? {
+        Some(damage) if damage.stage == code => Ok(Some(damage)),
+        _ => Ok(None),
+    }
+}
+
+// Says where a volume is damaged, and what unfinished files it has.
+fn put_places<D: SectorDevice, W: Write>(
+    alloc: Global,
+    device: &mut D,
+    checkpoint: &Checkpoint,
+    code: u8,
+    output: &mut W,
+) -> Result<(), Fault>
+    ensures { (D.state device.new).told ≡ (D.state device.old).told }
+{
+    let damage = damage_of(alloc, device, checkpoint, code)?;
+    let addresses = read_addresses(alloc, device, checkpoint)?;
+    let paths = read_paths(alloc, device, &addresses, checkpoint.segments, UNFINISHED)?;
+    if let Some(damage) = damage {
+        match paths.path_of(alloc, damage.number)? {
+            Some(path) => put_damage(output, damage, Some(path.as_slice()))?,
+            None => put_damage(output, damage, None)?,
+        }
+    }
+    for directory in paths.holders() {
+        if let Some(path) = paths.path_of(alloc, *directory)? {
+            put_unfinished(output, path.as_slice())?;
+        }
+    }
+    Ok(())
+}
+
+// Says what there is to say of a volume whose mount answered this code, or 0.
+fn explain_device<D: SectorDevice, W: Write>(
+    alloc: Global,
+    device: &mut D,
+    code: u8,
+    output: &mut W,
+) -> Result<(), Fault>
+    ensures { (D.state device.new).told ≡ (D.state device.old).told }
+{
+    let slots = read_slots(device);
+    let Some(checkpoint) = slots.newest() else {
+        return Ok(());
+    };
+    let (sector, slot) = slots.other();
+    match slot {
+        Slot::Other => put_slot(output, sector)?,
+        Slot::Empty if checkpoint.number > 1 => put_slot(output, sector)?,
+        Slot::Empty | Slot::Whole(_) => {}
+    }
+    put_places(alloc, device, &checkpoint, code, output)?;
+    flush(output)
+}
+
+// The code that a check answered, 0 where the volume was mounted. None where there is nothing to say.
+fn code_of(ending: Ending) -> Option<u8> {
+    match ending {
+        Ending::Done => Some(0),
+        Ending::Refused(Refusal::Damaged(code)) => Some(code),
+        _ => None,
+    }
+}
+
+/// Checks the volume of an image as `check` does, and then says in words where it is damaged, which
+/// slot holds no checkpoint, and where a file is that was put and isn't whole.
+pub fn explain<Here: World, R: Files<File = File>, W: Write>(
+    rt: &R,
+    alloc: Global,
+    image: &str,
+    output: &mut W,
+) -> Result<Ending, Fault> {
+    let ending = look::<Here, R, W>(rt, alloc, image, Look::Check, output)?;
+    let Some(code) = code_of(ending) else {
+        return Ok(ending);
+    };
+    match open_to_look::<Here, R>(rt, image) {
+        Ok((mut device, _)) => {
+            explain_device(alloc, &mut device, code, output)?;
+            Ok(ending)
+        }
+        Err(_) => Ok(ending),
+    }
+}

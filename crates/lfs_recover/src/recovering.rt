@@ -1,0 +1,117 @@
+//! The command that copies what a damaged volume still holds.
+ghost use Rattle.std.specs.Prelude.{◌≡◌};
+
+use crate::rescue::Rescue;
+use crate::telling::tell_map;
+use lfs_device::{SectorDevice, World};
+use lfs_image::fault::{Ending, Fault, ImageFault, Refusal};
+use lfs_image::foreign::explained;
+use lfs_image::host;
+use lfs_image::image::{Beside, open_to_look};
+use lfs_image::printing::{flush, print, put_count, refuse};
+use lfs_layout::Checkpoint;
+use lfs_salvage::read_slots;
+use lfs_script::fs::MountFault;
+use std::alloc::Global;
+use std::fs::File;
+use std::io::Write;
+use std::rt::Files;
+
+/// What a recovery is to do.
+#[derive(Clone, Copy)]
+pub struct Recovery<'a> {
+    /// The folder of the host that is made.
+    pub folder: &'a str,
+    /// It begins with the checkpoint before the newest.
+    pub older: bool,
+}
+
+// The checkpoint that a recovery begins with.
+fn chosen<D: SectorDevice>(device: &mut D, older: bool) -> Result<Checkpoint, Refusal>
+    ensures { (D.state device.new).told ≡ (D.state device.old).told }
+{
+    let slots = read_slots(device);
+    let Some(newest) = slots.newest() else {
+        return Err(explained(MountFault::NoCheckpoint, device));
+    };
+    if !older {
+        return Ok(newest);
+    }
+    match slots.older() {
+        Some(checkpoint) => Ok(checkpoint),
+        None => Err(Refusal::NoOlder),
+    }
+}
+
+// Brings out all, and tells how much that is.
+fn take_all<D: SectorDevice, R: Files<File = File>, W: Write>(
+    rt: &R,
+    alloc: Global,
+    device: &mut D,
+    rescue: &mut Rescue<'_>,
+    output: &mut W,
+) -> Result<Ending, Fault>
+    ensures { (D.state device.new).told ≡ (D.state device.old).told }
+{
+    for (block, sector) in rescue.gaps() {
+        tell_map(output, *block, *sector)?;
+    }
+    rescue.is_lacking = !rescue.gaps().is_empty();
+    rescue.take_all(rt, alloc, device, output)?;
+    put_count(output, b"ok ", rescue.whole)?;
+    put_count(output, b" files whole, ", rescue.in_part)?;
+    print(output, " in part\n")?;
+    if rescue.is_lacking {
+        Ok(Ending::InPart)
+    } else {
+        Ok(Ending::Done)
+    }
+}
+
+// Brings out what a checkpoint leads to.
+fn recover_from<D: SectorDevice, R: Files<File = File>, W: Write>(
+    rt: &R,
+    alloc: Global,
+    device: &mut D,
+    checkpoint: &Checkpoint,
+    folder: &str,
+    output: &mut W,
+) -> Result<Ending, Fault>
+    ensures { (D.state device.new).told ≡ (D.state device.old).told }
+{
+    let mut rescue = Rescue::new(alloc, device, checkpoint, folder)?;
+    if let Err(fault) = host::make_folder(rt, folder) {
+        return Err(Fault::of_host(alloc, folder, fault));
+    }
+    match take_all(rt, alloc, device, &mut rescue, output) {
+        Ok(ending) => Ok(ending),
+        Err(fault) => {
+            flush(output)?;
+            Err(fault)
+        }
+    }
+}
+
+/// Copies what the volume of an image still holds into a new folder of the host. It writes nothing
+/// to the image, mounts nothing, and goes round what can't be read.
+pub fn recover<Here: World, R: Files<File = File>, W: Write>(
+    rt: &R,
+    alloc: Global,
+    image: &str,
+    recovery: Recovery<'_>,
+    output: &mut W,
+) -> Result<Ending, Fault> {
+    let (mut device, beside) = match open_to_look::<Here, R>(rt, image) {
+        Ok(opened) => opened,
+        Err(fault) => return refuse(output, Refusal::Image(fault)),
+    };
+    if beside == Beside::Writer {
+        return refuse(output, Refusal::Image(ImageFault::Unsteady));
+    }
+    match chosen(&mut device, recovery.older) {
+        Ok(checkpoint) => {
+            recover_from(rt, alloc, &mut device, &checkpoint, recovery.folder, output)
+        }
+        Err(refusal) => refuse(output, refusal),
+    }
+}

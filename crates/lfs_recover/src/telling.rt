@@ -1,0 +1,82 @@
+//! What is told of a recovery, a line for each thing.
+use lfs_image::fault::Fault;
+use lfs_image::printing::{put, put_count, put_word};
+use lfs_salvage::{Gap, Place};
+use std::io::Write;
+
+/// Writes the path of an object, that of the root as a slash.
+pub fn put_path<W: Write>(output: &mut W, path: &[u8]) -> Result<(), Fault> {
+    if path.is_empty() {
+        put(output, b"/")
+    } else {
+        put_word(output, path)
+    }
+}
+
+/// Writes a line of a word and a path.
+pub fn tell_path<W: Write>(output: &mut W, word: &[u8], path: &[u8]) -> Result<(), Fault> {
+    put(output, word)?;
+    put_path(output, path)?;
+    put(output, b"\n")
+}
+
+/// Writes that what has a path was put to another one.
+pub fn tell_moved<W: Write>(output: &mut W, path: &[u8], place: &[u8]) -> Result<(), Fault> {
+    put(output, b"moved ")?;
+    put_path(output, path)?;
+    put(output, b" ")?;
+    put_path(output, place)?;
+    put(output, b"\n")
+}
+
+/// Writes that an entry leads to no inode. The sector is 0 where no sector is known for it.
+pub fn tell_lost<W: Write>(output: &mut W, path: &[u8], sector: u32) -> Result<(), Fault> {
+    put(output, b"lost ")?;
+    put_path(output, path)?;
+    if sector != 0 {
+        put_count(output, b" sector ", u64::from(sector))?;
+    }
+    put(output, b"\n")
+}
+
+/// Writes that the inodes of a block of the map can't be found.
+pub fn tell_map<W: Write>(output: &mut W, block: u32, sector: u32) -> Result<(), Fault> {
+    let first = u64::from(block) * 128;
+    put_count(output, b"lost numbers ", first)?;
+    put_count(output, b" to ", first + 127)?;
+    put_count(output, b" sector ", u64::from(sector))?;
+    put(output, b"\n")
+}
+
+/// Writes which blocks are missing.
+pub fn tell_gap<W: Write>(output: &mut W, gap: Gap) -> Result<(), Fault> {
+    let first = u64::from(gap.first);
+    if gap.count > 1 {
+        put_count(output, b"  blocks ", first)?;
+        let last = first + u64::from(gap.count) - 1;
+        put_count(output, b" to ", last)?;
+    } else {
+        put_count(output, b"  block ", first)?;
+    }
+    put_count(output, b" sector ", u64::from(gap.sector))?;
+    put(output, b"\n")
+}
+
+/// Writes that the object of a path is there in part, and which blocks are missing.
+pub fn tell_gaps<W: Write>(output: &mut W, path: &[u8], gaps: &[Gap]) -> Result<(), Fault> {
+    tell_path(output, b"part ", path)?;
+    for gap in gaps {
+        tell_gap(output, *gap)?;
+    }
+    Ok(())
+}
+
+/// Writes which slots of a directory can't be read.
+pub fn tell_strays<W: Write>(output: &mut W, places: &[Place]) -> Result<(), Fault> {
+    for place in places {
+        put_count(output, b"  slot ", u64::from(place.slot))?;
+        put_count(output, b" sector ", u64::from(place.sector))?;
+        put(output, b"\n")?;
+    }
+    Ok(())
+}

@@ -1,0 +1,6 @@
+use Rattle.std.proofs.Common.{◌≡◌}
+use Rattle.lfs_salvage.proofs.log_stages.take_segment.Given as goal
+
+abbrev pub invariant-loop : goal.invariant-loop
+invariant-loop g l =
+    (g.D.SectorDevice.state l.device).told ≡ (g.D.SectorDevice.state l.initial.device).told

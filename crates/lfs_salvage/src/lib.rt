@@ -1,0 +1,28 @@
+//! What a damaged volume still holds, and where it is damaged: walks over any image, by the layout
+//! of its sectors alone.
+#![tactic(auto)]
+
+mod addresses;
+mod blocks;
+mod checking;
+mod count_stages;
+mod damage;
+mod directory;
+mod file_stages;
+mod log_stages;
+mod name_stages;
+mod paths;
+mod readings;
+mod slots;
+mod survey;
+mod walk;
+
+pub use addresses::{Addresses, Object, read_addresses};
+pub use blocks::{Blocks, Gap, MOST_STEPS, Piece};
+pub use checking::find_damage;
+pub use damage::{Damage, Part};
+pub use directory::{Entry, Listing, Place, list};
+pub use paths::{Paths, read_paths};
+pub use readings::{Readings, read_sector};
+pub use slots::{Slot, Slots, read_slots};
+pub use walk::{MOST_NUMBERS, ROOT, Walk, named_by};

@@ -1,0 +1,117 @@
+//! The two slots of the checkpoint.
+ghost use Rattle.std.specs.Prelude.{◌≡◌, ◌<◌, ◌≤◌, ◌↔◌, ◌⊎◌, IsTrue, IsSome, IfSome};
+ghost use Rattle.lfs_salvage.specs.Slots.{number_in};
+
+use crate::readings::read_sector;
+use lfs_device::SectorDevice;
+use lfs_layout::{Checkpoint, is_zero};
+
+/// What a slot holds.
+#[derive(Clone, Copy)]
+pub enum Slot {
+    Whole(Checkpoint),
+    /// All of its bytes are 0, as before the first checkpoint in it.
+    Empty,
+    /// It can't be read, or holds no checkpoint.
+    Other,
+}
+
+impl Slot {
+    fn checkpoint(&self) -> Option<Checkpoint>
+        ensures found { 0 < number_in self.now → IsSome result }
+        ensures number { IfSome result (λ c. c.number ≡ number_in self.now) }
+    {
+        match self {
+            Slot::Whole(checkpoint) => Some(*checkpoint),
+            Slot::Empty | Slot::Other => None,
+        }
+    }
+
+    // The number of its checkpoint, 0 where it holds none.
+    fn number(&self) -> u64
+        ensures { result ≡ number_in self.now }
+    {
+        match self {
+            Slot::Whole(checkpoint) => checkpoint.number,
+            Slot::Empty | Slot::Other => 0,
+        }
+    }
+}
+
+/// What both slots hold.
+#[derive(Clone, Copy)]
+pub struct Slots {
+    pub first: Slot,
+    pub second: Slot,
+}
+
+// A checkpoint stands in the slot that its number says.
+fn read_slot<D: SectorDevice>(device: &mut D, sector: u32) -> Slot
+    ensures { (D.state device.new).told ≡ (D.state device.old).told }
+{
+    let Some(bytes) = read_sector(device, sector) else {
+        return Slot::Other;
+    };
+    match Checkpoint::decode(&bytes) {
+        Some(checkpoint) if checkpoint.number % 2 == u64::from(sector) => Slot::Whole(checkpoint),
+        None if is_zero(&bytes) => Slot::Empty,
+        _ => Slot::Other,
+    }
+}
+
+/// Reads both slots.
+pub fn read_slots<D: SectorDevice>(device: &mut D) -> Slots
+    ensures { (D.state device.new).told ≡ (D.state device.old).told }
+{
+    Slots {
+        first: read_slot(device, 0),
+        second: read_slot(device, 1),
+    }
+}
+
+impl Slots {
+    // Whether the checkpoint of the first slot is the newest.
+    fn is_first_newest(&self) -> bool
+        ensures { IsTrue result ↔ number_in self.now.second < number_in self.now.first }
+    {
+        self.first.number() > self.second.number()
+    }
+
+    /// The newest checkpoint, with which a mount begins.
+    pub fn newest(&self) -> Option<Checkpoint>
+        ensures first { 0 < number_in self.now.first → IsSome result }
+        ensures second { 0 < number_in self.now.second → IsSome result }
+        ensures greatest { IfSome result (λ c. (number_in self.now.first ≤ c.number)
+            × (number_in self.now.second ≤ c.number)) }
+    {
+        if self.is_first_newest() {
+            self.first.checkpoint()
+        } else {
+            self.second.checkpoint()
+        }
+    }
+
+    /// The other slot, and what it holds.
+    pub fn other(&self) -> (u32, Slot)
+        ensures { (number_in result.1 ≤ number_in self.now.first)
+            × (number_in result.1 ≤ number_in self.now.second)
+            × ((number_in result.1 ≡ number_in self.now.first)
+            ⊎ (number_in result.1 ≡ number_in self.now.second)) }
+    {
+        if self.is_first_newest() {
+            (1, self.second)
+        } else {
+            (0, self.first)
+        }
+    }
+
+    /// The checkpoint before the newest.
+    pub fn older(&self) -> Option<Checkpoint>
+        ensures found { 0 < number_in self.now.first → 0 < number_in self.now.second
+            → IsSome result }
+        ensures least { IfSome result (λ c. (c.number ≤ number_in self.now.first)
+            × (c.number ≤ number_in self.now.second)) }
+    {
+        self.other().1.checkpoint()
+    }
+}
