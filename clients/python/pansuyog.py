@@ -201,7 +201,10 @@ def _cause(errors, reply):
 
 def make(image, segments, lfs=None, format=1, *, library=None):
     """Makes an empty volume in an image file: a multiple of 8 segments of 32 KiB, from 64 to 1,024. An earlier content is gone. A name in it
-    has up to 59 bytes in format 1, and up to 123 in format 2. The library makes it, or else the program whose path is `lfs`."""
+    has up to 59 bytes in format 1, and up to 123 in format 2. The library makes it, or else the program whose path is `lfs`.
+
+    By the library an image that isn't there gets its name once the volume is made and synced: after any stop it is there whole or not at all.
+    Until then it stands beside as IMAGE.lfs-make, and where a `make` is stopped or refused the next one begins that anew."""
     if lfs is None:
         Volume._make(image, segments, format, library)
     else:
@@ -735,6 +738,21 @@ def _write_all(file, data, offset):
         data, offset = data[count:], offset + count
 
 
+# Behind the name of an image that isn't made yet. A stop may leave it, and the next `make` begins it anew.
+_UNMADE = ".lfs-make"
+
+
+def _refuse_made(file, place, path):
+    """Refuses a file that another `make` has given its name meanwhile, and one whose name is taken by now."""
+    try:
+        is_same = os.path.samestat(os.fstat(file), os.stat(place)) and not os.path.exists(path)
+    except OSError:
+        is_same = False
+    if not is_same:
+        os.close(file)
+        raise BlockingIOError(errno.EWOULDBLOCK, "another make was quicker")
+
+
 def _sync_folder(image):
     """Lets the name of a new image stay too, where the file system can."""
     with contextlib.suppress(OSError):
@@ -774,16 +792,25 @@ class Volume(Files):
             raise _refusal("Inval", f"{os.fsdecode(image)}: {_VOLUME_TEXTS['Inval']}")
         if format not in (1, 2):
             raise _refusal("Inval", f"{os.fsdecode(image)}: a volume has format 1 or 2")
+        path = os.path.realpath(os.fsdecode(image))
         with _told_of(image):
-            if os.path.exists(image) and stat.S_ISBLK(_look_up(image)):
+            is_new = not os.path.exists(path)
+            if not is_new and stat.S_ISBLK(_look_up(path)):
                 raise _refused_image(image, "it is a block device: lfs mkfs --force makes a volume on one")
-            file = _opened(image, os.O_CREAT)
+            place = path + _UNMADE if is_new else path
+            file = _opened(place, os.O_CREAT)
+            if is_new:
+                _refuse_made(file, place, path)
         made = cls.__new__(cls)
         made._start(image, functions, file)
         with contextlib.closing(made):
             made._empty(_SECTOR * (2 + 64 * segments))
             made._begin("format", segments, format)
-        _sync_folder(image)
+            if is_new:
+                with _told_of(image):
+                    os.fsync(file)
+                    os.rename(place, path)
+        _sync_folder(path)
 
     def __enter__(self):
         return self

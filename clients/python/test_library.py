@@ -1,4 +1,6 @@
 """Tests of the client over the library: python3 test_library.py LIBRARY. Some need the program too, which LFS of the environment names."""
+import contextlib
+import fcntl
 import glob
 import os
 import random
@@ -12,6 +14,7 @@ from unittest import mock
 
 import building
 import pansuyog
+import stopping
 import test_pansuyog
 from test_pansuyog import HERE, BesideTheProgram, Calls, Files, OnAVolume, Page, Refusals  # noqa: F401, whose tests run here too
 
@@ -181,6 +184,28 @@ class Sessions(OnAVolume):
 DAMAGES = [(5, 8, 1, 1), (2, 0, 4, 2), (1, 32, 5, 3), (4, 4, 0, 3), (3, 16, 1, 4), (3, 32, 5, 7), (2, 8, 2, 8), (5, 2, 2, 9), (3, 8, 3, 13)]
 
 
+class Stop(BaseException):
+    """The process has gone."""
+
+
+def ending(call, left):
+    def made(*arguments):
+        left[0] -= 1
+        if left[0] < 0:
+            raise Stop
+        return call(*arguments)
+
+    return made
+
+
+def noting(call, name, calls):
+    def made(*arguments):
+        calls.append(name)
+        return call(*arguments)
+
+    return made
+
+
 class Devices(OnAVolume):
     def test_a_damaged_volume_tells_its_stage(self):
         for sector, place, byte, stage in DAMAGES:
@@ -201,46 +226,78 @@ class Devices(OnAVolume):
         self.assertRaisesRegex(pansuyog.Image, "neither a regular file", used().mounted, "/dev/null")
         self.assertRaisesRegex(pansuyog.Inval, "format 1 or 2", used().make, self.image, 64, 3)
 
+    def test_a_new_image_is_there_whole_or_not_at_all(self):
+        """At each write, sync, length and rename of `make` in turn all calls fail from there on, as behind a stop."""
+        image, names = f"{self.image}.2", ("ftruncate", "pwrite", "fsync", "rename")
+        for good_calls in range(100):
+            left = [good_calls]
+            with contextlib.ExitStack() as stack:
+                for name in names:
+                    stack.enter_context(mock.patch(f"os.{name}", ending(getattr(os, name), left)))
+                with contextlib.suppress(Stop, pansuyog.Refused):
+                    used().make(image, 64)
+            if os.path.exists(image):
+                break
+            self.assertRaises(pansuyog.Image, used().mounted, image)
+        self.assertGreaterEqual(good_calls, 6)
+        used().mounted(image).close()
+        self.assertFalse(os.path.exists(f"{image}.lfs-make"))
+
+    def test_the_name_comes_behind_all_syncs(self):
+        image, calls = f"{self.image}.2", []
+        with contextlib.ExitStack() as stack:
+            for name in ("pwrite", "fsync", "rename"):
+                stack.enter_context(mock.patch(f"os.{name}", noting(getattr(os, name), name, calls)))
+            used().make(image, 64)
+        self.assertEqual(calls[-3:], ["fsync", "rename", "fsync"])
+
+    def test_one_make_at_a_time(self):
+        image = f"{self.image}.2"
+        with open(f"{image}.lfs-make", "wb") as file:
+            fcntl.flock(file, fcntl.LOCK_EX)
+            self.assertRaisesRegex(pansuyog.Image, "it is in use", used().make, image, 64)
+        used().make(image, 64)
+        with used().mounted(image):
+            self.assertRaisesRegex(pansuyog.Image, "it is in use", used().make, image, 64)
+
     def test_a_sector_that_is_not_needed_need_not_be_read(self):
-        bad = range(10, 4_000)
-        pread = os.pread
-
-        def read(file, length, offset):
-            """Reads up to the first bad sector, as the system does."""
-            sectors = range(offset // 512, (offset + length) // 512)
-            good = next((it for it in sectors if it in bad), sectors.stop) - sectors.start
-            if good == 0:
-                raise OSError("the sector can't be read")
-            return pread(file, 512 * good, offset)
-
-        with mock.patch("os.pread", read):
+        device = stopping.Device(self.image, random)
+        with device.put_between():
+            device.unreadable = set(range(10, 4_000))
             self.mounted().close()
-            bad = [3]
             # The root's inode.
+            device.unreadable = {3}
             self.assertRaisesRegex(pansuyog.Damaged, "stage 4", used().mounted, self.image)
 
     def test_what_was_synced_is_there_where_the_rest_is_lost(self):
-        unsynced = {}
-
-        def write(file, data, offset):
-            for sector in range(offset // 512, (offset + len(data)) // 512):
-                unsynced.setdefault(sector, os.pread(file, 512, 512 * sector))
-            return pwrite(file, data, offset)
-
-        pwrite = os.pwrite
-        with mock.patch("os.pwrite", write), mock.patch("os.fsync", lambda _: unsynced.clear()):
-            with self.mounted() as volume:
-                for number in range(20):
-                    volume.append("/log", b"%04d" % number)
-                lost = volume.create("/lost")
-                for number in range(10):
-                    volume.pwrite(lost, 65_536 * number, b"x" * 65_536)
-                volume.unlink("/log")
-        self.assertTrue(unsynced)
-        with open(self.image, "r+b") as file:
-            for sector, data in unsynced.items():
-                os.pwrite(file.fileno(), data, 512 * sector)
+        device = stopping.Device(self.image, random)
+        with device.put_between(), self.mounted() as volume:
+            for number in range(20):
+                volume.append("/log", b"%04d" % number)
+            lost = volume.create("/lost")
+            for number in range(10):
+                volume.pwrite(lost, 65_536 * number, b"x" * 65_536)
+            volume.unlink("/log")
+        self.assertGreater(device.cut(stopping.OLD), 0)
         self.assertEqual(self.mounted().read("/log"), b"".join(b"%04d" % number for number in range(20)))
+
+    def test_what_was_synced_is_there_behind_a_stop_at_each_order(self):
+        device, acknowledged, stops = stopping.Device(self.image, random.Random(1)), [], 0
+        with device.put_between():
+            while stops < 60:
+                with self.mounted() as volume, contextlib.suppress(stopping.Stopped):
+                    device.stop_behind(stops)
+                    for number in range(len(acknowledged), 1_000):
+                        volume.append("/log", b"%04d" % number)
+                        acknowledged.append(b"%04d" % number)
+                device.cut()
+                with self.mounted() as volume:
+                    found = volume.read("/log") if acknowledged else b""
+                self.assertEqual(found[: 4 * len(acknowledged)], b"".join(acknowledged))
+                self.assertIn(len(found) - 4 * len(acknowledged), (0, 4))
+                acknowledged += [found[4 * len(acknowledged) :]] if len(found) > 4 * len(acknowledged) else []
+                stops += 1
+        self.assertGreater(len(acknowledged), 60)
 
     def test_a_call_within_another_is_an_error(self):
         volume = self.mounted()

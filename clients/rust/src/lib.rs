@@ -1,5 +1,5 @@
 //! Files on a Pansuyog volume: a log-structured file system for a recorder or a small server, in an image file or on a block device, that
-//! survives any loss of power without a repair.
+//! survives a loss of power at any moment without a repair, where the device keeps what a sync acknowledged.
 //!
 //! A [`Volume`] stands over any [`Device`], which reads, writes and syncs sectors of 512 bytes. [`FileDevice`] is one in a file.
 //!
