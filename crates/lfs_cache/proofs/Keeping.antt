@@ -1,5 +1,7 @@
 -- What is kept of a device through changes of either.
-use Rattle.std.proofs.Common.{◌≡◌, ◌≢◌, ◌⊎◌, ◌<◌, ◌-◌, ℕ, zero, suc, List, [], ◌∷◌, Option, Some, None, nat_eq, true, false, cond, take, refl, sym, ap, ◌∙◌, subst, inl, inr, Bool, is_some, Result, Ok, Err, OnOk, OnErr, length, get_or-set_same, get_or-set_other, slice_get}
+use Rattle.std.proofs.Common.{◌≡◌, ◌≢◌, ◌⊎◌, ◌<◌, ◌-◌, ℕ, zero, suc, List, [], ◌∷◌, Option, Some, None, nat_eq, true, false, cond, take}
+use Rattle.std.proofs.Common.{refl, sym, ap, ◌∙◌, subst, inl, inr, Bool, is_some, Result, Ok, Err, OnOk, OnErr, length, get_or-set_same}
+use Rattle.std.proofs.Common.{get_or-set_other, slice_get}
 use Rattle.std.specs.Option.{option_map, option_map_or}
 use Rattle.std.specs.Map.{lookup, lookup_entry, remove_entry, set_value}
 use Rattle.std.proofs.lemmas.Bool.{eqb-true, eq-eqb}
@@ -16,7 +18,8 @@ Entries = List (ℕ × List ℕ)
 lookup-remove_other : (s t : ℕ) (es : Entries) → t ≢ s → lookup (nat_eq t) (remove_entry (nat_eq s) es) ≡ lookup (nat_eq t) es
 lookup-remove_other s t [] apart = refl
 lookup-remove_other s t (e ∷ es) apart =
-    (elim (nat_eq s e.0) as (λ b. nat_eq s e.0 ≡ b → lookup (nat_eq t) (cond b es (e ∷ remove_entry (nat_eq s) es)) ≡ lookup (nat_eq t) (e ∷ es)) [
+    (elim (nat_eq s e.0)
+    as (λ b. nat_eq s e.0 ≡ b → lookup (nat_eq t) (cond b es (e ∷ remove_entry (nat_eq s) es)) ≡ lookup (nat_eq t) (e ∷ es)) [
       | true ↦ λ is. (elim (nat_eq t e.0) as (λ b. nat_eq t e.0 ≡ b → lookup (nat_eq t) es ≡ cond b (Some e.1) (lookup (nat_eq t) es)) [
         | true ↦ λ too. absurd (apart (eqb-true t e.0 too ∙ sym (eqb-true s e.0 is)))
         | false ↦ λ no. refl
@@ -29,22 +32,27 @@ lookup-take : (s n : ℕ) (es : Entries) (v : List ℕ) → lookup (nat_eq s) (t
 lookup-take s zero es v h = absurd cc
 lookup-take s (suc n) [] v h = h
 lookup-take s (suc n) (e ∷ es) v h =
-    (elim (nat_eq s e.0) as (λ b. cond b (Some e.1) (lookup (nat_eq s) (take n es)) ≡ Some v → cond b (Some e.1) (lookup (nat_eq s) es) ≡ Some v) [
+    (elim (nat_eq s e.0)
+    as (λ b. cond b (Some e.1) (lookup (nat_eq s) (take n es)) ≡ Some v → cond b (Some e.1) (lookup (nat_eq s) es) ≡ Some v) [
       | true ↦ λ found. found
       | false ↦ λ found. lookup-take s n es v found
     ]) h
 
 -- an entry that is found has the number that was looked for, and its bytes are what is kept
 found_entry : (s : ℕ) (es : Entries) (e : ℕ × List ℕ) → lookup_entry (nat_eq s) es ≡ Some e → (s ≡ e.0) × (lookup (nat_eq s) es ≡ Some e.1)
-found_entry s es e found =
-    (eqb-true s e.0 (Contains-lookup_entry (nat_eq s) es e found).1, sym (lookup-lookup_entry (nat_eq s) es) ∙ ap (option_map (λ f. f.1)) found)
+found_entry s es e found = (
+  eqb-true s e.0 (Contains-lookup_entry (nat_eq s) es e found).1,
+  sym (lookup-lookup_entry (nat_eq s) es)
+      ∙ ap (option_map (λ f. f.1)) found,
+)
 
 lookup-to_front : (s t : ℕ) (es : Entries) (o : Option (ℕ × List ℕ)) → lookup_entry (nat_eq s) es ≡ o
     → lookup (nat_eq t) (option_map_or (λ e. e ∷ remove_entry (nat_eq s) es) o es) ≡ lookup (nat_eq t) es
 lookup-to_front s t es None found = refl
 lookup-to_front s t es (Some e) found =
     let at = found_entry s es e found in
-    (elim (nat_eq t e.0) as (λ b. nat_eq t e.0 ≡ b → cond b (Some e.1) (lookup (nat_eq t) (remove_entry (nat_eq s) es)) ≡ lookup (nat_eq t) es) [
+    (elim (nat_eq t e.0)
+    as (λ b. nat_eq t e.0 ≡ b → cond b (Some e.1) (lookup (nat_eq t) (remove_entry (nat_eq s) es)) ≡ lookup (nat_eq t) es) [
       | true ↦ λ is. subst (λ k. Some e.1 ≡ lookup (nat_eq k) es) (at.0 ∙ sym (eqb-true t e.0 is)) (sym at.1)
       | false ↦ λ no. lookup-remove_other s t es (λ same. let is = eq-eqb t e.0 (same ∙ at.0) in absurd cc)
     ]) refl
@@ -53,7 +61,8 @@ lookup-to_front s t es (Some e) found =
 kept_at-promoted_at : (kept : Kept) (s t : ℕ) → kept_at (promoted_at kept s) t ≡ kept_at kept t
 kept_at-promoted_at kept s t = lookup-to_front s t kept.entries (lookup_entry (nat_eq s) kept.entries) refl
 
-not_found : (s : ℕ) (es : Entries) (o : Option (ℕ × List ℕ)) → lookup_entry (nat_eq s) es ≡ o → lookup (nat_eq s) es ≡ None → option_map_or (λ e. e ∷ remove_entry (nat_eq s) es) o es ≡ es
+not_found : (s : ℕ) (es : Entries) (o : Option (ℕ × List ℕ)) → lookup_entry (nat_eq s) es ≡ o → lookup (nat_eq s) es ≡ None
+    → option_map_or (λ e. e ∷ remove_entry (nat_eq s) es) o es ≡ es
 not_found s es None found none = refl
 not_found s es (Some e) found none = let is = (found_entry s es e found).1 in absurd cc
 
@@ -66,31 +75,37 @@ abbrev pub IsPutOrOther : ℕ → List ℕ → ℕ → List ℕ → Kept → Typ
 IsPutOrOther s v t w old = ((t ≡ s) × (w ≡ v)) ⊎ ((t ≢ s) × (kept_at old t ≡ Some w))
 
 put_or_other : (kept : Kept) (s t : ℕ) (v w : List ℕ) (o : Option (ℕ × List ℕ)) → lookup_entry (nat_eq s) kept.entries ≡ o
-    → lookup (nat_eq t) (option_map_or (λ e. (e.0, v) ∷ remove_entry (nat_eq s) kept.entries) o ((s, v) ∷ take (kept.cap - 1) kept.entries)) ≡ Some w
+    → lookup (nat_eq t) (option_map_or (λ e. (e.0, v) ∷ remove_entry (nat_eq s) kept.entries) o ((s, v) ∷ take (kept.cap - 1) kept.entries))
+    ≡ Some w
     → IsPutOrOther s v t w kept
 put_or_other kept s t v w None found h =
-    (elim (nat_eq t s) as (λ b. nat_eq t s ≡ b → cond b (Some v) (lookup (nat_eq t) (take (kept.cap - 1) kept.entries)) ≡ Some w → IsPutOrOther s v t w kept) [
+    (elim (nat_eq t s) as (λ b. nat_eq t s ≡ b → cond b (Some v) (lookup (nat_eq t) (take (kept.cap - 1) kept.entries)) ≡ Some w
+    → IsPutOrOther s v t w kept) [
       | true ↦ λ is now. inl (eqb-true t s is, cc)
       | false ↦ λ no was. inr ((λ same. let is = eq-eqb t s same in cc), lookup-take t (kept.cap - 1) kept.entries w was)
     ]) refl h
 put_or_other kept s t v w (Some e) found h =
     let at = found_entry s kept.entries e found in
-    (elim (nat_eq t e.0) as (λ b. nat_eq t e.0 ≡ b → cond b (Some v) (lookup (nat_eq t) (remove_entry (nat_eq s) kept.entries)) ≡ Some w → IsPutOrOther s v t w kept) [
+    (elim (nat_eq t e.0) as (λ b. nat_eq t e.0 ≡ b → cond b (Some v) (lookup (nat_eq t) (remove_entry (nat_eq s) kept.entries)) ≡ Some w
+    → IsPutOrOther s v t w kept) [
       | true ↦ λ is now. inl (eqb-true t e.0 is ∙ sym at.0, cc)
       | false ↦ λ no was.
           let apart : t ≢ s = λ same. let is = eq-eqb t e.0 (same ∙ at.0) in cc in
           inr (apart, sym (lookup-remove_other s t kept.entries apart) ∙ was)
     ]) refl h
 
-overwritten_at : (s n : ℕ) (v w : List ℕ) (es : Entries) (o : Option (ℕ × List ℕ)) → lookup_entry (nat_eq s) es ≡ o → lookup (nat_eq s) es ≡ Some w
-    → set_value (nat_eq s) (option_map_or (λ e. e ∷ remove_entry (nat_eq s) es) o es) v ≡ option_map_or (λ e. (e.0, v) ∷ remove_entry (nat_eq s) es) o ((s, v) ∷ take n es)
+overwritten_at : (s n : ℕ) (v w : List ℕ) (es : Entries) (o : Option (ℕ × List ℕ)) → lookup_entry (nat_eq s) es ≡ o
+    → lookup (nat_eq s) es ≡ Some w
+    → set_value (nat_eq s) (option_map_or (λ e. e ∷ remove_entry (nat_eq s) es) o es) v
+    ≡ option_map_or (λ e. (e.0, v) ∷ remove_entry (nat_eq s) es) o ((s, v) ∷ take n es)
 overwritten_at s n v w es None found is =
     let none : lookup (nat_eq s) es ≡ None = sym (lookup-lookup_entry (nat_eq s) es) ∙ ap (option_map (λ f. f.1)) found in
     cc
 overwritten_at s n v w es (Some e) found is = rw (Contains-lookup_entry (nat_eq s) es e found).1 refl
 
 -- other bytes in the place of those that are kept of a sector, once it is used, are what would have been put
-pub overwritten : (kept : Kept) (s : ℕ) (v w : List ℕ) → kept_at kept s ≡ Some w → set_value (nat_eq s) (promoted (nat_eq s) kept.entries) v ≡ put_entries nat_eq kept s v
+pub overwritten : (kept : Kept) (s : ℕ) (v w : List ℕ) → kept_at kept s ≡ Some w
+    → set_value (nat_eq s) (promoted (nat_eq s) kept.entries) v ≡ put_entries nat_eq kept s v
 overwritten kept s v w is = overwritten_at s (kept.cap - 1) v w kept.entries (lookup_entry (nat_eq s) kept.entries) refl is
 
 -- a use leaves the agreement
@@ -106,7 +121,8 @@ abbrev pub AgreesElsewhere : ℕ → Kept → DeviceState → Type 0
 AgreesElsewhere s kept d = d.keeps_model → (t : ℕ) (w : List ℕ) → t ≢ s → kept_at kept t ≡ Some w → cell_at d.content t ≡ Some w
 
 -- with that one's bytes kept too, or nothing of it, all agrees
-pub agrees-also : (old new : Kept) (s : ℕ) (v : List ℕ) (d : DeviceState) → KeepsAlso s v old new → AgreesElsewhere s old d → (d.keeps_model → cell_at d.content s ≡ Some v) → Agrees new d
+pub agrees-also : (old new : Kept) (s : ℕ) (v : List ℕ) (d : DeviceState) → KeepsAlso s v old new → AgreesElsewhere s old d
+    → (d.keeps_model → cell_at d.content s ≡ Some v) → Agrees new d
 agrees-also old new s v d (inl put) others here keeps t w h =
     elim (put_or_other old s t v w (lookup_entry (nat_eq s) old.entries) refl (subst (λ k. kept_at k t ≡ Some w) put h)) [
       | inl is ↦ rw is.0 (rw is.1 (here keeps))
@@ -117,13 +133,16 @@ agrees-also old new s v d (inr (same, none)) others here keeps t w h =
     others keeps t w (λ is. let none' : kept_at old t ≡ None = subst (λ k. kept_at old k ≡ None) (sym is) none in cc) was
 
 -- with nothing of that one, all agrees
-pub agrees-without : (kept : Kept) (s : ℕ) (d : DeviceState) → kept_at (without kept s) s ≡ None → AgreesElsewhere s kept d → Agrees (without kept s) d
+pub agrees-without : (kept : Kept) (s : ℕ) (d : DeviceState) → kept_at (without kept s) s ≡ None → AgreesElsewhere s kept d
+    → Agrees (without kept s) d
 agrees-without kept s d none others keeps t w h =
-    let apart : t ≢ s = λ is. let none' : kept_at (without kept s) t ≡ None = subst (λ k. kept_at (without kept s) k ≡ None) (sym is) none in cc in
+    let apart : t ≢ s =
+    λ is. let none' : kept_at (without kept s) t ≡ None = subst (λ k. kept_at (without kept s) k ≡ None) (sym is) none in cc in
     others keeps t w apart (sym (lookup-remove_other s t kept.entries apart) ∙ h)
 
 -- whatever a write leaves of its sector, the others hold what they held
-pub elsewhere_after_write : (kept : Kept) (s : ℕ) (v : List ℕ) (old new : DeviceState) → Agrees kept old → Carries old new → (new.keeps_model → MayWrite s v old.content new.content) → AgreesElsewhere s kept new
+pub elsewhere_after_write : (kept : Kept) (s : ℕ) (v : List ℕ) (old new : DeviceState) → Agrees kept old → Carries old new
+    → (new.keeps_model → MayWrite s v old.content new.content) → AgreesElsewhere s kept new
 elsewhere_after_write kept s v old new agrees carries may keeps t w apart h =
     let before = agrees (carries.kept_before keeps) t w h in
     elim (may keeps) [
@@ -138,14 +157,16 @@ cell_at-put content s v within = get_or-set_same content s (Some v) None within
 
 -- a sector of which something is kept is found after its use too
 pub still_found : (kept : Kept) (s : ℕ) → is_some (kept_at kept s) ≡ true → kept_at (promoted_at kept s) s ≢ None
-still_found kept s found none = let was : kept_at kept s ≡ None = sym (kept_at-promoted_at kept s s) ∙ none in let no = rw was at found in cc
+still_found kept s found none = let was : kept_at kept s ≡ None = sym (kept_at-promoted_at kept s s) ∙ none in let no = rw was at found in
+    cc
 
 found_or_none : (kept : Kept) (s : ℕ) (o : Option (List ℕ)) → kept_at kept s ≡ o → is_some o ≡ false → promoted_at kept s ≡ kept
 found_or_none kept s None is missing = promoted_at-none kept s is
 found_or_none kept s (Some v) is missing = cc
 
 -- a look that doesn't find a sector leaves all as it is
-pub missed : (kept looked : Kept) (s : ℕ) (found : Bool) → looked ≡ promoted_at kept s → found ≡ is_some (kept_at kept s) → found ≡ false → looked ≡ kept
+pub missed : (kept looked : Kept) (s : ℕ) (found : Bool) → looked ≡ promoted_at kept s → found ≡ is_some (kept_at kept s) → found ≡ false
+    → looked ≡ kept
 missed kept looked s found is was missing = is ∙ found_or_none kept s (kept_at kept s) refl (sym was ∙ missing)
 
 -- a fact holds at an error too
@@ -166,9 +187,12 @@ last_used kept s n v first same = by_entries kept.entries refl first
     by_entries [] is found = absurd cc
     by_entries (e ∷ es) is found =
         let head : e ≡ (n, v) = cc in
-        subst (λ (k : Kept). IsLastUsed k s v) (ap (λ (l : Entries). lru_cache l kept.cap) (sym (is ∙ ap (λ (f : ℕ × List ℕ). f ∷ es) head))) (first_entry s n kept.cap v es same)
+        subst (λ (k : Kept). IsLastUsed k s v) (ap (λ (l : Entries). lru_cache l kept.cap)
+        (sym (is ∙ ap (λ (f : ℕ × List ℕ). f ∷ es) head))) (first_entry s n kept.cap v es same)
 
 -- what a write may leave, whether it is done or fails
-pub may_write : {A E : Type 0} (r : Result A E) (s : ℕ) (v : List ℕ) (old new : DeviceState) → OnOk r (new.keeps_model → new.content ≡ put old.content s v) → OnErr r (new.keeps_model → MayWrite s v old.content new.content) → new.keeps_model → MayWrite s v old.content new.content
+pub may_write : {A E : Type 0} (r : Result A E) (s : ℕ) (v : List ℕ) (old new : DeviceState)
+    → OnOk r (new.keeps_model → new.content ≡ put old.content s v) → OnErr r (new.keeps_model → MayWrite s v old.content new.content)
+    → new.keeps_model → MayWrite s v old.content new.content
 may_write (Ok x) s v old new written failed keeps = left_new (written keeps)
 may_write (Err e) s v old new written failed keeps = failed keeps

@@ -35,7 +35,8 @@ without kept sector = lru_cache (remove_entry (nat_eq sector) kept.entries) kept
 -- The sector is kept with these bytes, as the last that was used, or memory is refused and nothing is kept of it. One of
 -- which something was kept is kept with them also where memory is refused.
 abbrev pub KeepsAlso : ℕ → List ℕ → Kept → Kept → Type 0
-KeepsAlso sector bytes old new = (new ≡ lru_cache (put_entries nat_eq old sector bytes) old.cap) ⊎ ((new ≡ old) × (kept_at old sector ≡ None))
+KeepsAlso sector bytes old new = (new ≡ lru_cache (put_entries nat_eq old sector bytes) old.cap)
+    ⊎ ((new ≡ old) × (kept_at old sector ≡ None))
 
 -- A sector was read, or the device wasn't asked. It says what the trait says of a read, but for the bytes.
 pub record OnlyReads {A : Type 0} (d d' : DeviceState) (sector : ℕ) (result : Result A ReadFault) : Type 0 where

@@ -8,8 +8,10 @@ use Rattle.lfs_log.specs.memory.segments.Table.{clean_in}
 use Rattle.lfs_log.specs.Held.{AreAllSaved, Held, Halts, Reads, waiting_in}
 use Rattle.lfs_log.specs.Saving.{commit_orders, pass_orders}
 use Rattle.lfs_cleaner.specs.Passing.{IsUnfit}
-use Rattle.lfs_cleaner.specs.Room.{CleansOnce, CommitsUnsaved, HaltsLater, IsReadied, KeepsMap, MayNotMakeRoom, PassesInNeed, PassesWhereDue, most_checkpoints, once_orders, room_orders}
-use Rattle.lfs_cleaner.proofs.Rooms.{halts_at_once, halts_then, halts_weaker, keeps_none, keeps_reads, keeps_then, keeps_weaker, repeats_passes}
+use Rattle.lfs_cleaner.specs.Room.{CleansOnce, CommitsUnsaved, HaltsLater, IsReadied, KeepsMap, MayNotMakeRoom, PassesInNeed}
+use Rattle.lfs_cleaner.specs.Room.{PassesWhereDue, most_checkpoints, once_orders, room_orders}
+use Rattle.lfs_cleaner.proofs.Rooms.{halts_at_once, halts_then, halts_weaker, keeps_none, keeps_reads, keeps_then, keeps_weaker}
+use Rattle.lfs_cleaner.proofs.Rooms.{repeats_passes}
 use Rattle.lfs_cleaner.proofs.RoomBounds.{may_pass, passes_none, segment_count}
 
 -- ---- orders
@@ -26,18 +28,22 @@ once_within n count = let least = count.least in more (n / 8) (8 * n + 4) (omega
 
 module _ {D : Type 0} (state : D → DeviceState) where
   -- a pass may be made where room can be
-  pub unfit_lacks : (h now : Held D) → IsLawful (state h.device) → h.halted ≡ false → AreAllSaved h → 4 * clean_in h.memory.usage.segments < length h.memory.usage.segments
+  pub unfit_lacks : (h now : Held D) → IsLawful (state h.device) → h.halted ≡ false → AreAllSaved h
+      → 4 * clean_in h.memory.usage.segments < length h.memory.usage.segments
       → Reads state h now → IsUnfit state h now → MayNotMakeRoom state h now
   unfit_lacks h now lawful running nothing few reads unfit k m0 m keeps may =
       let least = (segment_count state h k m0 m lawful may.holds).least in
-      let next = may_pass state h h 0 nothing (passes_none state h lawful running) few k m0 m (reads.looks.carries.kept_before keeps) may (omega (arith, least)) in
+      let next = may_pass state h h 0 nothing (passes_none state h lawful running) few k m0 m (reads.looks.carries.kept_before keeps) may
+      (omega (arith, least)) in
       unfit next.0 next.1 m keeps next.2
 
-  pub keeps_due : (h now : Held D) → IsLawful (state h.device) → h.halted ≡ false → PassesWhereDue state h now → now.totals ≡ h.totals → KeepsMap state h now 1
+  pub keeps_due : (h now : Held D) → IsLawful (state h.device) → h.halted ≡ false → PassesWhereDue state h now → now.totals ≡ h.totals
+      → KeepsMap state h now 1
   keeps_due h now lawful running due totals =
       ⊎_elim
       (λ (need : PassesInNeed state h now). (repeats_passes state h now need totals).keeps)
-      (λ none. subst (λ (x : Held D). KeepsMap state h x 1) (sym none.1) (keeps_weaker state h h 0 1 (keeps_none state h lawful running) (omega arith)))
+      (λ none. subst (λ (x : Held D). KeepsMap state h x 1) (sym none.1)
+      (keeps_weaker state h h 0 1 (keeps_none state h lawful running) (omega arith)))
       due
 
   module _ (a b c : Held D) (ready : IsReadied state a b) where
@@ -48,7 +54,8 @@ module _ {D : Type 0} (state : D → DeviceState) where
 
     pub once_reads : IsLawful (state b.device) → Reads state b c → KeepsMap state a c (most_checkpoints a)
     once_reads lawful reads =
-        keeps_weaker state a c _ _ (keeps_then state a b c _ ready.repeats.keeps 0 (keeps_reads state b c lawful ready.repeats.keeps.running reads)) (omega arith)
+        keeps_weaker state a c _ _
+        (keeps_then state a b c _ ready.repeats.keeps 0 (keeps_reads state b c lawful ready.repeats.keeps.running reads)) (omega arith)
 
     pub once_halts : Halts state b c → HaltsLater state a c (most_checkpoints a)
     once_halts halts =

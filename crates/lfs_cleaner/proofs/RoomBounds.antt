@@ -1,5 +1,6 @@
 -- Where room can be made each pass may begin, and an eighth of the segments of them suffice.
-use Rattle.std.proofs.Common.{◌≡◌, ◌<◌, ◌≤◌, ◌+◌, ◌-◌, ◌*◌, ◌/◌, ◌^◌, ⊎_elim, ℕ, false, List, [], ◌∷◌, length, refl, sym, ◌∙◌, ap, subst, arith}
+use Rattle.std.proofs.Common.{◌≡◌, ◌<◌, ◌≤◌, ◌+◌, ◌-◌, ◌*◌, ◌/◌, ◌^◌, ⊎_elim, ℕ, false, List, [], ◌∷◌, length, refl, sym, ◌∙◌, ap, subst}
+use Rattle.std.proofs.Common.{arith}
 use Rattle.std.specs.Prelude.{Result, Ok, Err, OnOk, min}
 use Rattle.lfs_model.specs.Checkpoint.{CheckpointValue, IsSegmentCount}
 use Rattle.lfs_model.specs.declared.Order.{Order}
@@ -16,8 +17,10 @@ use Rattle.lfs_log.proofs.Unsaved.{all_saved}
 use Rattle.lfs_cleaner.specs.Passing.{CanPass}
 use Rattle.lfs_log.specs.Saving.{commit_orders, pass_orders}
 use Rattle.std.proofs.Math.Nat.{add-mul, mul-le-mul_right, one-mul}
-use Rattle.lfs_cleaner.specs.Room.{CleansQuarter, HaltsLater, HasQuarter, IsReadied, IsRoomFault, IsWithin, KeepsMap, MayMakeRoom, MayNotMakeRoom, PassesDone, PassesInNeed, Repeats, most_checkpoints, passes_orders, room_orders}
-use Rattle.lfs_cleaner.proofs.Rooms.{fault_then, halts_at_once, halts_then, halts_weaker, keeps_then, keeps_weaker, repeats_none, repeats_passes, repeats_saves, repeats_then, repeats_weaker}
+use Rattle.lfs_cleaner.specs.Room.{CleansQuarter, HaltsLater, HasQuarter, IsReadied, IsRoomFault, IsWithin, KeepsMap, MayMakeRoom}
+use Rattle.lfs_cleaner.specs.Room.{MayNotMakeRoom, PassesDone, PassesInNeed, Repeats, most_checkpoints, passes_orders, room_orders}
+use Rattle.lfs_cleaner.proofs.Rooms.{fault_then, halts_at_once, halts_then, halts_weaker, keeps_then, keeps_weaker, repeats_none}
+use Rattle.lfs_cleaner.proofs.Rooms.{repeats_passes, repeats_saves, repeats_then, repeats_weaker}
 
 -- what two facts of a success give, holds of it
 pub on_success : {T E : Type 0} (r : Result T E) (P Q R : Type 0) → (P → Q → R) → OnOk r P → OnOk r Q → OnOk r R
@@ -29,7 +32,8 @@ one_more : (count p : ℕ) → (count + 1) * p ≡ count * p + p
 one_more count p = add-mul count 1 p ∙ ap (λ (n : ℕ). count * p + n) (one-mul p)
 
 -- a pass more
-pub pass_more : (t0 t1 t2 count n n' : ℕ) → n' ≡ n → t1 ≤ t0 + count * pass_orders n → t2 ≤ t1 + pass_orders n' → t2 ≤ t0 + (count + 1) * pass_orders n
+pub pass_more : (t0 t1 t2 count n n' : ℕ) → n' ≡ n → t1 ≤ t0 + count * pass_orders n → t2 ≤ t1 + pass_orders n'
+    → t2 ≤ t0 + (count + 1) * pass_orders n
 pass_more t0 t1 t2 count n n' same first second =
     let e = one_more count (pass_orders n) in
     let last : t2 ≤ t1 + pass_orders n = subst (λ (x : ℕ). t2 ≤ t1 + pass_orders x) same second in
@@ -55,13 +59,15 @@ room_told t0 t1 t2 n n' same first second =
     more a b first last = omega (arith, first, last)
 
 -- passes alone
-pub passes_told : (told0 told1 : List Order) (t2 n n' : ℕ) → n' ≡ n → told1 ≡ told0 → t2 ≤ length told1 + passes_orders n' → t2 ≤ length told0 + passes_orders n
+pub passes_told : (told0 told1 : List Order) (t2 n n' : ℕ) → n' ≡ n → told1 ≡ told0 → t2 ≤ length told1 + passes_orders n'
+    → t2 ≤ length told0 + passes_orders n
 passes_told told0 told1 t2 n n' same first second =
     subst (λ (l : List Order). t2 ≤ length l + passes_orders n) first (subst (λ (x : ℕ). t2 ≤ length told1 + passes_orders x) same second)
 
 module _ {D : Type 0} (state : D → DeviceState) where
   -- a log that holds a map has as many segments as a volume may have
-  pub segment_count : (h : Held D) (k : CheckpointValue) (m0 m : LogMap) → IsLawful (state h.device) → Holds state h k m0 m → IsSegmentCount (length h.memory.usage.segments)
+  pub segment_count : (h : Held D) (k : CheckpointValue) (m0 m : LogMap) → IsLawful (state h.device) → Holds state h k m0 m
+      → IsSegmentCount (length h.memory.usage.segments)
   segment_count h k m0 m lawful is =
       let fits = ((newest_fits (state h.device).content lawful.now).0 k).0 is.log.running.settled.newest in
       subst IsSegmentCount (sym is.log.segments) fits.held.fits.segments
@@ -74,16 +80,20 @@ module _ {D : Type 0} (state : D → DeviceState) where
   }
 
   -- a pass more
-  pub passes_more : (h now next : Held D) (count : ℕ) → PassesDone state h now count → PassesInNeed state now next → next.totals ≡ now.totals
-      → length (state next.device).told ≤ length (state now.device).told + pass_orders (length now.memory.usage.segments) → PassesDone state h next (count + 1)
+  pub passes_more : (h now next : Held D) (count : ℕ) → PassesDone state h now count → PassesInNeed state now next
+      → next.totals ≡ now.totals
+      → length (state next.device).told ≤ length (state now.device).told + pass_orders (length now.memory.usage.segments)
+      → PassesDone state h next (count + 1)
   passes_more h now next count done need totals more = record {
     repeats = repeats_then state h now next count 1 done.repeats (repeats_passes state now next need totals);
     gains = (let g = done.gains in let g' = need.passes.cleans.gains in omega (arith, g, g'));
-    told = pass_more (length (state h.device).told) (length (state now.device).told) (length (state next.device).told) count (length h.memory.usage.segments) (length now.memory.usage.segments)
+    told = pass_more (length (state h.device).told) (length (state now.device).told) (length (state next.device).told) count
+        (length h.memory.usage.segments) (length now.memory.usage.segments)
         done.repeats.keeps.segments done.told more;
   }
 
-  pub same_need : (h now : Held D) → now.totals ≡ h.totals → length now.memory.usage.segments ≡ length h.memory.usage.segments → IsWithin h → IsWithin now
+  pub same_need : (h now : Held D) → now.totals ≡ h.totals → length now.memory.usage.segments ≡ length h.memory.usage.segments → IsWithin h
+      → IsWithin now
   same_need h now totals size need =
       let stored = ap (λ (t : BlockTotals). t.data_blocks) totals in
       let above = ap (λ (t : BlockTotals). t.meta_blocks) totals in
@@ -91,9 +101,11 @@ module _ {D : Type 0} (state : D → DeviceState) where
 
   -- nothing is unsaved between two passes
   pub nothing_between : (h now : Held D) (count : ℕ) → AreAllSaved h → PassesDone state h now count → AreAllSaved now
-  nothing_between h now count nothing done = ⊎_elim (λ (same : now ≡ h). subst (λ (x : Held D). AreAllSaved x) (sym same) nothing) (λ all. all.empty) done.repeats.saved
+  nothing_between h now count nothing done =
+      ⊎_elim (λ (same : now ≡ h). subst (λ (x : Held D). AreAllSaved x) (sym same) nothing) (λ all. all.empty) done.repeats.saved
 
-  module _ (h now : Held D) (count : ℕ) (nothing : AreAllSaved h) (done : PassesDone state h now count) (few : 4 * clean_in now.memory.usage.segments < length now.memory.usage.segments)
+  module _ (h now : Held D) (count : ℕ) (nothing : AreAllSaved h) (done : PassesDone state h now count)
+      (few : 4 * clean_in now.memory.usage.segments < length now.memory.usage.segments)
       (k : CheckpointValue) (m0 m : LogMap) (keeps : (state now.device).keeps_model) (may : MayMakeRoom state h k m0 m) where
     -- the next pass may begin
     pub may_pass : count < length h.memory.usage.segments / 8 → (next : CheckpointValue) × (m1 : LogMap) × CanPass state now next m1 m
@@ -113,8 +125,10 @@ module _ {D : Type 0} (state : D → DeviceState) where
           record {
             holds = over.holds;
             map = may.map;
-            nothing = ⊎_elim (λ (same : now ≡ h). subst (λ (x : Held D). AreAllSaved x) (sym same) nothing) (λ all. all.empty) done.repeats.saved;
-            untaken = ⊎_elim (λ (same : now ≡ h). subst (λ (x : Held D). AreUntaken x.memory.usage) (sym same) (may.untaken nothing)) (λ all. all.untaken) done.repeats.saved;
+            nothing = ⊎_elim (λ (same : now ≡ h). subst (λ (x : Held D). AreAllSaved x) (sym same) nothing)
+                (λ all. all.empty) done.repeats.saved;
+            untaken = ⊎_elim (λ (same : now ≡ h). subst (λ (x : Held D). AreUntaken x.memory.usage) (sym same) (may.untaken nothing))
+                (λ all. all.untaken) done.repeats.saved;
             few = few;
             many = omega (arith, size, gains, many);
             counted = above ∙ all_above;
@@ -156,7 +170,8 @@ module _ {D : Type 0} (state : D → DeviceState) where
       )
 
   -- where room can be made a commit finds enough clean segments
-  pub commit_fits : (h : Held D) (k : CheckpointValue) (m0 m : LogMap) → IsLawful (state h.device) → 0 < waiting_in h → IsFull h → MayMakeRoom state h k m0 m → ⊥
+  pub commit_fits : (h : Held D) (k : CheckpointValue) (m0 m : LogMap) → IsLawful (state h.device) → 0 < waiting_in h → IsFull h
+      → MayMakeRoom state h k m0 m → ⊥
   commit_fits h k m0 m lawful some full may =
       let enough = may.enough some in
       let most = may.number in
@@ -192,7 +207,8 @@ module _ {D : Type 0} (state : D → DeviceState) where
     keeps_after passes = keeps_weaker state a c _ _ (keeps_then state a b c _ ready.repeats.keeps _ passes) few_more
 
     pub lacks_after : Carries (state b.device) (state c.device) → MayNotMakeRoom state b c → MayNotMakeRoom state a c
-    lacks_after after lacks k m0 m keeps may = let next = ready.room k m0 m (after.kept_before keeps) may in lacks next.0 next.1 m keeps next.2
+    lacks_after after lacks k m0 m keeps may = let next = ready.room k m0 m (after.kept_before keeps) may in
+        lacks next.0 next.1 m keeps next.2
 
     pub fault_after : Carries (state b.device) (state c.device) → IsRoomFault state b c → IsRoomFault state a c
     fault_after after failed = fault_then state a b c _ ready.repeats.keeps after failed

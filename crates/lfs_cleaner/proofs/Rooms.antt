@@ -1,5 +1,6 @@
 -- Commits and passes, one after the other: the log map stays, and what a stop leaves is the one or the other.
-use Rattle.std.proofs.Common.{◌≡◌, ◌<◌, ◌≤◌, ◌+◌, ◌*◌, inl, inr, ⊎_elim, ℕ, zero, suc, false, List, [], length, refl, sym, ◌∙◌, ap, subst, arith}
+use Rattle.std.proofs.Common.{◌≡◌, ◌<◌, ◌≤◌, ◌+◌, ◌*◌, inl, inr, ⊎_elim, ℕ, zero, suc, false, List, [], length, refl, sym, ◌∙◌, ap, subst}
+use Rattle.std.proofs.Common.{arith}
 use Rattle.std.specs.Prelude.{◌⊎◌}
 use Rattle.lfs_model.specs.Checkpoint.{CheckpointValue}
 use Rattle.lfs_model.specs.Content.{Content}
@@ -24,7 +25,8 @@ use Rattle.lfs_cleaner.specs.Room.{HaltsLater, HoldsOver, IsAtRest, IsRoomFault,
 
 module _ {D : Type 0} (state : D → DeviceState) where
   -- ---- one step
-  pub acknowledged : (h : Held D) (k : CheckpointValue) (m0 m : LogMap) → Holds state h k m0 m → AllLeft (state h.device) (λ c. StandsOn k.segments c m0)
+  pub acknowledged : (h : Held D) (k : CheckpointValue) (m0 m : LogMap) → Holds state h k m0 m
+      → AllLeft (state h.device) (λ c. StandsOn k.segments c m0)
   acknowledged h k m0 m is = settled_stands (state h.device) k m0 is.log.running.settled
 
   -- nothing happens
@@ -38,14 +40,16 @@ module _ {D : Type 0} (state : D → DeviceState) where
     totals = refl;
     rest = λ rest. rest;
     holds = λ k m0 m keeps is map. record { checkpoint = k; acknowledged = m0; either = inl refl; same = refl; holds = is };
-    moment = λ k m0 m keeps is map. started (state h.device) (IsSaved state k.segments m0 m) lawful (λ c left. inl (acknowledged h k m0 m is c left));
+    moment = λ k m0 m keeps is map.
+        started (state h.device) (IsSaved state k.segments m0 m) lawful (λ c left. inl (acknowledged h k m0 m is c left));
   }
 
   -- the device was only read
   held_still : (a b : Held D) (k : CheckpointValue) (m0 m : LogMap) → Reads state a b → Holds state a k m0 m → Holds state b k m0 m
   held_still a b k m0 m reads is = record {
     log = subst (λ (v : LogMemory). IsLog (state b.device) v k m0 m) (sym reads.memory)
-        (let s = still_log (state a.device) (state b.device) a.memory k m0 m reads.looks (loose (state a.device) a.memory k m0 m is.log) in tight_again (state b.device) a.memory k m0 m s is.log.tight);
+        (let s = still_log (state a.device) (state b.device) a.memory k m0 m reads.looks (loose (state a.device) a.memory k m0 m is.log) in
+        tight_again (state b.device) a.memory k m0 m s is.log.tight);
     number = is.number ∙ sym reads.number;
     version = is.version ∙ sym reads.version;
     running = reads.halted ∙ is.running;
@@ -54,7 +58,8 @@ module _ {D : Type 0} (state : D → DeviceState) where
   -- memory is as it was
   pub rest_reads : (a b : Held D) → Reads state a b → IsAtRest a → IsAtRest b
   rest_reads a b reads rest = record {
-    nothing = kept_saved a b rest.nothing (let same = ap (λ (v : LogMemory). length v.dirty.blocks) reads.memory in omega (arith, same)) reads.upgraded (subst (λ (v : LogMemory). AreUntaken v.usage) (sym reads.memory) rest.untaken);
+    nothing = kept_saved a b rest.nothing (let same = ap (λ (v : LogMemory). length v.dirty.blocks) reads.memory in omega (arith, same))
+        reads.upgraded (subst (λ (v : LogMemory). AreUntaken v.usage) (sym reads.memory) rest.untaken);
     untaken = subst (λ (v : LogMemory). AreUntaken v.usage) (sym reads.memory) rest.untaken;
     many = subst (λ (v : LogMemory). length v.usage.segments ≤ 8 * clean_in v.usage.segments) (sym reads.memory) rest.many;
   }
@@ -75,7 +80,8 @@ module _ {D : Type 0} (state : D → DeviceState) where
     segments = subst (λ (v : LogMemory). length v.usage.segments ≡ length a.memory.usage.segments) (sym reads.memory) refl;
     totals = reads.totals;
     rest = λ rest. rest_reads a b reads rest;
-    holds = λ k m0 m keeps is map. record { checkpoint = k; acknowledged = m0; either = inl refl; same = refl; holds = held_still a b k m0 m reads is };
+    holds = λ k m0 m keeps is map.
+        record { checkpoint = k; acknowledged = m0; either = inl refl; same = refl; holds = held_still a b k m0 m reads is };
     moment = λ k m0 m keeps is map.
         weaker (state a.device) (state b.device) (λ c. StandsOn k.segments c m0) (IsSaved state k.segments m0 m) (λ c there. inl there)
         (looks_quiet (state a.device) (state b.device) a.memory k m0 m lawful reads.looks (loose (state a.device) a.memory k m0 m is.log));
@@ -88,7 +94,8 @@ module _ {D : Type 0} (state : D → DeviceState) where
   cleans_all h h' vs s = record { empty = s.empty; untaken = s.untaken; holds = s.holds }
 
   saved_over : (h h' : Held D) → length h'.memory.usage.segments ≡ length h.memory.usage.segments → SavesAll state h h'
-      → (k : CheckpointValue) (m0 m : LogMap) → (state h'.device).keeps_model → Holds state h k m0 m → IsLogMap (dropped m) → HoldsOver state k.segments m0 m h'
+      → (k : CheckpointValue) (m0 m : LogMap) → (state h'.device).keeps_model → Holds state h k m0 m → IsLogMap (dropped m)
+      → HoldsOver state k.segments m0 m h'
   saved_over h h' same all k m0 m keeps is map =
       let next = all.holds k m0 m keeps is map in
       record {
@@ -157,7 +164,8 @@ module _ {D : Type 0} (state : D → DeviceState) where
       checkpoint = next.checkpoint;
       acknowledged = next.acknowledged;
       either = ⊎_elim
-          (λ (same : next.acknowledged ≡ over.acknowledged). ⊎_elim (λ (old : over.acknowledged ≡ m0). inl (same ∙ old)) (λ (new : over.acknowledged ≡ dropped m). inr (same ∙ new)) over.either)
+          (λ (same : next.acknowledged ≡ over.acknowledged). ⊎_elim (λ (old : over.acknowledged ≡ m0). inl (same ∙ old))
+          (λ (new : over.acknowledged ≡ dropped m). inr (same ∙ new)) over.either)
           (λ (new : next.acknowledged ≡ dropped m). inr new)
           next.either;
       same = next.same ∙ over.same;
@@ -170,8 +178,10 @@ module _ {D : Type 0} (state : D → DeviceState) where
       moment_then k m0 m keeps is map =
           let back = after.kept_before keeps in
           let over = one.holds k m0 m back is map in
-          joined (state a.device) (state b.device) (state c.device) (IsSaved state k.segments m0 m) (IsSaved state over.checkpoint.segments over.acknowledged m) (IsSaved state k.segments m0 m)
-          (one.moment k m0 m back is map) (moment over.checkpoint over.acknowledged m keeps over.holds map) (λ x p. p) (saved_still a b k m0 m over)
+          joined (state a.device) (state b.device) (state c.device) (IsSaved state k.segments m0 m)
+          (IsSaved state over.checkpoint.segments over.acknowledged m) (IsSaved state k.segments m0 m)
+          (one.moment k m0 m back is map) (moment over.checkpoint over.acknowledged m keeps over.holds map) (λ x p. p)
+          (saved_still a b k m0 m over)
 
     pub keeps_then : (y : ℕ) → KeepsMap state b c y → KeepsMap state a c (x + y)
     keeps_then y two = record {
@@ -214,7 +224,8 @@ module _ {D : Type 0} (state : D → DeviceState) where
       cause = fault_then two.carries two.cause;
       left = λ k m0 m keeps is map.
           let over = one.holds k m0 m (two.carries.kept_before keeps) is map in
-          λ content left. saved_still a b k m0 m over content (two.left over.checkpoint over.acknowledged m keeps over.holds map content left);
+          λ content left.
+          saved_still a b k m0 m over content (two.left over.checkpoint over.acknowledged m keeps over.holds map content left);
       moment = moment_then two.carries two.moment;
     }
 
@@ -245,22 +256,39 @@ module _ {D : Type 0} (state : D → DeviceState) where
 
   -- ---- commits and passes that are done
   pub repeats_none : (h : Held D) → IsLawful (state h.device) → h.halted ≡ false → Repeats state h h 0
-  repeats_none h lawful running = record { works = (0, omega arith, refl); keeps = keeps_none h lawful running; no_failure = refl; saved = inl refl }
+  repeats_none h lawful running =
+      record { works = (0, omega arith, refl); keeps = keeps_none h lawful running; no_failure = refl; saved = inl refl }
 
   pub repeats_saves : (h h' : Held D) → 0 < waiting_in h → Saves state h h' → h'.totals ≡ h.totals → Repeats state h h' 1
-  repeats_saves h h' some s totals = record { works = (1, omega arith, (h, refl, inl (some, s))); keeps = keeps_saves h h' s totals; no_failure = s.no_failure; saved = inr (saves_all h h' s) }
+  repeats_saves h h' some s totals = record {
+    works = (1, omega arith, (h, refl, inl (some, s)));
+    keeps = keeps_saves h h' s totals;
+    no_failure = s.no_failure;
+    saved = inr (saves_all h h' s);
+  }
 
   pub repeats_passes : (h h' : Held D) → PassesInNeed state h h' → h'.totals ≡ h.totals → Repeats state h h' 1
   repeats_passes h h' need totals =
       let vs = need.passes.victims in
       let s = need.passes.cleans in
-      record { works = (1, omega arith, (h, refl, inr need)); keeps = keeps_cleans h h' vs s totals; no_failure = s.no_failure; saved = inr (cleans_all h h' vs s) }
+      record {
+        works = (1, omega arith, (h, refl, inr need));
+        keeps = keeps_cleans h h' vs s totals;
+        no_failure = s.no_failure;
+        saved = inr (cleans_all h h' vs s);
+      }
 
   pub repeats_weaker : (a b : Held D) (x y : ℕ) → Repeats state a b x → x ≤ y → Repeats state a b y
-  repeats_weaker a b x y one le = record { works = (let w = one.works in let few = w.1 in (w.0, omega (arith, few, le), w.2)); keeps = keeps_weaker a b x y one.keeps le; no_failure = one.no_failure; saved = one.saved }
+  repeats_weaker a b x y one le = record {
+    works = (let w = one.works in let few = w.1 in (w.0, omega (arith, few, le), w.2));
+    keeps = keeps_weaker a b x y one.keeps le;
+    no_failure = one.no_failure;
+    saved = one.saved;
+  }
 
   -- what was done first, and then the rest
-  works_then : (a b c : Held D) (x y : ℕ) → WorksOn state x a b → WorksOn state y b c → (count : ℕ) × (count ≤ x + y) × WorksOn state count a c
+  works_then : (a b c : Held D) (x y : ℕ) → WorksOn state x a b → WorksOn state y b c
+      → (count : ℕ) × (count ≤ x + y) × WorksOn state count a c
   works_then a b c x zero one two = (x, omega arith, subst (λ (h : Held D). WorksOn state x a h) (sym two) one)
   works_then a b c x (suc y) one two =
       let rest = works_then a b two.0 x y one two.1 in

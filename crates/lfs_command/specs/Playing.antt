@@ -23,7 +23,8 @@ pub record IsUnmounted (r r' : Option (List ℕ)) (d d' : DeviceState) : Type 0 
   pub unread : r' ≡ r
   pub left : AllLeft d' d.may_leave
 
-abbrev pub Plays : Option (List ℕ) → Option (List ℕ) → Option (List ℕ) → Option (List ℕ) → DeviceState → DeviceState → List Look → List Look → Type 0
+abbrev pub Plays : Option (List ℕ) → Option (List ℕ) → Option (List ℕ) → Option (List ℕ) → DeviceState → DeviceState → List Look → List Look
+    → Type 0
 Plays r r' w w' d d' s s' = IsPlayed r r' w w' d d' s s' ⊎ IsUnmounted r r' d d'
 
 -- A use of the device's volume by a strict script, whose replies were printed.
@@ -33,8 +34,10 @@ pub record IsPlayedStrictly (end : StrictEnd) (r r' w w' : Option (List ℕ)) (d
   pub kept : Keeps printed w'
 
 -- and it ended at a refusal
-abbrev pub PlaysToRefusal : Option (List ℕ) → Option (List ℕ) → Option (List ℕ) → Option (List ℕ) → DeviceState → DeviceState → List Look → List Look → Type 0
+abbrev pub PlaysToRefusal : Option (List ℕ) → Option (List ℕ) → Option (List ℕ) → Option (List ℕ) → DeviceState → DeviceState → List Look
+    → List Look → Type 0
 PlaysToRefusal = IsPlayedStrictly Refused
 
-abbrev pub PlaysStrictly : Option (List ℕ) → Option (List ℕ) → Option (List ℕ) → Option (List ℕ) → DeviceState → DeviceState → List Look → List Look → Type 0
+abbrev pub PlaysStrictly : Option (List ℕ) → Option (List ℕ) → Option (List ℕ) → Option (List ℕ) → DeviceState → DeviceState → List Look
+    → List Look → Type 0
 PlaysStrictly r r' w w' d d' s s' = ((end : StrictEnd) × IsPlayedStrictly end r r' w w' d d' s s') ⊎ IsUnmounted r r' d d'

@@ -45,8 +45,10 @@ one_call fate call calls = record {
   told = told_before call calls;
 }
 
-pub call_carries : {n : ℕ} (fate : Fate n) (call : Call) (old new : List Call) → new ≡ call ∷ old → Carries (file_state n fate old) (file_state n fate new)
-call_carries {n} fate call old new is = subst (λ (calls : List Call). Carries (file_state n fate old) (file_state n fate calls)) (sym is) (one_call fate call old)
+pub call_carries : {n : ℕ} (fate : Fate n) (call : Call) (old new : List Call) → new ≡ call ∷ old
+    → Carries (file_state n fate old) (file_state n fate new)
+call_carries {n} fate call old new is =
+    subst (λ (calls : List Call). Carries (file_state n fate old) (file_state n fate calls)) (sym is) (one_call fate call old)
 
 -- a memory device
 passed : (rows rows' : List Row) (past : List (List Row)) (t : ℕ) (c : List Cell) → t ≤ length past

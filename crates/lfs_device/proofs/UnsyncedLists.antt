@@ -1,5 +1,6 @@
 -- Which sectors of a memory device are unsynced.
-use Rattle.std.proofs.Common.{◌≡◌, ◌<◌, ◌≤◌, ◌+◌, inl, inr, ◌||◌, ◌++◌, ℕ, zero, suc, Bool, true, false, not, cond, None, Some, List, [], ◌∷◌, length, map, drop, get_or, replicate, All, filter, nat_eq, refl, sym, ◌∙◌, ap, subst, arith, length-set}
+use Rattle.std.proofs.Common.{◌≡◌, ◌<◌, ◌≤◌, ◌+◌, inl, inr, ◌||◌, ◌++◌, ℕ, zero, suc, Bool, true, false, not, cond, None, Some, List, []}
+use Rattle.std.proofs.Common.{◌∷◌, length, map, drop, get_or, replicate, All, filter, nat_eq, refl, sym, ◌∙◌, ap, subst, arith, length-set}
 use Rattle.std.specs.Prelude.{slice_set, slice_index_or, IsSome, is_none, if◌then◌else◌}
 use Rattle.std.proofs.lemmas.Bool.{cases_eq, eq-eqb, ne_eqb, or_parts, false≢true}
 use Rattle.std.proofs.lemmas.List.{drop_all, drop_more, get_or_default}
@@ -52,14 +53,16 @@ listed_last k s listed missing =
     (parts.0, apart_from k s (or_parts (nat_eq k s) false parts.1).0)
 
 -- a sync: the listed sectors one after the other
-synced_next : (rows : List Row) (s : ℕ) (x : Cell) (rest : List ℕ) → s < length rows → ((k : ℕ) → is_listed k (s ∷ rest) ≡ false → IsSyncedAt rows k)
+synced_next : (rows : List Row) (s : ℕ) (x : Cell) (rest : List ℕ) → s < length rows
+    → ((k : ℕ) → is_listed k (s ∷ rest) ≡ false → IsSyncedAt rows k)
     → (k : ℕ) → is_listed k rest ≡ false → IsSyncedAt (slice_set rows s (stands_at x)) k
 synced_next rows s x rest lt others k missing = elim (cases_eq k s) [
   | inl same ↦ subst (IsSyncedAt (slice_set rows s (stands_at x))) (sym same) (synced_same rows s x lt)
   | inr apart ↦ synced_other rows s k (stands_at x) apart (others k (listed_first k s rest apart missing))
 ]
 
-pub settled_set : (rows : List Row) (s : ℕ) (row : Row) → row ≡ slice_index_or rows s row → map settled (slice_set rows s (settled row)) ≡ map settled rows
+pub settled_set : (rows : List Row) (s : ℕ) (row : Row) → row ≡ slice_index_or rows s row
+    → map settled (slice_set rows s (settled row)) ≡ map settled rows
 settled_set [] s row is = refl
 settled_set (r ∷ rows) zero row is = ap (λ (x : Row). settled x ∷ map settled rows) is
 settled_set (r ∷ rows) (suc s) row is = ap (λ (l : List Row). settled r ∷ l) (settled_set rows s row is)
@@ -81,7 +84,8 @@ module _ (old rows : List Row) (listed : List ℕ) (is : IsUnsyncedList listed o
   pub settling_within : i < length listed → get_or listed i 0 < length rows
   settling_within inside = let lt = is.within i 0 inside in let long = was.long in omega (arith, lt, long)
 
-  pub settling_next : i < length listed → (row new : Row) → row ≡ get_or rows (get_or listed i 0) row → new ≡ stands_at row.present → Settling old (slice_set rows (get_or listed i 0) new) listed (i + 1)
+  pub settling_next : i < length listed → (row new : Row) → row ≡ get_or rows (get_or listed i 0) row → new ≡ stands_at row.present
+      → Settling old (slice_set rows (get_or listed i 0) new) listed (i + 1)
   settling_next inside row new own stands =
       let s : ℕ = get_or listed i 0 in
       subst (λ (r : Row). Settling old (slice_set rows s r) listed (i + 1)) (sym stands) (record {
@@ -92,7 +96,8 @@ module _ (old rows : List Row) (listed : List ℕ) (is : IsUnsyncedList listed o
       })
 
   pub settling_ends : length listed ≤ i → rows ≡ map settled old
-  settling_ends past = sym (all_synced rows (λ k. was.others k (subst (λ (l : List ℕ). is_listed k l ≡ false) (sym (drop_all i listed past)) refl))) ∙ was.same
+  settling_ends past = sym
+      (all_synced rows (λ k. was.others k (subst (λ (l : List ℕ). is_listed k l ≡ false) (sym (drop_all i listed past)) refl))) ∙ was.same
 
 -- no sector is listed
 none_listed : (rows : List Row) → ((k : ℕ) → IsSyncedAt rows k) → IsUnsyncedList [] rows
@@ -105,16 +110,19 @@ each_settled (row ∷ rows) (suc k) = each_settled rows k
 
 pub none_after_sync : (listed : List ℕ) (old new : List Row) → listed ≡ [] → new ≡ map settled old → IsUnsyncedList listed new
 none_after_sync listed old new none is =
-    subst (λ (l : List ℕ). IsUnsyncedList l new) (sym none) (subst (IsUnsyncedList []) (sym is) (none_listed (map settled old) (each_settled old)))
+    subst (λ (l : List ℕ). IsUnsyncedList l new) (sym none)
+    (subst (IsUnsyncedList []) (sym is) (none_listed (map settled old) (each_settled old)))
 
 each_new : (n : ℕ) (x : Cell) (k : ℕ) → IsSyncedAt (replicate n (stands_at x)) k
 each_new zero x k = refl
 each_new (suc n) x zero = refl
 each_new (suc n) x (suc k) = each_new n x k
 
-pub none_if_new : (listed : List ℕ) (n : ℕ) (x : Cell) (rows : List Row) → listed ≡ [] → rows ≡ replicate n (stands_at x) → IsUnsyncedList listed rows
+pub none_if_new : (listed : List ℕ) (n : ℕ) (x : Cell) (rows : List Row) → listed ≡ [] → rows ≡ replicate n (stands_at x)
+    → IsUnsyncedList listed rows
 none_if_new listed n x rows none is =
-    subst (λ (l : List ℕ). IsUnsyncedList l rows) (sym none) (subst (IsUnsyncedList []) (sym is) (none_listed (replicate n (stands_at x)) (each_new n x)))
+    subst (λ (l : List ℕ). IsUnsyncedList l rows) (sym none)
+    (subst (IsUnsyncedList []) (sym is) (none_listed (replicate n (stands_at x)) (each_new n x)))
 
 either_synced : (b : Bool) (x y : Cell) (xs ys : List Row) → ((k : ℕ) → IsSyncedAt xs k) → ((k : ℕ) → IsSyncedAt ys k)
     → (k : ℕ) → IsSyncedAt (if b then stands_at x ∷ xs else stands_at y ∷ ys) k
@@ -126,12 +134,15 @@ either_synced false x y xs ys one two (suc k) = two k
 each_stopped : (choices : List Left) (rest : Left) (rows : List Row) (k : ℕ) → IsSyncedAt (stopped choices rest rows) k
 each_stopped choices rest [] k = refl
 each_stopped choices rest (row ∷ rows) k =
-    either_synced (is_none row.written) row.present (chosen (first_or rest choices) row) (stopped choices rest rows) (stopped (drop 1 choices) rest rows)
+    either_synced (is_none row.written) row.present (chosen (first_or rest choices) row) (stopped choices rest rows)
+    (stopped (drop 1 choices) rest rows)
     (each_stopped choices rest rows) (each_stopped (drop 1 choices) rest rows) k
 
-pub none_after_stop : (listed : List ℕ) (choices : List Left) (rest : Left) (old new : List Row) → listed ≡ [] → new ≡ stopped choices rest old → IsUnsyncedList listed new
+pub none_after_stop : (listed : List ℕ) (choices : List Left) (rest : Left) (old new : List Row) → listed ≡ []
+    → new ≡ stopped choices rest old → IsUnsyncedList listed new
 none_after_stop listed choices rest old new none is =
-    subst (λ (l : List ℕ). IsUnsyncedList l new) (sym none) (subst (IsUnsyncedList []) (sym is) (none_listed (stopped choices rest old) (each_stopped choices rest old)))
+    subst (λ (l : List ℕ). IsUnsyncedList l new) (sym none)
+    (subst (IsUnsyncedList []) (sym is) (none_listed (stopped choices rest old) (each_stopped choices rest old)))
 
 -- how many were written
 once_most : (b : Bool) → (if b then 0 else 1) ≤ 1
@@ -142,7 +153,8 @@ count_most : (rows : List Row) → written_count rows ≤ length rows
 count_most [] = omega arith
 count_most (row ∷ rows) = omega (arith, once_most (is_none row.written), count_most rows)
 
-count_set : (rows : List Row) (s : ℕ) (row : Row) → s < length rows → written_count (slice_set rows s row) + written_once (at rows s) ≡ written_count rows + written_once row
+count_set : (rows : List Row) (s : ℕ) (row : Row) → s < length rows
+    → written_count (slice_set rows s row) + written_once (at rows s) ≡ written_count rows + written_once row
 count_set [] s row lt = absurd (omega (arith, lt))
 count_set (r ∷ rows) zero row lt = omega arith
 count_set (r ∷ rows) (suc s) row lt = omega (arith, count_set rows s row (omega (arith, lt)))
@@ -177,15 +189,20 @@ module _ (listed : List ℕ) (rows : List Row) (s : ℕ) (is : IsUnsyncedList li
   pub listed_again : is_none (at rows s).written ≡ false → (row : Row) → IsSome row.written → IsUnsyncedList listed (slice_set rows s row)
   listed_again some row now = record {
     within = within_set row;
-    others = λ k missing. synced_other rows s k row (λ same. let zero_ = synced_not_written (at rows s) (subst (IsSyncedAt rows) same (is.others k missing)) in let one = was_written (at rows s) some in omega (arith, zero_, one)) (is.others k missing);
-    few = let few = is.few in let set = count_set rows s row lt in let one = was_written (at rows s) some in let new = was_written row (some_not_none row.written now) in omega (arith, few, set, one, new);
+    others = λ k missing. synced_other rows s k row (λ same. let zero_ = synced_not_written (at rows s) (subst (IsSyncedAt rows) same
+        (is.others k missing)) in let one = was_written (at rows s) some in omega (arith, zero_, one)) (is.others k missing);
+    few = let few = is.few in let set = count_set rows s row lt in let one = was_written (at rows s) some in
+        let new = was_written row (some_not_none row.written now) in omega (arith, few, set, one, new);
   }
 
-  pub listed_anew : is_none (at rows s).written ≡ true → (row : Row) → IsSome row.written → IsUnsyncedList (listed ++ s ∷ []) (slice_set rows s row)
+  pub listed_anew : is_none (at rows s).written ≡ true → (row : Row) → IsSome row.written
+      → IsUnsyncedList (listed ++ s ∷ []) (slice_set rows s row)
   listed_anew none row now = record {
-    within = All-push (λ t. t < length (slice_set rows s row)) listed s (within_set row) (subst (λ (n : ℕ). s < n) (sym (length-set rows s row)) lt);
+    within = All-push (λ t. t < length (slice_set rows s row)) listed s (within_set row)
+        (subst (λ (n : ℕ). s < n) (sym (length-set rows s row)) lt);
     others = λ k missing. let parts = listed_last k s listed missing in synced_other rows s k row parts.1 (is.others k parts.0);
-    few = let few = is.few in let set = count_set rows s row lt in let zero_ = not_written (at rows s) none in let new = was_written row (some_not_none row.written now) in let long = length_push listed in omega (arith, few, set, zero_, new, long);
+    few = let few = is.few in let set = count_set rows s row lt in let zero_ = not_written (at rows s) none in let new =
+        was_written row (some_not_none row.written now) in let long = length_push listed in omega (arith, few, set, zero_, new, long);
   }
     where
       length_push : (l : List ℕ) → length (l ++ s ∷ []) ≡ length l + 1
@@ -199,47 +216,58 @@ module _ (listed : List ℕ) (rows : List Row) (s : ℕ) (is : IsUnsyncedList li
   kept_listed : (l : List ℕ) (k : ℕ) → (k ≡ s → ⊥) → is_listed k (others_of l) ≡ false → is_listed k l ≡ false
   kept_listed [] k apart missing = refl
   kept_listed (t ∷ l) k apart missing = elim (cases_eq t s) [
-    | inl same ↦ listed_first k t l (λ too. apart (too ∙ same)) (kept_listed l k apart (subst (λ (b : Bool). is_listed k (cond (not b) (t ∷ others_of l) (others_of l)) ≡ false) (eq-eqb t s same) missing))
+    | inl same ↦ listed_first k t l (λ too. apart (too ∙ same)) (kept_listed l k apart
+        (subst (λ (b : Bool). is_listed k (cond (not b) (t ∷ others_of l) (others_of l)) ≡ false) (eq-eqb t s same) missing))
     | inr other ↦
-        let parts = or_parts (nat_eq k t) (is_listed k (others_of l)) (subst (λ (b : Bool). is_listed k (cond (not b) (t ∷ others_of l) (others_of l)) ≡ false) (ne_eqb t s other) missing) in
+        let parts = or_parts (nat_eq k t) (is_listed k (others_of l))
+        (subst (λ (b : Bool). is_listed k (cond (not b) (t ∷ others_of l) (others_of l)) ≡ false) (ne_eqb t s other) missing) in
         listed_first k t l (apart_from k t parts.0) (kept_listed l k apart parts.1)
   ]
 
   no_longer : (l : List ℕ) → length (others_of l) ≤ length l
   no_longer [] = omega arith
   no_longer (t ∷ l) = elim (cases_eq t s) [
-    | inl same ↦ subst (λ (b : Bool). length (cond (not b) (t ∷ others_of l) (others_of l)) ≤ length (t ∷ l)) (sym (eq-eqb t s same)) (let rest = no_longer l in omega (arith, rest))
-    | inr other ↦ subst (λ (b : Bool). length (cond (not b) (t ∷ others_of l) (others_of l)) ≤ length (t ∷ l)) (sym (ne_eqb t s other)) (let rest = no_longer l in omega (arith, rest))
+    | inl same ↦ subst (λ (b : Bool). length (cond (not b) (t ∷ others_of l) (others_of l)) ≤ length (t ∷ l)) (sym (eq-eqb t s same))
+        (let rest = no_longer l in omega (arith, rest))
+    | inr other ↦ subst (λ (b : Bool). length (cond (not b) (t ∷ others_of l) (others_of l)) ≤ length (t ∷ l)) (sym (ne_eqb t s other))
+        (let rest = no_longer l in omega (arith, rest))
   ]
 
   shorter : (l : List ℕ) → is_listed s l ≡ true → length (others_of l) + 1 ≤ length l
   shorter [] listed_ = absurd (false≢true listed_)
   shorter (t ∷ l) listed_ = elim (cases_eq t s) [
-    | inl same ↦ subst (λ (b : Bool). length (cond (not b) (t ∷ others_of l) (others_of l)) + 1 ≤ length (t ∷ l)) (sym (eq-eqb t s same)) (let rest = no_longer l in omega (arith, rest))
+    | inl same ↦ subst (λ (b : Bool). length (cond (not b) (t ∷ others_of l) (others_of l)) + 1 ≤ length (t ∷ l)) (sym (eq-eqb t s same))
+        (let rest = no_longer l in omega (arith, rest))
     | inr other ↦ subst (λ (b : Bool). length (cond (not b) (t ∷ others_of l) (others_of l)) + 1 ≤ length (t ∷ l)) (sym (ne_eqb t s other))
-        (let rest = shorter l (subst (λ (b : Bool). (b || is_listed s l) ≡ true) (ne_eqb s t (λ same. other (sym same))) listed_) in omega (arith, rest))
+        (let rest = shorter l (subst (λ (b : Bool). (b || is_listed s l) ≡ true) (ne_eqb s t (λ same. other (sym same))) listed_) in
+        omega (arith, rest))
   ]
 
-  few_kept : (row : Row) → row ≡ no_row → (b : Bool) → is_listed s listed ≡ b → length (others_of listed) ≤ written_count (slice_set rows s row)
+  few_kept : (row : Row) → row ≡ no_row → (b : Bool) → is_listed s listed ≡ b
+      → length (others_of listed) ≤ written_count (slice_set rows s row)
   few_kept row unreadable true found =
-      let few = is.few in let set = count_set rows s row lt in let most = once_most (is_none (at rows s).written) in let less = shorter listed found in
+      let few = is.few in let set = count_set rows s row lt in let most = once_most (is_none (at rows s).written) in
+      let less = shorter listed found in
       let none = ap written_once unreadable in omega (arith, few, set, most, less, none)
   few_kept row unreadable false missing =
-      let few = is.few in let set = count_set rows s row lt in let before = synced_not_written (at rows s) (is.others s missing) in let less = no_longer listed in
+      let few = is.few in let set = count_set rows s row lt in let before = synced_not_written (at rows s) (is.others s missing) in
+      let less = no_longer listed in
       let none = ap written_once unreadable in omega (arith, few, set, before, less, none)
 
   pub let_go_of : (new : List ℕ) (row : Row) → new ≡ others_of listed → row ≡ no_row → IsUnsyncedList new (slice_set rows s row)
   let_go_of new row are unreadable = subst (λ (l : List ℕ). IsUnsyncedList l (slice_set rows s row)) (sym are) (record {
     within = All-filter (λ t. not (nat_eq t s)) (λ t. t < length (slice_set rows s row)) listed (within_set row);
     others = λ k missing. elim (cases_eq k s) [
-      | inl same ↦ subst (IsSyncedAt (slice_set rows s row)) (sym same) (subst (λ (r : Row). IsSyncedAt (slice_set rows s r) s) (sym unreadable) (synced_same rows s None lt))
+      | inl same ↦ subst (IsSyncedAt (slice_set rows s row)) (sym same)
+          (subst (λ (r : Row). IsSyncedAt (slice_set rows s r) s) (sym unreadable) (synced_same rows s None lt))
       | inr apart ↦ synced_other rows s k row apart (is.others k (kept_listed listed k apart missing))
     ];
     few = few_kept row unreadable (is_listed s listed) refl;
   })
 
 -- the row that is looked at
-pub looked_at : (rows : List Row) (s : ℕ) (row : Row) (b : Bool) → s < length rows → row ≡ slice_index_or rows s row → is_none row.written ≡ b → is_none (slice_index_or rows s no_row).written ≡ b
+pub looked_at : (rows : List Row) (s : ℕ) (row : Row) (b : Bool) → s < length rows → row ≡ slice_index_or rows s row
+    → is_none row.written ≡ b → is_none (slice_index_or rows s no_row).written ≡ b
 looked_at rows s row b lt own is = ap (λ (r : Row). is_none r.written) (get_or_default rows s no_row row lt ∙ sym own) ∙ is
 
 -- there stays room for as many numbers as there are sectors

@@ -1,5 +1,6 @@
 -- The rows of a memory device stay those of sectors.
-use Rattle.std.proofs.Common.{◌≡◌, ◌<◌, ◌^◌, ℕ, zero, suc, List, [], ◌∷◌, length, map, drop, replicate, Bool, true, false, sym, subst, arith, length-set}
+use Rattle.std.proofs.Common.{◌≡◌, ◌<◌, ◌^◌, ℕ, zero, suc, List, [], ◌∷◌, length, map, drop, replicate, Bool, true, false, sym, subst}
+use Rattle.std.proofs.Common.{arith, length-set}
 use Rattle.std.specs.Prelude.{slice_set, slice_index_or, is_none, if◌then◌else◌}
 use Rattle.lfs_model.specs.Device.{Cell, IsSector}
 use Rattle.lfs_model.proofs.Cells.{all_same, all_set}
@@ -11,7 +12,8 @@ use Rattle.lfs_device.specs.Rows.{IsSectorRow, AreSectorRows, stands_at, settled
 pub whole_at : (x : Cell) → IsSector x → IsSectorRow (stands_at x)
 whole_at x has = record { present = has; synced = has; written = tt }
 
-pub whole_row : (rows : List Row) (s : ℕ) (row : Row) → row ≡ slice_index_or rows s row → AreSectorRows rows → s < length rows → IsSectorRow row
+pub whole_row : (rows : List Row) (s : ℕ) (row : Row) → row ≡ slice_index_or rows s row → AreSectorRows rows → s < length rows
+    → IsSectorRow row
 whole_row [] s row is whole lt = absurd (omega arith)
 whole_row (r ∷ rows) zero row is whole lt = subst IsSectorRow (sym is) whole.0
 whole_row (r ∷ rows) (suc s) row is whole lt = whole_row rows s row is whole.1 (omega arith)
@@ -39,10 +41,13 @@ whole_stopped : (choices : List Left) (rest : Left) (rows : List Row) → AreSec
 whole_stopped choices rest [] whole = tt
 whole_stopped choices rest (row ∷ rows) whole =
     either (is_none row.written) _ _
-    (whole_at row.present whole.0.present, whole_stopped choices rest rows whole.1)
-    (whole_at (chosen (first_or rest choices) row) (whole_chosen (first_or rest choices) row whole.0), whole_stopped (drop 1 choices) rest rows whole.1)
+    (whole_at row.present whole.0.present, whole_stopped choices rest rows whole.1) (
+      whole_at (chosen (first_or rest choices) row) (whole_chosen (first_or rest choices) row whole.0),
+      whole_stopped (drop 1 choices) rest rows whole.1,
+    )
 
-pub whole_after_stop : (choices : List Left) (rest : Left) (old new : List Row) → new ≡ stopped choices rest old → AreSectorRows old → AreSectorRows new
+pub whole_after_stop : (choices : List Left) (rest : Left) (old new : List Row) → new ≡ stopped choices rest old → AreSectorRows old
+    → AreSectorRows new
 whole_after_stop choices rest old new is whole = subst AreSectorRows (sym is) (whole_stopped choices rest old whole)
 
 pub whole_if_new : (n : ℕ) (x : Cell) (rows : List Row) → IsSector x → rows ≡ replicate n (stands_at x) → AreSectorRows rows

@@ -2,7 +2,8 @@
 use Rattle.std.specs.Prelude.{◌≡◌, ◌⊎◌, ℕ, ◌+◌, ◌^◌, ◌<◌, ◌≤◌, Some, None, List, [], ◌∷◌, length, refl}
 use Rattle.std.specs.List.{AllByRecursion}
 use Rattle.std.proofs.Common.{inl, inr, sym, ◌∙◌, ap, subst, arith, length-set}
-use Rattle.lfs_model.specs.Device.{Cell, cell_at, put, lose, MayWrite, left_old, left_new, left_bad, IsSector, AreSectorBytes, DeviceState, IsLawful}
+use Rattle.lfs_model.specs.Device.{Cell, cell_at, put, lose, MayWrite, left_old, left_new, left_bad, IsSector, AreSectorBytes, DeviceState}
+use Rattle.lfs_model.specs.Device.{IsLawful}
 use Rattle.lfs_model.specs.declared.Order.{Order}
 use Rattle.lfs_model.specs.declared.Order.TheVariants as order
 use Rattle.lfs_model.proofs.Cells.{all_set, bytes_prop, size_written, cells_written}
@@ -97,18 +98,21 @@ AreWhole-prop (Synced ∷ calls) = AreWhole-prop calls
 AreWhole-prop (Failed ∷ calls) = AreWhole-prop calls
 
 -- a failed write
-size_refused : (outcome : Left) (sector : ℕ) (bytes : List ℕ) (content : List Cell) → length (refused outcome sector bytes content) ≡ length content
+size_refused : (outcome : Left) (sector : ℕ) (bytes : List ℕ) (content : List Cell)
+    → length (refused outcome sector bytes content) ≡ length content
 size_refused Old sector bytes content = refl
 size_refused New sector bytes content = length-set content sector _
 size_refused Bad sector bytes content = length-set content sector _
 
-cells_refused : (outcome : Left) (sector : ℕ) (bytes : List ℕ) (content : List Cell) → AreSectorBytes bytes → AllByRecursion IsSector content
+cells_refused : (outcome : Left) (sector : ℕ) (bytes : List ℕ) (content : List Cell) → AreSectorBytes bytes
+    → AllByRecursion IsSector content
     → AllByRecursion IsSector (refused outcome sector bytes content)
 cells_refused Old sector bytes content has all = all
 cells_refused New sector bytes content has all = all_set IsSector content sector (Some bytes) has all
 cells_refused Bad sector bytes content has all = all_set IsSector content sector None tt all
 
-written_refused : (outcome : Left) (sector : ℕ) (bytes : List ℕ) (content : List Cell) → MayWrite sector bytes content (refused outcome sector bytes content)
+written_refused : (outcome : Left) (sector : ℕ) (bytes : List ℕ) (content : List Cell)
+    → MayWrite sector bytes content (refused outcome sector bytes content)
 written_refused Old sector bytes content = left_old refl
 written_refused New sector bytes content = left_new refl
 written_refused Bad sector bytes content = left_bad refl
@@ -118,14 +122,16 @@ module _ {n : ℕ} (fate : Fate n) where
   size_after [] = fate.size
   size_after (Given sector bytes ∷ calls) = size_after calls
   size_after (Written sector bytes ∷ calls) = length-set (content_after fate calls) sector _ ∙ size_after calls
-  size_after (Refused sector bytes ∷ calls) = size_refused (fate.outcome (length calls)) sector bytes.value (content_after fate calls) ∙ size_after calls
+  size_after (Refused sector bytes ∷ calls) = size_refused (fate.outcome (length calls)) sector bytes.value (content_after fate calls)
+      ∙ size_after calls
   size_after (Synced ∷ calls) = size_after calls
   size_after (Failed ∷ calls) = size_after calls
 
   cells_after : (calls : List Call) → AreWhole calls → AllByRecursion IsSector (content_after fate calls)
   cells_after [] whole = fate.now
   cells_after (Given sector bytes ∷ calls) whole = cells_after calls whole
-  cells_after (Written sector bytes ∷ calls) whole = all_set IsSector (content_after fate calls) sector (Some bytes.value) whole.0 (cells_after calls whole.1)
+  cells_after (Written sector bytes ∷ calls) whole =
+      all_set IsSector (content_after fate calls) sector (Some bytes.value) whole.0 (cells_after calls whole.1)
   cells_after (Refused sector bytes ∷ calls) whole =
       cells_refused (fate.outcome (length calls)) sector bytes.value (content_after fate calls) whole.0 (cells_after calls whole.1)
   cells_after (Synced ∷ calls) whole = cells_after calls whole
@@ -142,8 +148,10 @@ module _ {n : ℕ} (fate : Fate n) where
   cells_left : (calls : List Call) → AreWhole calls → (c : List Cell) → MayLeave fate calls c → AllByRecursion IsSector c
   cells_left [] whole c left = fate.cells c left
   cells_left (Given sector bytes ∷ calls) whole c left = cells_left calls whole c left
-  cells_left (Written sector bytes ∷ calls) whole c left = cells_written sector bytes.value left.0 c whole.0 (cells_left calls whole.1 left.0 left.1) left.2
-  cells_left (Refused sector bytes ∷ calls) whole c left = cells_written sector bytes.value left.0 c whole.0 (cells_left calls whole.1 left.0 left.1) left.2
+  cells_left (Written sector bytes ∷ calls) whole c left =
+      cells_written sector bytes.value left.0 c whole.0 (cells_left calls whole.1 left.0 left.1) left.2
+  cells_left (Refused sector bytes ∷ calls) whole c left =
+      cells_written sector bytes.value left.0 c whole.0 (cells_left calls whole.1 left.0 left.1) left.2
   cells_left (Synced ∷ calls) whole c left = subst (AllByRecursion IsSector) (sym left) (cells_after calls whole)
   cells_left (Failed ∷ calls) whole c left = cells_left calls whole c left
 
@@ -151,8 +159,11 @@ module _ {n : ℕ} (fate : Fate n) where
   present_left [] = fate.present
   present_left (Given sector bytes ∷ calls) = present_left calls
   present_left (Written sector bytes ∷ calls) = (content_after fate calls, present_left calls, left_new refl)
-  present_left (Refused sector bytes ∷ calls) =
-      (content_after fate calls, present_left calls, written_refused (fate.outcome (length calls)) sector bytes.value (content_after fate calls))
+  present_left (Refused sector bytes ∷ calls) = (
+    content_after fate calls,
+    present_left calls,
+    written_refused (fate.outcome (length calls)) sector bytes.value (content_after fate calls),
+  )
   present_left (Synced ∷ calls) = refl
   present_left (Failed ∷ calls) = present_left calls
 
@@ -169,9 +180,11 @@ module _ {n : ℕ} (fate : Fate n) where
   only_left : (calls : List Call) (c : List Cell) → LeftSince fate calls (length calls) c → MayLeave fate calls c
   only_left [] c left = left.1
   only_left (call ∷ calls) c (inl here) = here.1
-  only_left (call ∷ calls) c (inr there) = let late : length (call ∷ calls) ≤ length calls = ended calls (length (call ∷ calls)) c there in absurd (omega arith)
+  only_left (call ∷ calls) c (inr there) = let late : length (call ∷ calls) ≤ length calls = ended calls (length (call ∷ calls)) c there in
+      absurd (omega arith)
 
-pub earlier_file : {n : ℕ} (fate : Fate n) (calls : List Call) (t u : ℕ) (c : List Cell) → t ≤ u → LeftSince fate calls u c → LeftSince fate calls t c
+pub earlier_file : {n : ℕ} (fate : Fate n) (calls : List Call) (t u : ℕ) (c : List Cell) → t ≤ u → LeftSince fate calls u c
+    → LeftSince fate calls t c
 earlier_file fate [] t u c le left = ((let was = left.0 in omega (arith, le, was)), left.1)
 earlier_file fate (call ∷ calls) t u c le (inl now) = inl ((let was = now.0 in omega (arith, le, was)), now.1)
 earlier_file fate (call ∷ calls) t u c le (inr then') = inr (earlier_file fate calls t u c le then')

@@ -48,14 +48,16 @@ cells_now : (rows : List Row) → AreSectorRows rows → AllByRecursion IsSector
 cells_now [] whole = tt
 cells_now (row ∷ rows) whole = (whole.0.present, cells_now rows whole.1)
 
-cell_left : (row : Row) (Before : Cell → Type 0) (x : Cell) → IsSectorRow row → ((y : Cell) → Before y → IsSector y) → CellLeft row Before x → IsSector x
+cell_left : (row : Row) (Before : Cell → Type 0) (x : Cell) → IsSectorRow row → ((y : Cell) → Before y → IsSector y) → CellLeft row Before x
+    → IsSector x
 cell_left row Before x whole are (inl is) = subst IsSector (sym is) whole.synced
 cell_left row Before x whole are (inr (inl is)) = subst IsSector (sym is) whole.present
 cell_left row Before x whole are (inr (inr (some, inl is))) = subst IsSector (sym is) whole.written
 cell_left row Before x whole are (inr (inr (some, inr (inl is)))) = subst IsSector (sym is) tt
 cell_left row Before x whole are (inr (inr (some, inr (inr before)))) = are x before
 
-cells_left : (rows : List Row) (Before : ℕ → Cell → Type 0) → AreSectorRows rows → ((k : ℕ) (x : Cell) → Before k x → IsSector x) → (c : List Cell) → CanLeave rows Before c → AllByRecursion IsSector c
+cells_left : (rows : List Row) (Before : ℕ → Cell → Type 0) → AreSectorRows rows → ((k : ℕ) (x : Cell) → Before k x → IsSector x)
+    → (c : List Cell) → CanLeave rows Before c → AllByRecursion IsSector c
 cells_left [] Before whole are [] left = tt
 cells_left [] Before whole are (x ∷ c) left = absurd left
 cells_left (row ∷ rows) Before whole are [] left = absurd left
@@ -70,7 +72,8 @@ whole_at (row ∷ rows) (suc k) whole = whole_at rows k whole.1
 cells_reached : (past : List (List Row)) → AllByRecursion AreSectorRows past → (k : ℕ) (x : Cell) → PassedThrough past k x → IsSector x
 cells_reached [] whole k x reached = absurd reached
 cells_reached (rows ∷ past) whole k x reached =
-    cell_left (slice_index_or rows k (stands_at None)) (PassedThrough past k) x (whole_at rows k whole.0) (cells_reached past whole.1 k) reached
+    cell_left (slice_index_or rows k (stands_at None)) (PassedThrough past k) x (whole_at rows k whole.0)
+    (cells_reached past whole.1 k) reached
 
 pub AreWhole-prop : (rows : List Row) → IsProp (AreSectorRows rows)
 AreWhole-prop rows = AllByRecursion-prop IsSectorRow (λ row. Prim.hlevel (sector_prop)) rows
@@ -83,7 +86,8 @@ earlier_memory [] t u c le left = left
 earlier_memory (rows ∷ past) t u c le (inl now) = inl ((let was = now.0 in omega (arith, le, was)), now.1)
 earlier_memory (rows ∷ past) t u c le (inr then') = inr (earlier_memory past t u c le then')
 
-pub memory_lawful : (rows : List Row) (past : List (List Row)) (failed : Count) (told : List Order) → length rows < 2 ^ 32 → AreSectorRows rows → AllByRecursion AreSectorRows past → IsLawful (memory_state rows past failed told)
+pub memory_lawful : (rows : List Row) (past : List (List Row)) (failed : Count) (told : List Order) → length rows < 2 ^ 32
+    → AreSectorRows rows → AllByRecursion AreSectorRows past → IsLawful (memory_state rows past failed told)
 memory_lawful rows past failed told fits whole were_whole = record {
   fits = fits;
   size = length-map rows present_of;
@@ -92,6 +96,7 @@ memory_lawful rows past failed told fits whole were_whole = record {
   cells = cells_left rows (PassedThrough past) whole (cells_reached past were_whole);
   present = λ kept. present rows (PassedThrough past);
   counts_now = λ t c le now. inl now;
-  only_now = λ c left. elim left [ inl now ↦ now | inr was ↦ (let late : length past < length past = ended past (length past) c was in absurd (omega arith)) ];
+  only_now = λ c left. elim left
+      [ inl now ↦ now | inr was ↦ (let late : length past < length past = ended past (length past) c was in absurd (omega arith)) ];
   earlier = λ t u c le left. elim left [ inl now ↦ inl now | inr was ↦ inr (earlier_memory past t u c le was) ];
 }

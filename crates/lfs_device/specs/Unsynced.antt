@@ -1,5 +1,6 @@
 -- Which sectors of a memory device are unsynced.
-use Rattle.std.specs.Prelude.{◌≡◌, ◌<◌, ◌≤◌, ◌+◌, ℕ, Bool, false, None, List, [], ◌∷◌, length, slice_index_or, is_none, nat_eq, if◌then◌else◌}
+use Rattle.std.specs.Prelude.{◌≡◌, ◌<◌, ◌≤◌, ◌+◌, ℕ, Bool, false, None, List, [], ◌∷◌, length, slice_index_or, is_none, nat_eq}
+use Rattle.std.specs.Prelude.{if◌then◌else◌}
 use Rattle.std.specs.List.{All, list_any}
 use Rattle.std.proofs.Props.{props}
 use Rattle.lfs_device.specs.Rows.{stands_at, settled}

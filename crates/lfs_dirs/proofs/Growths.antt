@@ -7,7 +7,8 @@ use Rattle.lfs_dirs.specs.Growing.{GrowsDirectory}
 use Rattle.lfs_dirs.proofs.Widths.{slot_some}
 
 module _ {S D : Type 0} where
-  pub slot_grows : (s s' : FilesState S D) (d : ℕ) (head : Header) (at : ℕ) (slot : List ℕ) → length slot ≡ slot_len head.form → Writes s s' d head at slot → GrowsDirectory s s' 1 2
+  pub slot_grows : (s s' : FilesState S D) (d : ℕ) (head : Header) (at : ℕ) (slot : List ℕ) → length slot ≡ slot_len head.form
+      → Writes s s' d head at slot → GrowsDirectory s s' 1 2
   slot_grows s s' d head at slot long writes = record {
     headers = writes.headers;
     blocks = let more = writes.blocks in let most = (slot_some head.form).1 in omega (arith, more, long, most);

@@ -26,11 +26,14 @@ other_result e x is = let same : e ≡ x = cc in ap Err same
 
 -- ---- slots of a block
 pub puts_none : (form : ℕ) (block : List ℕ) (count : ℕ) (es : List Entry) → PutsSlots form (slots_in form block count (count - count)) es es
-puts_none form block count es behind is = subst (λ (a : List (List ℕ)). IsGatheredOf form (a ++ behind) es) (sym (no_slots form block count count (omega arith))) is
+puts_none form block count es behind is =
+    subst (λ (a : List (List ℕ)). IsGatheredOf form (a ++ behind) es) (sym (no_slots form block count count (omega arith))) is
 
 -- a slot before those that are there
-pub puts_more : (form : ℕ) (block : List ℕ) (count place next : ℕ) (slot : List ℕ) (old mid new : List Entry) → 0 < place → place ≤ count → next ≡ place - 1 → slot ≡ part (slot_len form * next) (slot_len form) block
-    → PutsSlots form (slots_in form block place (count - place)) old mid → gathered new ≡ with_slot (slot_in form slot) (gathered mid) → slot_in form slot ≢ None → PutsSlots form (slots_in form block next (count - next)) old new
+pub puts_more : (form : ℕ) (block : List ℕ) (count place next : ℕ) (slot : List ℕ) (old mid new : List Entry) → 0 < place → place ≤ count
+    → next ≡ place - 1 → slot ≡ part (slot_len form * next) (slot_len form) block
+    → PutsSlots form (slots_in form block place (count - place)) old mid → gathered new ≡ with_slot (slot_in form slot) (gathered mid)
+    → slot_in form slot ≢ None → PutsSlots form (slots_in form block next (count - next)) old new
 puts_more form block count place next slot old mid new some le before own was more formed behind is =
     let here : next + 1 ≡ place = omega (arith, some, before) in
     let split : slots_in form block next (count - next) ≡ slot ∷ slots_in form block place (count - place) =
@@ -39,56 +42,72 @@ puts_more form block count place next slot old mid new some le before own was mo
     ∙ ap (λ (s : List ℕ). s ∷ slots_in form block place (count - place)) (sym own)
     in
     let tail = was behind is in
-    let all : IsGatheredOf form (slot ∷ (slots_in form block place (count - place) ++ behind)) new = record { names = more ∙ ap (with_slot (slot_in form slot)) tail.names; formed = (formed, tail.formed) } in
+    let all : IsGatheredOf form (slot ∷ (slots_in form block place (count - place) ++ behind)) new =
+    record { names = more ∙ ap (with_slot (slot_in form slot)) tail.names; formed = (formed, tail.formed) } in
     subst (λ (a : List (List ℕ)). IsGatheredOf form (a ++ behind) new) (sym split) all
 
-module _ {S D : Type 0} (s s' : FilesState S D) (form d index count : ℕ) (few : count ≤ per_block form) (block : List ℕ) (told : TellsBlock s s' d index block) where
-  pub block_listed : (old new : List Entry) → PutsSlots form (first_slots form block count) old new → ListsBlock s s' form d index count old new
+module _ {S D : Type 0} (s s' : FilesState S D) (form d index count : ℕ) (few : count ≤ per_block form) (block : List ℕ)
+    (told : TellsBlock s s' d index block) where
+  pub block_listed : (old new : List Entry) → PutsSlots form (first_slots form block count) old new
+      → ListsBlock s s' form d index count old new
   block_listed old new puts m m' keeps has head same room =
       by (subst (λ (f : ℕ). count ≤ per_block f) (sym same) few)
-      (subst (λ (f : ℕ). per_block f * index + count ≤ slot_count head) (sym same) room) (subst (λ (f : ℕ). PutsSlots f (first_slots f block count) old new) (sym same) puts)
+      (subst (λ (f : ℕ). per_block f * index + count ≤ slot_count head) (sym same) room)
+      (subst (λ (f : ℕ). PutsSlots f (first_slots f block count) old new) (sym same) puts)
     where
-      by : count ≤ per_block head.form → per_block head.form * index + count ≤ slot_count head → PutsSlots head.form (first_slots head.form block count) old new
+      by : count ≤ per_block head.form → per_block head.form * index + count ≤ slot_count head
+          → PutsSlots head.form (first_slots head.form block count) old new
           → PutsSlots form (take count (drop (per_block form * index) (slots_at m' d head))) old new
       by few room puts = subst (λ (f : ℕ). PutsSlots f (take count (drop (per_block f * index) (slots_at m' d head))) old new) same
-          (subst (λ (a : List (List ℕ)). PutsSlots head.form a old new) (sym (slots_of_block m' d head index count block (told m m' keeps has) few room)) puts)
+          (subst (λ (a : List (List ℕ)). PutsSlots head.form a old new)
+          (sym (slots_of_block m' d head index count block (told m m' keeps has) few room)) puts)
 
   pub block_malformed : HasNoSlot form block count → LacksBlockSlot s s' form d index count
   block_malformed bad m m' keeps has head same room formed = each_is_slot m' d head index count block (told m m' keeps has)
-      (subst (λ (f : ℕ). count ≤ per_block f) (sym same) few) (subst (λ (f : ℕ). per_block f * index + count ≤ slot_count head) (sym same) room) formed
+      (subst (λ (f : ℕ). count ≤ per_block f) (sym same) few)
+      (subst (λ (f : ℕ). per_block f * index + count ≤ slot_count head) (sym same) room) formed
       (subst (λ (f : ℕ). HasNoSlot f block count) (sym same) bad)
 
 -- the names alone
-pub only_names : {S D : Type 0} (s s' : FilesState S D) (d : ℕ) (head : Header) (es : List Entry) → Inspects s s' d head es → Lists s s' d head es
+pub only_names : {S D : Type 0} (s s' : FilesState S D) (d : ℕ) (head : Header) (es : List Entry) → Inspects s s' d head es
+    → Lists s s' d head es
 only_names s s' d head es all m m' keeps has = (all m m' keeps has).names
 
 -- ---- the blocks from one of this index on
 module _ {S D : Type 0} (d : ℕ) (head : Header) where
   pub record ListedFrom (s s' : FilesState S D) (index : ℕ) (es : List Entry) : Type 0 where
     pub reads : Reads s s'
-    pub names : (m m' : LogMap) → s'.device.keeps_model → s.has m m' → IsGatheredOf head.form (drop (per_block head.form * index) (slots_at m' d head)) es
+    pub names : (m m' : LogMap) → s'.device.keeps_model → s.has m m'
+        → IsGatheredOf head.form (drop (per_block head.form * index) (slots_at m' d head)) es
 
-  pub list_begins : (s : FilesState S D) (index : ℕ) (es : List Entry) → es ≡ [] → slot_count head ≤ per_block head.form * index → ListedFrom s s index es
+  pub list_begins : (s : FilesState S D) (index : ℕ) (es : List Entry) → es ≡ [] → slot_count head ≤ per_block head.form * index
+      → ListedFrom s s index es
   list_begins s index es none past = record {
     reads = reads_none s;
     names = λ m m' keeps has. let many = slots_many m' d head in
-        subst (λ (a : List (List ℕ)). IsGatheredOf head.form a es) (sym (drop_all (per_block head.form * index) (slots_at m' d head) (omega (arith, many, past)))) (record { names = ap gathered none; formed = tt });
+        subst (λ (a : List (List ℕ)). IsGatheredOf head.form a es) (sym (drop_all (per_block head.form * index) (slots_at m' d head)
+        (omega (arith, many, past)))) (record { names = ap gathered none; formed = tt });
   }
 
-  pub list_ends : (s a : FilesState S D) (index : ℕ) (es ordered : List Entry) → index ≡ 0 → ListedFrom s a index es → pairs ordered ≡ gathered es → Inspects s a d head ordered
+  pub list_ends : (s a : FilesState S D) (index : ℕ) (es ordered : List Entry) → index ≡ 0 → ListedFrom s a index es
+      → pairs ordered ≡ gathered es → Inspects s a d head ordered
   list_ends s a index es ordered all was is m m' keeps has =
       let first : per_block head.form * index ≡ 0 = ap (λ (i : ℕ). per_block head.form * i) all ∙ omega arith in
-      let from : IsGatheredOf head.form (slots_at m' d head) es = subst (λ (n : ℕ). IsGatheredOf head.form (drop n (slots_at m' d head)) es) first (was.names m m' keeps has) in
+      let from : IsGatheredOf head.form (slots_at m' d head) es =
+      subst (λ (n : ℕ). IsGatheredOf head.form (drop n (slots_at m' d head)) es) first (was.names m m' keeps has) in
       record { names = is ∙ from.names; formed = from.formed }
 
-  module _ (s a b : FilesState S D) (index next count : ℕ) (old : List Entry) (is : count ≡ min (slot_count head - per_block head.form * next) (per_block head.form)) (low : per_block head.form * next < slot_count head) (was : ListedFrom s a index old) where
-    pub list_goes_on : (new : List Entry) → IsLawful s.device → 0 < index → next ≡ index - 1 → Reads a b → ListsBlock a b head.form d next count old new → ListedFrom s b next new
+  module _ (s a b : FilesState S D) (index next count : ℕ) (old : List Entry) (is : count ≡ min (slot_count head - per_block head.form
+      * next) (per_block head.form)) (low : per_block head.form * next < slot_count head) (was : ListedFrom s a index old) where
+    pub list_goes_on : (new : List Entry) → IsLawful s.device → 0 < index → next ≡ index - 1 → Reads a b
+        → ListsBlock a b head.form d next count old new → ListedFrom s b next new
     list_goes_on new lawful some before reads lists = record {
       reads = reads_more s a b lawful was.reads reads;
       names = λ m m' keeps has.
           let slots = slots_at m' d head in
           let here : index ≡ next + 1 = omega (arith, some, before) in
-          let more = lists m m' keeps (was.reads.has m m' has) head refl (omega (arith, is, low)) (drop (per_block head.form * index) slots) (was.names m m' (reads.looks.carries.kept_before keeps) has) in
+          let more = lists m m' keeps (was.reads.has m m' has) head refl (omega (arith, is, low)) (drop (per_block head.form * index) slots)
+          (was.names m m' (reads.looks.carries.kept_before keeps) has) in
           subst (λ (a : List (List ℕ)). IsGatheredOf head.form a new)
           (ap (λ (j : ℕ). take count (drop (per_block head.form * next) slots) ++ drop (per_block head.form * j) slots) here
           ∙ sym (block_and_rest head.form slots next count (slot_count head) (slots_many m' d head) is)) more;

@@ -1,6 +1,7 @@
 -- Entries in the order of their names, and the map that they give.
 use Rattle.std.specs.Prelude.{is_some}
-use Rattle.std.proofs.Common.{◌≡◌, ◌++◌, ◌&&◌, ◌||◌, not, cond, ℕ, Bool, true, false, T, List, [], ◌∷◌, filter, Option, Some, None, refl, sym, ◌∙◌, ap, subst, IsPermutation, IsSortedBy}
+use Rattle.std.proofs.Common.{◌≡◌, ◌++◌, ◌&&◌, ◌||◌, not, cond, ℕ, Bool, true, false, T, List, [], ◌∷◌, filter, Option, Some, None, refl}
+use Rattle.std.proofs.Common.{sym, ◌∙◌, ap, subst, IsPermutation, IsSortedBy}
 use Rattle.std.proofs.lemmas.Bool.{false≢true}
 use Rattle.std.proofs.lemmas.List.{reverse-append}
 use Rattle.std.proofs.lemmas.List.Kept.{IsStrictlySortedBy-dedup}
@@ -50,12 +51,14 @@ both false b p q = p
 
 below_pairs : (x : Entry) (es : List Entry) → AllByRecursion (λ y. by_name x y ≡ Less) es → T (below_all byte_cmp x.name.items (pairs es))
 below_pairs x [] all = tt
-below_pairs x (y ∷ es) all = both (comes_before x y) (below_all byte_cmp x.name.items (pairs es)) (subst (λ (r : Ordering). T (is_lt r)) (sym all.0) tt) (below_pairs x es all.1)
+below_pairs x (y ∷ es) all = both (comes_before x y) (below_all byte_cmp x.name.items (pairs es))
+    (subst (λ (r : Ordering). T (is_lt r)) (sym all.0) tt) (below_pairs x es all.1)
 
 sorted_pairs : (es : List Entry) → IsStrictlySortedBy by_name es → T (is_sorted byte_cmp (pairs es))
 unfolding IsStrictlySortedBy
 sorted_pairs [] rises = tt
-sorted_pairs (x ∷ es) rises = both (below_all byte_cmp x.name.items (pairs es)) (is_sorted byte_cmp (pairs es)) (below_pairs x es rises.0) (sorted_pairs es rises.1)
+sorted_pairs (x ∷ es) rises =
+    both (below_all byte_cmp x.name.items (pairs es)) (is_sorted byte_cmp (pairs es)) (below_pairs x es rises.0) (sorted_pairs es rises.1)
 
 -- ---- the number that a name gives
 shadowed : (b : Bool) (x y z : Option ℕ) → cond b x z ≡ cond b x (cond b y z)
@@ -63,15 +66,18 @@ shadowed true x y z = refl
 shadowed false x y z = refl
 
 -- it is the same without later entries of a name
-find_dedup_from : (q : List ℕ) (k : Entry) (es : List Entry) → find byte_cmp q (pairs (dedup_from same_name k es)) ≡ find byte_cmp q (pairs (k ∷ es))
+find_dedup_from : (q : List ℕ) (k : Entry) (es : List Entry)
+    → find byte_cmp q (pairs (dedup_from same_name k es)) ≡ find byte_cmp q (pairs (k ∷ es))
 find_dedup_from q k [] = refl
 find_dedup_from q k (x ∷ es) =
-    elim (same_name x k) as (λ b. same_name x k ≡ b → find byte_cmp q (pairs (cond b (dedup_from same_name k es) (k ∷ dedup_from same_name x es))) ≡ find byte_cmp q (pairs (k ∷ x ∷ es))) [
+    elim (same_name x k) as (λ b. same_name x k ≡ b → find byte_cmp q
+    (pairs (cond b (dedup_from same_name k es) (k ∷ dedup_from same_name x es))) ≡ find byte_cmp q (pairs (k ∷ x ∷ es))) [
       | true ↦ λ e.
           let name : k.name.items ≡ x.name.items = sym ((bytes_eq-Decides x.name.items k.name.items).0 e) in
           find_dedup_from q k es
           ∙ shadowed (eq_by_cmp byte_cmp q k.name.items) (Some k.number.value) (Some x.number.value) (find byte_cmp q (pairs es))
-          ∙ ap (λ (n : List ℕ). cond (eq_by_cmp byte_cmp q k.name.items) (Some k.number.value) (cond (eq_by_cmp byte_cmp q n) (Some x.number.value) (find byte_cmp q (pairs es)))) name
+          ∙ ap (λ (n : List ℕ). cond (eq_by_cmp byte_cmp q k.name.items) (Some k.number.value)
+          (cond (eq_by_cmp byte_cmp q n) (Some x.number.value) (find byte_cmp q (pairs es)))) name
       | false ↦ λ e. ap (λ (o : Option ℕ). cond (eq_by_cmp byte_cmp q k.name.items) (Some k.number.value) o) (find_dedup_from q x es)
     ] refl
 
@@ -83,7 +89,8 @@ find_dedup q (k ∷ es) = find_dedup_from q k es
 find_first_of_each : (q : List ℕ) (ps : List (List ℕ × ℕ)) → find byte_cmp q (first_of_each ps) ≡ find byte_cmp q ps
 find_first_of_each q [] = refl
 find_first_of_each q (p ∷ ps) =
-    find-put byte_cmp nat_list_cmp_total q p.0 p.1 (first_of_each ps) ∙ ap (λ (o : Option ℕ). cond (eq_by_cmp byte_cmp q p.0) (Some p.1) o) (find_first_of_each q ps)
+    find-put byte_cmp nat_list_cmp_total q p.0 p.1 (first_of_each ps)
+    ∙ ap (λ (o : Option ℕ). cond (eq_by_cmp byte_cmp q p.0) (Some p.1) o) (find_first_of_each q ps)
 
 sorted_first_of_each : (ps : List (List ℕ × ℕ)) → T (is_sorted byte_cmp (first_of_each ps))
 sorted_first_of_each [] = tt
@@ -102,11 +109,13 @@ abbrev number_of_first : List Entry → Option ℕ
 number_of_first [] = None
 number_of_first (e ∷ es) = Some e.number.value
 
-find_filtered : (x : Entry) (es : List Entry) → find byte_cmp x.name.items (pairs es) ≡ number_of_first (filter (are_tied comes_before x) es)
+find_filtered : (x : Entry) (es : List Entry)
+    → find byte_cmp x.name.items (pairs es) ≡ number_of_first (filter (are_tied comes_before x) es)
 find_filtered x [] = refl
 find_filtered x (e ∷ es) =
     let rest : List Entry = filter (are_tied comes_before x) es in
-    (elim (eq_by_cmp by_name x e) as (λ b. cond b (Some e.number.value) (find byte_cmp x.name.items (pairs es)) ≡ number_of_first (cond b (e ∷ rest) rest)) [
+    (elim (eq_by_cmp by_name x e)
+    as (λ b. cond b (Some e.number.value) (find byte_cmp x.name.items (pairs es)) ≡ number_of_first (cond b (e ∷ rest) rest)) [
       | true ↦ refl
       | false ↦ find_filtered x es
     ])
@@ -115,15 +124,18 @@ find_filtered x (e ∷ es) =
 entry_found : (q : List ℕ) (es : List Entry) → is_some (find byte_cmp q (pairs es)) ≡ true → (x : Entry) × (q ≡ x.name.items)
 entry_found q [] some = absurd (false≢true some)
 entry_found q (e ∷ es) some =
-    elim (eq_by_cmp byte_cmp q e.name.items) as (λ b. eq_by_cmp byte_cmp q e.name.items ≡ b → is_some (cond b (Some e.number.value) (find byte_cmp q (pairs es))) ≡ true → (x : Entry) × (q ≡ x.name.items)) [
+    elim (eq_by_cmp byte_cmp q e.name.items) as (λ b. eq_by_cmp byte_cmp q e.name.items ≡ b
+    → is_some (cond b (Some e.number.value) (find byte_cmp q (pairs es))) ≡ true → (x : Entry) × (q ≡ x.name.items)) [
       | true ↦ λ is some. (e, tied q e.name.items is)
       | false ↦ λ is some. entry_found q es some
     ] refl some
 
-some_found : (q : List ℕ) (es : List Entry) → is_some (find byte_cmp q (pairs es)) ≡ list_any (λ (e : Entry). eq_by_cmp byte_cmp q e.name.items) es
+some_found : (q : List ℕ) (es : List Entry)
+    → is_some (find byte_cmp q (pairs es)) ≡ list_any (λ (e : Entry). eq_by_cmp byte_cmp q e.name.items) es
 some_found q [] = refl
 some_found q (e ∷ es) =
-    elim (eq_by_cmp byte_cmp q e.name.items) as (λ b. is_some (cond b (Some e.number.value) (find byte_cmp q (pairs es))) ≡ cond b true (list_any (λ (f : Entry). eq_by_cmp byte_cmp q f.name.items) es)) [
+    elim (eq_by_cmp byte_cmp q e.name.items) as (λ b. is_some (cond b (Some e.number.value) (find byte_cmp q (pairs es)))
+    ≡ cond b true (list_any (λ (f : Entry). eq_by_cmp byte_cmp q f.name.items) es)) [
       | true ↦ refl
       | false ↦ some_found q es
     ] ∙ one_or (eq_by_cmp byte_cmp q e.name.items) (list_any (λ (f : Entry). eq_by_cmp byte_cmp q f.name.items) es)
@@ -137,21 +149,27 @@ neither_found None None lacks none = refl
 neither_found None (Some n) lacks none = absurd (false≢true (sym none))
 neither_found (Some m) p lacks none = absurd (false≢true (sym lacks))
 
-same_finds : (xs ys : List Entry) → IsPermutation xs ys → IsStableBy comes_before xs ys → (q : List ℕ) → find byte_cmp q (pairs ys) ≡ find byte_cmp q (pairs xs)
-same_finds xs ys moved stable q = elim (is_some (find byte_cmp q (pairs xs))) as (λ b. is_some (find byte_cmp q (pairs xs)) ≡ b → find byte_cmp q (pairs ys) ≡ find byte_cmp q (pairs xs)) [
-  | true ↦ λ some.
-      let found = entry_found q xs some in
-      subst (λ (n : List ℕ). find byte_cmp n (pairs ys) ≡ find byte_cmp n (pairs xs)) (sym found.1)
-      (find_filtered found.0 ys ∙ ap number_of_first (stable found.0) ∙ sym (find_filtered found.0 xs))
-  | false ↦ λ none.
-      neither_found (find byte_cmp q (pairs ys)) (find byte_cmp q (pairs xs))
-      (some_found q ys ∙ sym (list_any-IsPermutation (λ (e : Entry). eq_by_cmp byte_cmp q e.name.items) xs ys moved) ∙ sym (some_found q xs) ∙ none) none
-] refl
+same_finds : (xs ys : List Entry) → IsPermutation xs ys → IsStableBy comes_before xs ys → (q : List ℕ)
+    → find byte_cmp q (pairs ys) ≡ find byte_cmp q (pairs xs)
+same_finds xs ys moved stable q = elim (is_some (find byte_cmp q (pairs xs)))
+    as (λ b. is_some (find byte_cmp q (pairs xs)) ≡ b → find byte_cmp q (pairs ys) ≡ find byte_cmp q (pairs xs)) [
+      | true ↦ λ some.
+          let found = entry_found q xs some in
+          subst (λ (n : List ℕ). find byte_cmp n (pairs ys) ≡ find byte_cmp n (pairs xs)) (sym found.1)
+          (find_filtered found.0 ys ∙ ap number_of_first (stable found.0) ∙ sym (find_filtered found.0 xs))
+      | false ↦ λ none.
+          neither_found (find byte_cmp q (pairs ys)) (find byte_cmp q (pairs xs))
+          (some_found q ys ∙ sym (list_any-IsPermutation (λ (e : Entry). eq_by_cmp byte_cmp q e.name.items) xs ys moved)
+          ∙ sym (some_found q xs)
+          ∙ none) none
+    ] refl
 
 -- ---- entries that are sorted, and of each name the first
-pub ordered : (xs ys zs : List Entry) → IsPermutation xs ys → IsStableBy comes_before xs ys → IsSortedBy comes_before ys → zs ≡ dedup same_name ys → pairs zs ≡ first_of_each (pairs xs)
+pub ordered : (xs ys zs : List Entry) → IsPermutation xs ys → IsStableBy comes_before xs ys → IsSortedBy comes_before ys
+    → zs ≡ dedup same_name ys → pairs zs ≡ first_of_each (pairs xs)
 ordered xs ys zs moved stable sorted is =
     ap pairs is
-    ∙ same_entries byte_cmp nat_list_cmp_total (slice_cmp-IsAntisymmetric nat_cmp-IsAntisymmetric) (pairs (dedup same_name ys)) (first_of_each (pairs xs))
+    ∙ same_entries byte_cmp nat_list_cmp_total (slice_cmp-IsAntisymmetric nat_cmp-IsAntisymmetric) (pairs (dedup same_name ys))
+    (first_of_each (pairs xs))
     (sorted_pairs (dedup same_name ys) (IsStrictlySortedBy-dedup name_order same_is_tied ys sorted)) (sorted_first_of_each (pairs xs))
     (λ q. find_dedup q ys ∙ same_finds xs ys moved stable q ∙ sym (find_first_of_each q (pairs xs)))

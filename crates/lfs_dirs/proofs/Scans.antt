@@ -13,12 +13,15 @@ use Rattle.lfs_dirs.proofs.SlotPlaces.{block_slot, block_slots_many}
 
 module _ (form : ℕ) where
   -- ---- the slots from one on
-  next_slots : (block : List ℕ) (at n : ℕ) → slots_in form block at (suc n) ≡ part (slot_len form * at) (slot_len form) block ∷ slots_in form block (at + 1) n
+  next_slots : (block : List ℕ) (at n : ℕ)
+      → slots_in form block at (suc n) ≡ part (slot_len form * at) (slot_len form) block ∷ slots_in form block (at + 1) n
   unfolding slots_in
   next_slots block at n = refl
 
-  pub next_slot : (block : List ℕ) (at count : ℕ) → at < count → slots_in form block at (count - at) ≡ part (slot_len form * at) (slot_len form) block ∷ slots_in form block (at + 1) (count - (at + 1))
-  next_slot block at count low = let more : count - at ≡ suc (count - (at + 1)) = omega (arith, low) in ap (slots_in form block at) more ∙ next_slots block at (count - (at + 1))
+  pub next_slot : (block : List ℕ) (at count : ℕ) → at < count → slots_in form block at (count - at)
+      ≡ part (slot_len form * at) (slot_len form) block ∷ slots_in form block (at + 1) (count - (at + 1))
+  next_slot block at count low = let more : count - at ≡ suc (count - (at + 1)) = omega (arith, low) in
+      ap (slots_in form block at) more ∙ next_slots block at (count - (at + 1))
 
   pub no_slots : (block : List ℕ) (at count : ℕ) → count ≤ at → slots_in form block at (count - at) ≡ []
   unfolding slots_in
@@ -31,23 +34,30 @@ module _ (form : ℕ) where
   module _ (block : List ℕ) (count : ℕ) (name : List ℕ) where
     -- no slot before this place has the name
     abbrev pub ScannedTo : ℕ → Type 0
-    ScannedTo at = find byte_cmp name (map_of form (slots_in form block at (count - at))) ≡ find byte_cmp name (map_of form (first_slots form block count))
+    ScannedTo at = find byte_cmp name (map_of form (slots_in form block at (count - at)))
+        ≡ find byte_cmp name (map_of form (first_slots form block count))
 
-    pub scan_hit : (at : ℕ) (n : FileNumber) (s : SlotValue) → at < count → ScannedTo at → slot_in form (part (slot_len form * at) (slot_len form) block) ≡ Some s → name ≡ s.name → n.value ≡ s.number → IsSlotOf form (first_slots form block count) name record { place = at; number = n }
+    pub scan_hit : (at : ℕ) (n : FileNumber) (s : SlotValue) → at < count → ScannedTo at
+        → slot_in form (part (slot_len form * at) (slot_len form) block) ≡ Some s → name ≡ s.name → n.value ≡ s.number
+        → IsSlotOf form (first_slots form block count) name record { place = at; number = n }
     scan_hit at n s low was is same number = record {
       gives =
           sym was ∙ ap (λ (a : List (List ℕ)). find byte_cmp name (map_of form a)) (next_slot block at count low)
-          ∙ found_first name s (slot_in form (part (slot_len form * at) (slot_len form) block)) (map_of form (slots_in form block (at + 1) (count - (at + 1)))) is same ∙ ap Some (sym number);
+          ∙ found_first name s (slot_in form (part (slot_len form * at) (slot_len form) block))
+          (map_of form (slots_in form block (at + 1) (count - (at + 1)))) is same ∙ ap Some (sym number);
       inside = let many = block_slots_many form block 0 count in omega (arith, many, low);
       slot =
           let here : 0 + at ≡ at = omega arith in
-          ap (slot_in form) (block_slot form block 0 count at low ∙ ap (λ (j : ℕ). part (slot_len form * j) (slot_len form) block) here) ∙ is
+          ap (slot_in form) (block_slot form block 0 count at low ∙ ap (λ (j : ℕ). part (slot_len form * j) (slot_len form) block) here)
+          ∙ is
           ∙ ap₂ slot_giving (sym number) (sym same);
     }
 
-    pub scan_miss : (at : ℕ) → at < count → ScannedTo at → ((s : SlotValue) → slot_in form (part (slot_len form * at) (slot_len form) block) ≡ Some s → name ≢ s.name) → ScannedTo (at + 1)
+    pub scan_miss : (at : ℕ) → at < count → ScannedTo at
+        → ((s : SlotValue) → slot_in form (part (slot_len form * at) (slot_len form) block) ≡ Some s → name ≢ s.name) → ScannedTo (at + 1)
     scan_miss at low was other =
-        sym (found_past name (slot_in form (part (slot_len form * at) (slot_len form) block)) (map_of form (slots_in form block (at + 1) (count - (at + 1)))) other)
+        sym (found_past name (slot_in form (part (slot_len form * at) (slot_len form) block))
+        (map_of form (slots_in form block (at + 1) (count - (at + 1)))) other)
         ∙ ap (λ (a : List (List ℕ)). find byte_cmp name (map_of form a)) (sym (next_slot block at count low)) ∙ was
 
     pub scan_end : (at : ℕ) → count ≤ at → ScannedTo at → find byte_cmp name (map_of form (first_slots form block count)) ≡ None

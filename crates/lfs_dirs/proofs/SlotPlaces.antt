@@ -21,9 +21,11 @@ use Rattle.lfs_dirs.proofs.Widths.{byte_block, byte_place, byte_within, place_lo
 pub slot_at : (m : LogMap) (d : ℕ) (head : Header) (j : ℕ) → j < slot_count head
     → get_or (slots_at m d head) j [] ≡ take (slot_len head.form) (drop (slot_len head.form * j) (object m d (as_header head)))
 unfolding slots
-slot_at m d head j low = get_or-map-range_with_len (λ j. take (slot_len head.form) (drop (slot_len head.form * j) (object m d (as_header head)))) 0 (slot_count head) j j [] low (omega arith)
+slot_at m d head j low = get_or-map-range_with_len (λ j.
+    take (slot_len head.form) (drop (slot_len head.form * j) (object m d (as_header head)))) 0 (slot_count head) j j [] low (omega arith)
 
-pub slot_long : (m : LogMap) (d : ℕ) (head : Header) (j : ℕ) → j < slot_count head → length (get_or (slots_at m d head) j []) ≡ slot_len head.form
+pub slot_long : (m : LogMap) (d : ℕ) (head : Header) (j : ℕ) → j < slot_count head
+    → length (get_or (slots_at m d head) j []) ≡ slot_len head.form
 slot_long m d head j low =
     let t = length-take (slot_len head.form) (drop (slot_len head.form * j) (object m d (as_header head))) in
     let l = length-drop (slot_len head.form * j) (object m d (as_header head)) in
@@ -44,21 +46,25 @@ pub slot_is : (m : LogMap) (d : ℕ) (head : Header) (j : ℕ) (s : List ℕ) �
     → ((b : ℕ) → b < slot_len head.form → get_or s b 0 ≡ byte_in m d (slot_len head.form * j + b)) → get_or (slots_at m d head) j [] ≡ s
 slot_is m d head j s low long each =
     let l = slot_long m d head j low in
-    same_number_lists (get_or (slots_at m d head) j []) s (l ∙ sym long) (λ b inside. slot_byte m d head j b low (omega (arith, l, inside)) ∙ sym (each b (omega (arith, l, inside))))
+    same_number_lists (get_or (slots_at m d head) j []) s (l ∙ sym long)
+    (λ b inside. slot_byte m d head j b low (omega (arith, l, inside)) ∙ sym (each b (omega (arith, l, inside))))
 
 pub slots_many : (m : LogMap) (d : ℕ) (head : Header) → length (slots_at m d head) ≡ slot_count head
 slots_many m d head = slots_length m d (as_header head)
 
 -- ---- a slot of a block
-pub block_slot : (form : ℕ) (block : List ℕ) (at count k : ℕ) → k < count → get_or (slots_in form block at count) k [] ≡ part (slot_len form * (at + k)) (slot_len form) block
+pub block_slot : (form : ℕ) (block : List ℕ) (at count k : ℕ) → k < count
+    → get_or (slots_in form block at count) k [] ≡ part (slot_len form * (at + k)) (slot_len form) block
 unfolding slots_in
-block_slot form block at count k low = get_or-map-range_with_len (λ i. part (slot_len form * i) (slot_len form) block) at count k (at + k) [] low refl
+block_slot form block at count k low =
+    get_or-map-range_with_len (λ i. part (slot_len form * i) (slot_len form) block) at count k (at + k) [] low refl
 
 pub block_slots_many : (form : ℕ) (block : List ℕ) (at count : ℕ) → length (slots_in form block at count) ≡ count
 unfolding slots_in
 block_slots_many form block at count = length-map-range_with_len (λ i. part (slot_len form * i) (slot_len form) block) at count
 
-pub part_long : (form : ℕ) (block : List ℕ) (k : ℕ) → length block ≡ 512 → k < per_block form → length (part (slot_len form * k) (slot_len form) block) ≡ slot_len form
+pub part_long : (form : ℕ) (block : List ℕ) (k : ℕ) → length block ≡ 512 → k < per_block form
+    → length (part (slot_len form * k) (slot_len form) block) ≡ slot_len form
 unfolding part
 part_long form block k long low =
     let t = length-take (slot_len form) (drop (slot_len form * k) block) in
@@ -66,9 +72,11 @@ part_long form block k long low =
     let w = slot_inside form k low in
     omega (arith, t, l, long, w)
 
-pub part_byte : (form : ℕ) (block : List ℕ) (k b : ℕ) → b < slot_len form → get_or (part (slot_len form * k) (slot_len form) block) b 0 ≡ get_or block (slot_len form * k + b) 0
+pub part_byte : (form : ℕ) (block : List ℕ) (k b : ℕ) → b < slot_len form
+    → get_or (part (slot_len form * k) (slot_len form) block) b 0 ≡ get_or block (slot_len form * k + b) 0
 unfolding part
-part_byte form block k b inside = get_or-take (slot_len form) (drop (slot_len form * k) block) b 0 inside ∙ get_or-drop (slot_len form * k) block b 0
+part_byte form block k b inside = get_or-take (slot_len form) (drop (slot_len form * k) block) b 0 inside
+    ∙ get_or-drop (slot_len form * k) block b 0
 
 -- ---- the slots of a block are the directory's
 in_block : (m : LogMap) (d form i k b : ℕ) → k < per_block form → b < slot_len form
@@ -76,10 +84,12 @@ in_block : (m : LogMap) (d form i k b : ℕ) → k < per_block form → b < slot
 in_block m d form i k b low inside =
     ap₂ (λ (x y : ℕ). slice_index (m.block d x) y) (byte_block form i k b low inside) (byte_place form i k b low inside)
 
-pub slot_of_block : (m : LogMap) (d : ℕ) (head : Header) (i k : ℕ) (block : List ℕ) → HoldsBlock m d i block → k < per_block head.form → per_block head.form * i + k < slot_count head
+pub slot_of_block : (m : LogMap) (d : ℕ) (head : Header) (i k : ℕ) (block : List ℕ) → HoldsBlock m d i block → k < per_block head.form
+    → per_block head.form * i + k < slot_count head
     → get_or (slots_at m d head) (per_block head.form * i + k) [] ≡ part (slot_len head.form * k) (slot_len head.form) block
 slot_of_block m d head i k block is low inside =
-    slot_is m d head (per_block head.form * i + k) (part (slot_len head.form * k) (slot_len head.form) block) inside (part_long head.form block k is.long low)
+    slot_is m d head (per_block head.form * i + k) (part (slot_len head.form * k) (slot_len head.form) block) inside
+    (part_long head.form block k is.long low)
     (λ b small. part_byte head.form block k b small ∙ is.bytes (slot_len head.form * k + b) ∙ in_block m d head.form i k b low small)
 
 pub slots_of_block : SlotsOfBlock
@@ -88,7 +98,8 @@ slots_of_block m d head i count block is few room =
     let behind = length-drop (per_block head.form * i) (slots_at m d head) in
     let taken = length-take count (drop (per_block head.form * i) (slots_at m d head)) in
     let long : length (take count (drop (per_block head.form * i) (slots_at m d head))) ≡ count = omega (arith, all, behind, taken, room) in
-    ext_get_or [] (take count (drop (per_block head.form * i) (slots_at m d head))) (first_slots head.form block count) (long ∙ sym (block_slots_many head.form block 0 count))
+    ext_get_or [] (take count (drop (per_block head.form * i) (slots_at m d head))) (first_slots head.form block count)
+    (long ∙ sym (block_slots_many head.form block 0 count))
     (λ k low.
     let inside : k < count = omega (arith, low, long) in
     get_or-take count (drop (per_block head.form * i) (slots_at m d head)) k [] inside
@@ -101,7 +112,8 @@ pub slot_in_block : SlotInBlock
 slot_in_block m d head place block is inside =
     let here = slot_split head.form place in
     ap (λ (j : ℕ). get_or (slots_at m d head) j []) (sym here)
-    ∙ slot_of_block m d head (place / per_block head.form) (place % per_block head.form) block is (place_low head.form place) (subst (λ (j : ℕ). j < slot_count head) (sym here) inside)
+    ∙ slot_of_block m d head (place / per_block head.form) (place % per_block head.form) block is (place_low head.form place)
+    (subst (λ (j : ℕ). j < slot_count head) (sym here) inside)
 
 pub names_many : NamesMany
 names_many m d head dir = dir.apart ∙ slots_many m d head

@@ -1,6 +1,7 @@
 -- A slot written behind those of a directory.
 use Rattle.std.specs.Prelude.{max}
-use Rattle.std.proofs.Common.{◌≡◌, ◌≢◌, ◌<◌, ◌≤◌, ⊎_elim, ◌+◌, ◌*◌, ℕ, List, [], ◌∷◌, ◌++◌, length, get_or, None, sym, ◌∙◌, ap, subst, arith}
+use Rattle.std.proofs.Common.{◌≡◌, ◌≢◌, ◌<◌, ◌≤◌, ⊎_elim, ◌+◌, ◌*◌, ℕ, List, [], ◌∷◌, ◌++◌, length, get_or, None, sym, ◌∙◌, ap, subst}
+use Rattle.std.proofs.Common.{arith}
 use Rattle.std.proofs.lemmas.Bool.{cases_lt}
 use Rattle.std.proofs.lemmas.List.{ext_get_or, get_or_append_left, get_or_push, length_push}
 use Rattle.std.specs.FinMap.{find}
@@ -20,18 +21,22 @@ use Rattle.lfs_dirs.proofs.SlotNames.{appended, appended_apart, appended_formed}
 use Rattle.lfs_dirs.proofs.SlotPlaces.{slot_byte, slot_is, slot_long, slots_many}
 
 -- ---- the slots
-module _ (m m' : LogMap) (d : ℕ) (head : Header) (slot : List ℕ) (dir : IsDirectory m d (as_header head)) (long : length slot ≡ slot_len head.form) (writes : WritesBytes m m' d (as_header head) (as_header (grown head)) head.size slot) where
+module _ (m m' : LogMap) (d : ℕ) (head : Header) (slot : List ℕ) (dir : IsDirectory m d (as_header head))
+    (long : length slot ≡ slot_len head.form) (writes : WritesBytes m m' d (as_header head) (as_header (grown head)) head.size slot) where
   old_slot : (j : ℕ) → j < slot_count head → get_or (slots_at m' d (grown head)) j [] ≡ get_or (slots_at m d head) j []
   old_slot j low =
-      slot_is m' d (grown head) j (get_or (slots_at m d head) j []) (let more = count_more head.form head.size in omega (arith, low, more)) (slot_long m d head j low)
-      (λ b inside. slot_byte m d head j b low inside ∙ sym (writes.bytes.before (slot_len head.form * j + b) (byte_within head.form j b head.size low inside)))
+      slot_is m' d (grown head) j (get_or (slots_at m d head) j []) (let more = count_more head.form head.size in omega (arith, low, more))
+      (slot_long m d head j low)
+      (λ b inside. slot_byte m d head j b low inside
+      ∙ sym (writes.bytes.before (slot_len head.form * j + b) (byte_within head.form j b head.size low inside)))
 
   new_slot : get_or (slots_at m' d (grown head)) (slot_count head) [] ≡ slot
   new_slot =
       let whole = dir.whole in
       slot_is m' d (grown head) (slot_count head) slot (let more = count_more head.form head.size in omega (arith, more)) long
       (λ b inside.
-      let place : head.size + b ≡ slot_len head.form * (slot_count head) + b = (let w = whole_size head.form head.size whole in omega (arith, w)) in
+      let place : head.size + b ≡ slot_len head.form * (slot_count head) + b =
+      (let w = whole_size head.form head.size whole in omega (arith, w)) in
       sym (writes.bytes.inside b (omega (arith, inside, long))) ∙ ap (λ (p : ℕ). byte_in m' d p) place)
 
   pub slots_grown : slots_at m' d (grown head) ≡ slots_at m d head ++ slot ∷ []
@@ -43,23 +48,29 @@ module _ (m m' : LogMap) (d : ℕ) (head : Header) (slot : List ℕ) (dir : IsDi
       let same : length (slots_at m' d (grown head)) ≡ length (slots_at m d head ++ slot ∷ []) = omega (arith, many, more, pushed, one) in
       ext_get_or [] (slots_at m' d (grown head)) (slots_at m d head ++ slot ∷ []) same
       (λ j inside. ⊎_elim
-      (λ (low : j < slot_count head). old_slot j low ∙ sym (get_or_append_left (slots_at m d head) (slot ∷ []) [] j (omega (arith, low, many))))
+      (λ (low : j < slot_count head). old_slot j low
+      ∙ sym (get_or_append_left (slots_at m d head) (slot ∷ []) [] j (omega (arith, low, many))))
       (λ (high : slot_count head ≤ j).
       let last : slot_count head ≡ j = omega (arith, high, inside, more, one) in
-      ap (λ (i : ℕ). get_or (slots_at m' d (grown head)) i []) (sym last) ∙ new_slot ∙ sym (get_or_push (slots_at m d head) slot [] j (many ∙ last)))
+      ap (λ (i : ℕ). get_or (slots_at m' d (grown head)) i []) (sym last) ∙ new_slot
+      ∙ sym (get_or_push (slots_at m d head) slot [] j (many ∙ last)))
       (cases_lt j (slot_count head)))
 
 pub slot_written : SlotWritten
 slot_written m m' d head slot dir long writes = slots_grown m m' d head slot dir long writes
 
 -- ---- the names
-pub adds_name : (m m' : LogMap) (d : ℕ) (head : Header) (n : ℕ) (name : List ℕ) → FitsSlot head.form record { number = n; name = name } → length (slot_for head.form n name) ≡ slot_len head.form → IsDirectory m d (as_header head)
-    → find byte_cmp name (names_at m d head) ≡ None → WritesBytes m m' d (as_header head) (as_header (grown head)) head.size (slot_for head.form n name) → AddsName m m' d head n name
+pub adds_name : (m m' : LogMap) (d : ℕ) (head : Header) (n : ℕ) (name : List ℕ) → FitsSlot head.form record { number = n; name = name }
+    → length (slot_for head.form n name) ≡ slot_len head.form → IsDirectory m d (as_header head)
+    → find byte_cmp name (names_at m d head) ≡ None
+    → WritesBytes m m' d (as_header head) (as_header (grown head)) head.size (slot_for head.form n name) → AddsName m m' d head n name
 adds_name m m' d head n name fits long dir new writes = record {
   directory = record {
     whole = whole_more head.form head.size dir.whole;
-    formed = subst (λ (a : List (List ℕ)). AllByRecursion (λ b. slot_in head.form b ≢ None) a) (sym grows) (appended_formed head.form s fits (slots_at m d head) dir.formed);
-    apart = subst (λ (a : List (List ℕ)). length (map_of head.form a) ≡ length a) (sym grows) (appended_apart head.form s fits (slots_at m d head) new dir.apart);
+    formed = subst (λ (a : List (List ℕ)). AllByRecursion (λ b. slot_in head.form b ≢ None) a) (sym grows)
+        (appended_formed head.form s fits (slots_at m d head) dir.formed);
+    apart = subst (λ (a : List (List ℕ)). length (map_of head.form a) ≡ length a) (sym grows)
+        (appended_apart head.form s fits (slots_at m d head) new dir.apart);
   };
   names = ap (map_of head.form) grows ∙ appended head.form s fits (slots_at m d head) new;
 }
@@ -70,12 +81,14 @@ adds_name m m' d head n name fits long dir new writes = record {
     grows : slots_at m' d (grown head) ≡ slots_at m d head ++ slot_for head.form n name ∷ []
     grows = slots_grown m m' d head (slot_for head.form n name) dir long writes
 
-pub fits_slot : (form n : ℕ) (name : List ℕ) → 1 ≤ n → n ≤ 4095 → IsName (name_len form) name → FitsSlot form record { number = n; name = name }
+pub fits_slot : (form n : ℕ) (name : List ℕ) → 1 ≤ n → n ≤ 4095 → IsName (name_len form) name
+    → FitsSlot form record { number = n; name = name }
 fits_slot form n name some few good = record { number = (some, few); name = good }
 
 -- ---- the draft
 module _ {S D : Type 0} (s s' : FilesState S D) (d : ℕ) (head : Header) (n : ℕ) (name : List ℕ) where
-  pub adds : FitsSlot head.form record { number = n; name = name } → length (slot_for head.form n name) ≡ slot_len head.form → Writes s s' d head head.size (slot_for head.form n name) → Adds s s' d head n name
+  pub adds : FitsSlot head.form record { number = n; name = name } → length (slot_for head.form n name) ≡ slot_len head.form
+      → Writes s s' d head head.size (slot_for head.form n name) → Adds s s' d head n name
   adds fits long writes = record {
     writes = writes;
     has = λ m m' keeps has.

@@ -1,6 +1,7 @@
 -- Slots of which no two have one name: one of them may be replaced, or taken, and the last moved into its place.
 use Rattle.std.specs.Prelude.{is_some, not}
-use Rattle.std.proofs.Common.{◌≡◌, ◌≢◌, ◌≤◌, ◌+◌, ℕ, suc, true, false, cond, T, List, [], ◌∷◌, ◌++◌, length, Option, Some, None, refl, sym, ◌∙◌, ap, arith, length-append}
+use Rattle.std.proofs.Common.{◌≡◌, ◌≢◌, ◌≤◌, ◌+◌, ℕ, suc, true, false, cond, T, List, [], ◌∷◌, ◌++◌, length, Option, Some, None, refl, sym}
+use Rattle.std.proofs.Common.{◌∙◌, ap, arith, length-append}
 use Rattle.std.specs.List.{AllByRecursion}
 use Rattle.std.specs.Ordering.{eq_by_cmp}
 use Rattle.std.specs.Cmp.Lexicographic.{nat_list_cmp_total}
@@ -28,7 +29,8 @@ module _ (form : ℕ) where
   few_with None m n order le = omega (arith, le)
   few_with (Some s) m n order le =
       let long = length-put byte_cmp nat_list_cmp_total s.name s.number m order in
-      elim (is_some (find byte_cmp s.name m)) as (λ b. length (put byte_cmp s.name s.number m) ≡ cond b (length m) (length m + 1) → length (put byte_cmp s.name s.number m) ≤ suc n) [
+      elim (is_some (find byte_cmp s.name m)) as (λ b. length (put byte_cmp s.name s.number m) ≡ cond b (length m) (length m + 1)
+      → length (put byte_cmp s.name s.number m) ≤ suc n) [
         | true ↦ λ e. omega (arith, e, le)
         | false ↦ λ e. omega (arith, e, le)
       ] long
@@ -48,10 +50,12 @@ module _ (form : ℕ) where
   not_some None e = refl
   not_some (Some n) e = absurd (cc)
 
-  first_with : (x : List ℕ) (a : List (List ℕ)) (o : Option SlotValue) → slot_in form x ≡ o → length (map_of form a) ≤ length a → length (with_slot o (map_of form a)) ≡ suc (length a) → IsFirst x a
+  first_with : (x : List ℕ) (a : List (List ℕ)) (o : Option SlotValue) → slot_in form x ≡ o → length (map_of form a) ≤ length a
+      → length (with_slot o (map_of form a)) ≡ suc (length a) → IsFirst x a
   first_with x a None is few long = absurd (omega (arith, few, long))
   first_with x a (Some s) is few long =
-      elim (is_some (gives s.name a)) as (λ b. is_some (gives s.name a) ≡ b → length (put byte_cmp s.name s.number (map_of form a)) ≡ cond b (length (map_of form a)) (length (map_of form a) + 1) → IsFirst x a) [
+      elim (is_some (gives s.name a)) as (λ b. is_some (gives s.name a) ≡ b → length (put byte_cmp s.name s.number (map_of form a))
+      ≡ cond b (length (map_of form a)) (length (map_of form a) + 1) → IsFirst x a) [
         | true ↦ λ t e. absurd (omega (arith, e, few, long))
         | false ↦ λ t e. record { value = s; slot = is; new = not_some (gives s.name a) t; rest = omega (arith, e, long) }
       ] refl (length-put byte_cmp nat_list_cmp_total s.name s.number (map_of form a) (sorted_names form a))
@@ -84,7 +88,8 @@ module _ (form : ℕ) where
       elim (eq_by_cmp byte_cmp name f.value.name) as (λ t. eq_by_cmp byte_cmp name f.value.name ≡ t → gives name b ≡ None) [
         | true ↦ λ e. none_right a b name (ap (λ (q : List ℕ). gives q (a ++ b)) (tied name f.value.name e) ∙ f.new)
         | false ↦ λ e.
-            let other : name ≢ f.value.name = λ same. (let yes = ties name f.value.name same in let no : true ≡ false = sym yes ∙ e in absurd (cc)) in
+            let other : name ≢ f.value.name =
+            λ same. (let yes = ties name f.value.name same in let no : true ≡ false = sym yes ∙ e in absurd (cc)) in
             given_once a b name n f.rest (sym (found_behind name f.value (slot_in form x) (map_of form a) f.slot other) ∙ some)
       ] refl
 
@@ -114,87 +119,106 @@ module _ (form : ℕ) where
 
     -- ---- another number
     module _ (y : List ℕ) (t : SlotValue) (own : slot_in form y ≡ Some t) (same : t.name ≡ s.name) where
-      replaced_gives : (name : List ℕ) → gives name (a ++ y ∷ b) ≡ cond (eq_by_cmp byte_cmp name s.name) (Some t.number) (gives name (a ++ x ∷ b))
-      replaced_gives name = elim (eq_by_cmp byte_cmp name s.name) as (λ e. eq_by_cmp byte_cmp name s.name ≡ e → gives name (a ++ y ∷ b) ≡ cond e (Some t.number) (gives name (a ++ x ∷ b))) [
-        | true ↦ λ e.
-            let here : name ≡ s.name = tied name s.name e in
-            gives_none form a (y ∷ b) name (ap (λ (q : List ℕ). gives q a) here ∙ none_before) ∙ found_first name t (slot_in form y) (map_of form b) own (here ∙ sym same)
-        | false ↦ λ e.
-            let other : name ≢ s.name = λ here. (let yes = ties name s.name here in let no : true ≡ false = sym yes ∙ e in absurd (cc)) in
-            let skipped : gives name (y ∷ b) ≡ gives name (x ∷ b) = found_behind name t (slot_in form y) (map_of form b) own (λ h. other (h ∙ same)) ∙ sym (other_behind name other) in
-            elim (gives name a) as (λ (o : Option ℕ). gives name a ≡ o → gives name (a ++ y ∷ b) ≡ gives name (a ++ x ∷ b)) [
-              | None ↦ λ none. gives_none form a (y ∷ b) name none ∙ skipped ∙ sym (gives_none form a (x ∷ b) name none)
-              | Some n ↦ λ some. gives_some form a (y ∷ b) name n some ∙ sym (gives_some form a (x ∷ b) name n some)
-            ] refl
-      ] refl
+      replaced_gives : (name : List ℕ)
+          → gives name (a ++ y ∷ b) ≡ cond (eq_by_cmp byte_cmp name s.name) (Some t.number) (gives name (a ++ x ∷ b))
+      replaced_gives name = elim (eq_by_cmp byte_cmp name s.name)
+          as (λ e. eq_by_cmp byte_cmp name s.name ≡ e → gives name (a ++ y ∷ b) ≡ cond e (Some t.number) (gives name (a ++ x ∷ b))) [
+            | true ↦ λ e.
+                let here : name ≡ s.name = tied name s.name e in
+                gives_none form a (y ∷ b) name (ap (λ (q : List ℕ). gives q a) here ∙ none_before)
+                ∙ found_first name t (slot_in form y) (map_of form b) own (here ∙ sym same)
+            | false ↦ λ e.
+                let other : name ≢ s.name =
+                λ here. (let yes = ties name s.name here in let no : true ≡ false = sym yes ∙ e in absurd (cc)) in
+                let skipped : gives name (y ∷ b) ≡ gives name (x ∷ b) =
+                found_behind name t (slot_in form y) (map_of form b) own (λ h. other (h ∙ same)) ∙ sym (other_behind name other) in
+                elim (gives name a) as (λ (o : Option ℕ). gives name a ≡ o → gives name (a ++ y ∷ b) ≡ gives name (a ++ x ∷ b)) [
+                  | None ↦ λ none. gives_none form a (y ∷ b) name none ∙ skipped ∙ sym (gives_none form a (x ∷ b) name none)
+                  | Some n ↦ λ some. gives_some form a (y ∷ b) name n some ∙ sym (gives_some form a (x ∷ b) name n some)
+                ] refl
+          ] refl
 
       pub replaced : map_of form (a ++ y ∷ b) ≡ put byte_cmp s.name t.number (map_of form (a ++ x ∷ b))
       replaced =
-          same_names form (map_of form (a ++ y ∷ b)) (put byte_cmp s.name t.number (map_of form (a ++ x ∷ b))) (sorted_names form (a ++ y ∷ b))
+          same_names form (map_of form (a ++ y ∷ b)) (put byte_cmp s.name t.number (map_of form (a ++ x ∷ b)))
+          (sorted_names form (a ++ y ∷ b))
           (is_sorted-put byte_cmp nat_list_cmp_total s.name t.number (map_of form (a ++ x ∷ b)) (sorted_names form (a ++ x ∷ b)))
           (λ name. replaced_gives name ∙ sym (find-put byte_cmp nat_list_cmp_total name s.name t.number (map_of form (a ++ x ∷ b))))
 
       pub replaced_apart : AreApart (a ++ y ∷ b)
       replaced_apart =
-          let one = ap length replaced ∙ length-put byte_cmp nat_list_cmp_total s.name t.number (map_of form (a ++ x ∷ b)) (sorted_names form (a ++ x ∷ b))
+          let one = ap length replaced
+          ∙ length-put byte_cmp nat_list_cmp_total s.name t.number (map_of form (a ++ x ∷ b)) (sorted_names form (a ++ x ∷ b))
           ∙ ap (λ (o : Option ℕ). cond (is_some o) (length (map_of form (a ++ x ∷ b))) (length (map_of form (a ++ x ∷ b)) + 1)) there in
           let long = length-append a (x ∷ b) in
           let long' = length-append a (y ∷ b) in
           omega (arith, one, long, long', distinct)
 
     -- ---- one less
-    taken_from : (c : List (List ℕ)) → ((name : List ℕ) → gives name c ≡ cond (eq_by_cmp byte_cmp name s.name) None (gives name (a ++ x ∷ b))) → map_of form c ≡ without byte_cmp s.name (map_of form (a ++ x ∷ b))
+    taken_from : (c : List (List ℕ))
+        → ((name : List ℕ) → gives name c ≡ cond (eq_by_cmp byte_cmp name s.name) None (gives name (a ++ x ∷ b)))
+        → map_of form c ≡ without byte_cmp s.name (map_of form (a ++ x ∷ b))
     taken_from c each =
         same_names form (map_of form c) (without byte_cmp s.name (map_of form (a ++ x ∷ b))) (sorted_names form c)
         (is_sorted-where_key byte_cmp (λ q. not (eq_by_cmp byte_cmp s.name q)) (map_of form (a ++ x ∷ b)) (sorted_names form (a ++ x ∷ b)))
         (λ name. each name ∙ sym (find_without nat_list_cmp_total s.name name (map_of form (a ++ x ∷ b))))
 
-    taken_few : (c : List (List ℕ)) → map_of form c ≡ without byte_cmp s.name (map_of form (a ++ x ∷ b)) → length c + 1 ≡ length (a ++ x ∷ b) → AreApart c
+    taken_few : (c : List (List ℕ)) → map_of form c ≡ without byte_cmp s.name (map_of form (a ++ x ∷ b))
+        → length c + 1 ≡ length (a ++ x ∷ b) → AreApart c
     taken_few c is less =
         let one = length_without byte_cmp nat_list_cmp_total s.name (map_of form (a ++ x ∷ b)) (sorted_names form (a ++ x ∷ b)) in
-        let some : ◌≡◌ {A = ℕ} (cond (is_some (gives s.name (a ++ x ∷ b))) 1 0) 1 = ap (λ (o : Option ℕ). cond {A = ℕ} (is_some o) 1 0) there in
+        let some : ◌≡◌ {A = ℕ} (cond (is_some (gives s.name (a ++ x ∷ b))) 1 0) 1 =
+        ap (λ (o : Option ℕ). cond {A = ℕ} (is_some o) 1 0) there in
         let same = ap length is in
         omega (arith, one, some, same, less, distinct)
 
     -- what is there after it goes, where the slots without it give what the others gave
-    taken_gives : (c : List (List ℕ)) → gives s.name c ≡ None → ((name : List ℕ) → gives name a ≡ None → name ≢ s.name → gives name c ≡ gives name b)
-        → ((name : List ℕ) (n : ℕ) → gives name a ≡ Some n → gives name c ≡ Some n) → (name : List ℕ) → gives name c ≡ cond (eq_by_cmp byte_cmp name s.name) None (gives name (a ++ x ∷ b))
-    taken_gives c gone none some name = elim (eq_by_cmp byte_cmp name s.name) as (λ e. eq_by_cmp byte_cmp name s.name ≡ e → gives name c ≡ cond e None (gives name (a ++ x ∷ b))) [
-      | true ↦ λ e. ap (λ (q : List ℕ). gives q c) (tied name s.name e) ∙ gone
-      | false ↦ λ e.
-          let other : name ≢ s.name = λ here. (let yes = ties name s.name here in let no : true ≡ false = sym yes ∙ e in absurd (cc)) in
-          elim (gives name a) as (λ (o : Option ℕ). gives name a ≡ o → gives name c ≡ gives name (a ++ x ∷ b)) [
-            | None ↦ λ before. none name before other ∙ sym (gives_none form a (x ∷ b) name before ∙ other_behind name other)
-            | Some n ↦ λ before. some name n before ∙ sym (gives_some form a (x ∷ b) name n before)
-          ] refl
-    ] refl
+    taken_gives : (c : List (List ℕ)) → gives s.name c ≡ None
+        → ((name : List ℕ) → gives name a ≡ None → name ≢ s.name → gives name c ≡ gives name b)
+        → ((name : List ℕ) (n : ℕ) → gives name a ≡ Some n → gives name c ≡ Some n) → (name : List ℕ)
+        → gives name c ≡ cond (eq_by_cmp byte_cmp name s.name) None (gives name (a ++ x ∷ b))
+    taken_gives c gone none some name = elim (eq_by_cmp byte_cmp name s.name)
+        as (λ e. eq_by_cmp byte_cmp name s.name ≡ e → gives name c ≡ cond e None (gives name (a ++ x ∷ b))) [
+          | true ↦ λ e. ap (λ (q : List ℕ). gives q c) (tied name s.name e) ∙ gone
+          | false ↦ λ e.
+              let other : name ≢ s.name = λ here. (let yes = ties name s.name here in let no : true ≡ false = sym yes ∙ e in absurd (cc)) in
+              elim (gives name a) as (λ (o : Option ℕ). gives name a ≡ o → gives name c ≡ gives name (a ++ x ∷ b)) [
+                | None ↦ λ before. none name before other ∙ sym (gives_none form a (x ∷ b) name before ∙ other_behind name other)
+                | Some n ↦ λ before. some name n before ∙ sym (gives_some form a (x ∷ b) name n before)
+              ] refl
+        ] refl
 
   -- the last slot goes
-  pub last_taken : (a : List (List ℕ)) (x : List ℕ) (s : SlotValue) → slot_in form x ≡ Some s → AreApart (a ++ x ∷ []) → (map_of form a ≡ without byte_cmp s.name (map_of form (a ++ x ∷ []))) × AreApart a
+  pub last_taken : (a : List (List ℕ)) (x : List ℕ) (s : SlotValue) → slot_in form x ≡ Some s → AreApart (a ++ x ∷ [])
+      → (map_of form a ≡ without byte_cmp s.name (map_of form (a ++ x ∷ []))) × AreApart a
   last_taken a x s is distinct =
       let less : length a + 1 ≡ length (a ++ x ∷ []) = let l = length-append a (x ∷ []) in omega (arith, l) in
-      let names = taken_from a [] x s is distinct a (taken_gives a [] x s is distinct a (none_before a [] x s is distinct) (λ name none ne. none) (λ name n some. some)) in
+      let names = taken_from a [] x s is distinct a
+      (taken_gives a [] x s is distinct a (none_before a [] x s is distinct) (λ name none ne. none) (λ name n some. some)) in
       (names, taken_few a [] x s is distinct a names less)
 
   -- a slot goes, and the last one comes into its place
-  module _ (a b : List (List ℕ)) (x y : List ℕ) (s : SlotValue) (is : slot_in form x ≡ Some s) (distinct : AreApart (a ++ x ∷ (b ++ y ∷ []))) where
+  module _ (a b : List (List ℕ)) (x y : List ℕ) (s : SlotValue) (is : slot_in form x ≡ Some s)
+      (distinct : AreApart (a ++ x ∷ (b ++ y ∷ []))) where
     behind_apart : AreApart (b ++ y ∷ [])
     behind_apart = (is_first x (b ++ y ∷ []) (apart_right a (x ∷ (b ++ y ∷ [])) distinct)).rest
 
     -- two parts may change places
     swapped : (name : List ℕ) → gives name (y ∷ b) ≡ gives name (b ++ y ∷ [])
-    swapped name = elim (gives name (y ∷ [])) as (λ (o : Option ℕ). gives name (y ∷ []) ≡ o → gives name (y ∷ b) ≡ gives name (b ++ y ∷ [])) [
-      | Some n ↦ λ some.
-          let none : gives name b ≡ None = elim (gives name b) as (λ (o : Option ℕ). gives name b ≡ o → o ≡ None) [
-            | None ↦ λ e. refl
-            | Some k ↦ λ e. let bad : Some n ≡ None = sym some ∙ given_once b (y ∷ []) name k behind_apart e in absurd (cc)
-          ] refl in
-          gives_some form (y ∷ []) b name n some ∙ sym (gives_none form b (y ∷ []) name none ∙ some)
-      | None ↦ λ none. gives_none form (y ∷ []) b name none ∙ elim (gives name b) as (λ (o : Option ℕ). gives name b ≡ o → gives name b ≡ gives name (b ++ y ∷ [])) [
-        | None ↦ λ e. e ∙ sym (gives_none form b (y ∷ []) name e ∙ none)
-        | Some k ↦ λ e. e ∙ sym (gives_some form b (y ∷ []) name k e)
-      ] refl
-    ] refl
+    swapped name =
+        elim (gives name (y ∷ [])) as (λ (o : Option ℕ). gives name (y ∷ []) ≡ o → gives name (y ∷ b) ≡ gives name (b ++ y ∷ [])) [
+          | Some n ↦ λ some.
+              let none : gives name b ≡ None = elim (gives name b) as (λ (o : Option ℕ). gives name b ≡ o → o ≡ None) [
+                | None ↦ λ e. refl
+                | Some k ↦ λ e. let bad : Some n ≡ None = sym some ∙ given_once b (y ∷ []) name k behind_apart e in absurd (cc)
+              ] refl in
+              gives_some form (y ∷ []) b name n some ∙ sym (gives_none form b (y ∷ []) name none ∙ some)
+          | None ↦ λ none. gives_none form (y ∷ []) b name none
+              ∙ elim (gives name b) as (λ (o : Option ℕ). gives name b ≡ o → gives name b ≡ gives name (b ++ y ∷ [])) [
+                | None ↦ λ e. e ∙ sym (gives_none form b (y ∷ []) name e ∙ none)
+                | Some k ↦ λ e. e ∙ sym (gives_some form b (y ∷ []) name k e)
+              ] refl
+        ] refl
 
     pub moved : (map_of form (a ++ y ∷ b) ≡ without byte_cmp s.name (map_of form (a ++ x ∷ (b ++ y ∷ [])))) × AreApart (a ++ y ∷ b)
     moved =

@@ -1,5 +1,6 @@
 -- What is found under a name is what the slot of that name gives.
-use Rattle.std.proofs.Common.{◌≡◌, ◌≢◌, ◌+◌, ℕ, suc, true, false, List, [], ◌∷◌, take, drop, get_or, Option, Some, None, refl, sym, ◌∙◌, ap, ap₂, subst, arith}
+use Rattle.std.proofs.Common.{◌≡◌, ◌≢◌, ◌+◌, ℕ, suc, true, false, List, [], ◌∷◌, take, drop, get_or, Option, Some, None, refl, sym, ◌∙◌, ap}
+use Rattle.std.proofs.Common.{ap₂, subst, arith}
 use Rattle.std.specs.Ordering.{eq_by_cmp}
 use Rattle.std.specs.FinMap.{find}
 use Rattle.lfs_model.specs.Slot.{SlotValue, slot_in}
@@ -19,10 +20,13 @@ slot_given n name = Some (slot_value n name)
 module _ (form : ℕ) where
   -- ---- the slot of a name
   slot_at_first : (x : List ℕ) (a : List (List ℕ)) (name : List ℕ) (n : ℕ) (o : Option SlotValue) → slot_in form x ≡ o
-      → (find byte_cmp name (map_of form a) ≡ Some n → (place : ℕ) × IsSlotAt form a place n name) → find byte_cmp name (with_slot o (map_of form a)) ≡ Some n → (place : ℕ) × IsSlotAt form (x ∷ a) place n name
-  slot_at_first x a name n None is go found = let later = go found in (suc later.0, record { inside = let i = later.1.inside in omega (arith, i); slot = later.1.slot })
+      → (find byte_cmp name (map_of form a) ≡ Some n → (place : ℕ) × IsSlotAt form a place n name)
+      → find byte_cmp name (with_slot o (map_of form a)) ≡ Some n → (place : ℕ) × IsSlotAt form (x ∷ a) place n name
+  slot_at_first x a name n None is go found = let later = go found in
+      (suc later.0, record { inside = let i = later.1.inside in omega (arith, i); slot = later.1.slot })
   slot_at_first x a name n (Some s) is go found =
-      elim (eq_by_cmp byte_cmp name s.name) as (λ e. eq_by_cmp byte_cmp name s.name ≡ e → (place : ℕ) × IsSlotAt form (x ∷ a) place n name) [
+      elim (eq_by_cmp byte_cmp name s.name)
+      as (λ e. eq_by_cmp byte_cmp name s.name ≡ e → (place : ℕ) × IsSlotAt form (x ∷ a) place n name) [
         | true ↦ λ e.
             let same : name ≡ s.name = tied name s.name e in
             let here : Some s.number ≡ Some n = sym (found_first name s (Some s) (map_of form a) refl same) ∙ found in
@@ -34,7 +38,8 @@ module _ (form : ℕ) where
             (suc later.0, record { inside = let i = later.1.inside in omega (arith, i); slot = later.1.slot })
       ] refl
 
-  slot_of : (a : List (List ℕ)) (name : List ℕ) (n : ℕ) → find byte_cmp name (map_of form a) ≡ Some n → (place : ℕ) × IsSlotAt form a place n name
+  slot_of : (a : List (List ℕ)) (name : List ℕ) (n : ℕ) → find byte_cmp name (map_of form a) ≡ Some n
+      → (place : ℕ) × IsSlotAt form a place n name
   slot_of [] name n found = absurd (cc)
   slot_of (x ∷ a) name n found = slot_at_first x a name n (slot_in form x) refl (slot_of a name n) found
 
@@ -44,5 +49,6 @@ slot_gives form a name n = (
   λ distinct place is.
       let parts = parts_at a place is.inside in
       ap (λ (b : List (List ℕ)). find byte_cmp name (map_of form b)) parts
-      ∙ there form (take place a) (drop (place + 1) a) (get_or a place []) (slot_value n name) is.slot (subst (AreApart form) parts distinct),
+      ∙ there form (take place a) (drop (place + 1) a) (get_or a place []) (slot_value n name) is.slot
+      (subst (AreApart form) parts distinct),
 )

@@ -1,6 +1,7 @@
 -- Slots that stay, and none.
 use Rattle.std.specs.Prelude.{slice_index}
-use Rattle.std.proofs.Common.{◌≡◌, ◌≢◌, ◌*◌, ◌/◌, ◌%◌, ℕ, zero, suc, List, [], length, map, take, drop, None, refl, sym, ◌∙◌, ap, ap₂, subst}
+use Rattle.std.proofs.Common.{◌≡◌, ◌≢◌, ◌*◌, ◌/◌, ◌%◌, ℕ, zero, suc, List, [], length, map, take, drop, None, refl, sym, ◌∙◌, ap, ap₂}
+use Rattle.std.proofs.Common.{subst}
 use Rattle.std.proofs.lemmas.List.{nil_from_length}
 use Rattle.std.specs.List.{AllByRecursion, range_with_len}
 use Rattle.lfs_model.specs.Objects.{IsDirectory}
@@ -27,14 +28,18 @@ pub slots_stay : SlotsStay
 slots_stay m m' d head head' blocks form size =
     slots_are m' d head'
     ∙ ap (λ (f : ℕ). cut_up f head'.size (object m' d (as_header head'))) form
-    ∙ ap₂ (cut_up head.form) size (same_objects m' m d d (as_header head') (as_header head) size (λ p low. ap (λ (b : List ℕ). slice_index b (p % 512)) (blocks (p / 512))))
+    ∙ ap₂ (cut_up head.form) size (same_objects m' m d d (as_header head') (as_header head) size
+    (λ p low. ap (λ (b : List ℕ). slice_index b (p % 512)) (blocks (p / 512))))
     ∙ sym (slots_are m d head)
 
-is_directory : (m m' : LogMap) (d : ℕ) (head head' : Header) → slots_at m' d head' ≡ slots_at m d head → head'.form ≡ head.form → head'.size ≡ head.size → IsDirectory m d (as_header head) → IsDirectory m' d (as_header head')
+is_directory : (m m' : LogMap) (d : ℕ) (head head' : Header) → slots_at m' d head' ≡ slots_at m d head → head'.form ≡ head.form
+    → head'.size ≡ head.size → IsDirectory m d (as_header head) → IsDirectory m' d (as_header head')
 is_directory m m' d head head' same form size dir = record {
   whole = subst (λ (f : ℕ). head'.size % slot_len f ≡ 0) (sym form) (subst (λ (n : ℕ). n % slot_len head.form ≡ 0) (sym size) dir.whole);
-  formed = subst (λ (f : ℕ). AllByRecursion (λ b. slot_in f b ≢ None) (slots_at m' d head')) (sym form) (subst (λ (a : List (List ℕ)). AllByRecursion (λ b. slot_in head.form b ≢ None) a) (sym same) dir.formed);
-  apart = subst (λ (f : ℕ). length (map_of f (slots_at m' d head')) ≡ length (slots_at m' d head')) (sym form) (subst (λ (a : List (List ℕ)). length (map_of head.form a) ≡ length a) (sym same) dir.apart);
+  formed = subst (λ (f : ℕ). AllByRecursion (λ b. slot_in f b ≢ None) (slots_at m' d head')) (sym form)
+      (subst (λ (a : List (List ℕ)). AllByRecursion (λ b. slot_in head.form b ≢ None) a) (sym same) dir.formed);
+  apart = subst (λ (f : ℕ). length (map_of f (slots_at m' d head')) ≡ length (slots_at m' d head')) (sym form)
+      (subst (λ (a : List (List ℕ)). length (map_of head.form a) ≡ length a) (sym same) dir.apart);
 }
 
 pub directory_stays : DirectoryStays

@@ -1,6 +1,7 @@
 -- A slot of a directory written anew.
 use Rattle.std.specs.Prelude.{max, set}
-use Rattle.std.proofs.Common.{◌≡◌, ◌≢◌, ◌<◌, ◌≤◌, ⊎_elim, ◌+◌, ◌*◌, ℕ, suc, List, [], ◌∷◌, ◌++◌, length, take, drop, get_or, Some, None, refl, sym, ◌∙◌, ap, subst, arith}
+use Rattle.std.proofs.Common.{◌≡◌, ◌≢◌, ◌<◌, ◌≤◌, ⊎_elim, ◌+◌, ◌*◌, ℕ, suc, List, [], ◌∷◌, ◌++◌, length, take, drop, get_or, Some, None}
+use Rattle.std.proofs.Common.{refl, sym, ◌∙◌, ap, subst, arith}
 use Rattle.std.proofs.lemmas.Bool.{cases_eq, cases_lt}
 use Rattle.std.proofs.lemmas.List.{drop_more, ext_get_or, get_or-set_same, get_or-set_other, length-set, set_split, take-append-drop}
 use Rattle.std.specs.FinMap.{put}
@@ -33,11 +34,14 @@ pub parts_set : (a : List (List ℕ)) (j : ℕ) (y : List ℕ) → j < length a 
 parts_set a j y inside = let next : suc j ≡ j + 1 = omega arith in set_split a j y inside ∙ ap (λ (k : ℕ). take j a ++ y ∷ drop k a) next
 
 -- ---- the slots
-module _ (m m' : LogMap) (d : ℕ) (head : Header) (place : ℕ) (slot : List ℕ) (inside : place < slot_count head) (long : length slot ≡ slot_len head.form) (writes : WritesBytes m m' d (as_header head) (as_header head) (slot_len head.form * place) slot) where
-  apart_bytes : (j b : ℕ) → j ≢ place → b < slot_len head.form → byte_in m' d (slot_len head.form * j + b) ≡ byte_in m d (slot_len head.form * j + b)
+module _ (m m' : LogMap) (d : ℕ) (head : Header) (place : ℕ) (slot : List ℕ) (inside : place < slot_count head) (long : length slot
+    ≡ slot_len head.form) (writes : WritesBytes m m' d (as_header head) (as_header head) (slot_len head.form * place) slot) where
+  apart_bytes : (j b : ℕ) → j ≢ place → b < slot_len head.form
+      → byte_in m' d (slot_len head.form * j + b) ≡ byte_in m d (slot_len head.form * j + b)
   apart_bytes j b other low = ⊎_elim
       (λ (before : j < place). writes.bytes.before (slot_len head.form * j + b) (before_slot head.form j place b before low))
-      (λ (le : place ≤ j). writes.bytes.behind (slot_len head.form * j + b) (let apart = behind_slot head.form j place (omega (arith, le, other)) in omega (arith, apart, long)))
+      (λ (le : place ≤ j). writes.bytes.behind (slot_len head.form * j + b)
+      (let apart = behind_slot head.form j place (omega (arith, le, other)) in omega (arith, apart, long)))
       (cases_lt j place)
 
   pub slots_set : slots_at m' d head ≡ set (slots_at m d head) place slot
@@ -51,8 +55,10 @@ module _ (m m' : LogMap) (d : ℕ) (head : Header) (place : ℕ) (slot : List �
       ⊎_elim
       (λ (here : j ≡ place).
       slot_is m' d head j slot within long
-      (λ b small. sym (writes.bytes.inside b (omega (arith, small, long))) ∙ ap (λ (k : ℕ). byte_in m' d (slot_len head.form * k + b)) (sym here))
-      ∙ sym (ap (λ (k : ℕ). get_or (set (slots_at m d head) place slot) k []) here ∙ get_or-set_same (slots_at m d head) place slot [] (omega (arith, inside, many))))
+      (λ b small. sym (writes.bytes.inside b (omega (arith, small, long)))
+      ∙ ap (λ (k : ℕ). byte_in m' d (slot_len head.form * k + b)) (sym here))
+      ∙ sym (ap (λ (k : ℕ). get_or (set (slots_at m d head) place slot) k []) here
+      ∙ get_or-set_same (slots_at m d head) place slot [] (omega (arith, inside, many))))
       (λ (other : j ≢ place).
       slot_is m' d head j (get_or (slots_at m d head) j []) within (slot_long m d head j within)
       (λ b small. slot_byte m d head j b within small ∙ sym (apart_bytes j b other small))
@@ -63,8 +69,10 @@ module _ (m m' : LogMap) (d : ℕ) (head : Header) (place : ℕ) (slot : List �
 abbrev slot_value : ℕ → List ℕ → SlotValue
 slot_value n name = record { number = n; name = name }
 
-module _ (m m' : LogMap) (d : ℕ) (head : Header) (n : ℕ) (name : List ℕ) (fits : FitsSlot head.form record { number = n; name = name }) (long : length (slot_for head.form n name) ≡ slot_len head.form) (found : Found)
-    (is : IsSlotOf head.form (slots_at m d head) name found) (dir : IsDirectory m d (as_header head)) (writes : WritesBytes m m' d (as_header head) (as_header head) (slot_len head.form * found.place) (slot_for head.form n name)) where
+module _ (m m' : LogMap) (d : ℕ) (head : Header) (n : ℕ) (name : List ℕ) (fits : FitsSlot head.form record { number = n; name = name })
+    (long : length (slot_for head.form n name) ≡ slot_len head.form) (found : Found)
+    (is : IsSlotOf head.form (slots_at m d head) name found) (dir : IsDirectory m d (as_header head))
+    (writes : WritesBytes m m' d (as_header head) (as_header head) (slot_len head.form * found.place) (slot_for head.form n name)) where
   abbrev old : List (List ℕ)
   old = slots_at m d head
 
@@ -79,7 +87,8 @@ module _ (m m' : LogMap) (d : ℕ) (head : Header) (n : ℕ) (name : List ℕ) (
 
   now : slots_at m' d head ≡ before ++ slot_for head.form n name ∷ behind
   now = let inside = is.inside in let many = slots_many m d head in
-      slots_set m m' d head found.place (slot_for head.form n name) (omega (arith, inside, many)) long writes ∙ parts_set old found.place (slot_for head.form n name) is.inside
+      slots_set m m' d head found.place (slot_for head.form n name) (omega (arith, inside, many)) long writes
+      ∙ parts_set old found.place (slot_for head.form n name) is.inside
 
   spelt : slot_in head.form (slot_for head.form n name) ≡ Some record { number = n; name = name }
   spelt = slot_some head.form (slot_for head.form n name) record { number = n; name = name } fits refl
@@ -95,30 +104,40 @@ module _ (m m' : LogMap) (d : ℕ) (head : Header) (n : ℕ) (name : List ℕ) (
     there = λ none. let bad : Some found.number.value ≡ None = sym is.gives ∙ none in absurd (cc);
     directory = record {
       whole = dir.whole;
-      formed = subst (AreFormed head.form) (sym now) (replaced_formed head.form before behind (get_or old found.place []) (slot_for head.form n name) is_slot (subst (AreFormed head.form) was dir.formed));
-      apart = subst (AreApart head.form) (sym now) (replaced_apart head.form before behind (get_or old found.place []) record { number = found.number.value; name = name } is.slot were_apart (slot_for head.form n name) record { number = n; name = name } spelt refl);
+      formed = subst (AreFormed head.form) (sym now) (replaced_formed head.form before behind (get_or old found.place [])
+          (slot_for head.form n name) is_slot (subst (AreFormed head.form) was dir.formed));
+      apart = subst (AreApart head.form) (sym now) (replaced_apart head.form before behind (get_or old found.place []) record {
+        number =
+            found.number.value;
+        name = name;
+      } is.slot were_apart (slot_for head.form n name) record { number = n; name = name } spelt refl);
     };
     names =
         ap (map_of head.form) now
-        ∙ replaced head.form before behind (get_or old found.place []) record { number = found.number.value; name = name } is.slot were_apart (slot_for head.form n name) record { number = n; name = name } spelt refl
+        ∙ replaced head.form before behind (get_or old found.place []) record { number = found.number.value; name = name } is.slot
+        were_apart (slot_for head.form n name) record { number = n; name = name } spelt refl
         ∙ ap (λ (a : List (List ℕ)). put byte_cmp name n (map_of head.form a)) (sym was);
   }
 
 -- ---- the draft
 module _ {S D : Type 0} (s a s' : FilesState S D) (d : ℕ) (head : Header) (n : ℕ) (name : List ℕ) (found : Found) where
-  pub repoints : FitsSlot head.form record { number = n; name = name } → length (slot_for head.form n name) ≡ slot_len head.form → found.place < slot_count head → Reads s a → Redrafts a s'
-      → FindsName s a d head name found → Writes a s' d head (slot_len head.form * found.place) (slot_for head.form n name) → Repoints s s' d head n name
+  pub repoints : FitsSlot head.form record { number = n; name = name } → length (slot_for head.form n name) ≡ slot_len head.form
+      → found.place < slot_count head → Reads s a → Redrafts a s'
+      → FindsName s a d head name found → Writes a s' d head (slot_len head.form * found.place) (slot_for head.form n name)
+      → Repoints s s' d head n name
   repoints fits long inside reads more finds writes = record {
     place = found.place;
     writes = writes_behind s a s' d head (slot_len head.form * found.place) (slot_for head.form n name) reads writes;
     has = λ m m' keeps has.
         let f = writes.file m m' keeps (reads.has m m' has) in
-        let file = subst (λ (z : ℕ). WritesFile m' f.map d head (resized head z) (slot_len head.form * found.place) (slot_for head.form n name)) size f.file in
+        let file = subst (λ (z : ℕ).
+        WritesFile m' f.map d head (resized head z) (slot_len head.form * found.place) (slot_for head.form n name)) size f.file in
         record {
           map = f.map;
           has = f.has;
           file = file;
-          names = λ dir. repoints_name m' f.map d head n name fits long found (finds m m' (more.looks.carries.kept_before keeps) has dir) dir file.bytes;
+          names = λ dir. repoints_name m' f.map d head n name fits long found (finds m m' (more.looks.carries.kept_before keeps) has dir)
+              dir file.bytes;
         };
   }
     where
@@ -126,7 +145,8 @@ module _ {S D : Type 0} (s a s' : FilesState S D) (d : ℕ) (head : Header) (n :
       size = let within = slot_within head.form found.place head.size inside in omega (arith, long, within)
 
 -- what fails after the search
-pub fails_behind : {S D : Type 0} (s a s' : FilesState S D) (d : ℕ) (head : Header) → Reads s a → IsFault a s' → IsDirectoryFault s s' d head
+pub fails_behind : {S D : Type 0} (s a s' : FilesState S D) (d : ℕ) (head : Header) → Reads s a → IsFault a s'
+    → IsDirectoryFault s s' d head
 fails_behind s a s' d head reads failed m m' keeps has dir =
     let rose = failed m m' keeps (reads.has m m' has) in
     let before = reads.looks.carries.failures in

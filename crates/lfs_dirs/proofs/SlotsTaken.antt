@@ -1,6 +1,7 @@
 -- The last slot of a directory cut off, and written into another's place.
 use Rattle.std.specs.Prelude.{set, slice_index}
-use Rattle.std.proofs.Common.{◌≡◌, ◌<◌, ◌≤◌, ⊎_elim, ◌+◌, ◌*◌, ◌-◌, ◌/◌, ◌%◌, ℕ, zero, suc, List, [], ◌∷◌, ◌++◌, length, take, drop, get_or, Some, None, refl, sym, ◌∙◌, ap, subst, arith}
+use Rattle.std.proofs.Common.{◌≡◌, ◌<◌, ◌≤◌, ⊎_elim, ◌+◌, ◌*◌, ◌-◌, ◌/◌, ◌%◌, ℕ, zero, suc, List, [], ◌∷◌, ◌++◌, length, take, drop, get_or}
+use Rattle.std.proofs.Common.{Some, None, refl, sym, ◌∙◌, ap, subst, arith}
 use Rattle.std.proofs.lemmas.Bool.{cases_eq, cases_lt}
 use Rattle.std.proofs.lemmas.List.{append_assoc, drop_all, ext_get_or, get_or-take, length-take, set_past}
 use Rattle.std.specs.List.{swap_remove}
@@ -23,26 +24,32 @@ use Rattle.lfs_dirs.proofs.SlotsApart.{AreApart, AreFormed, last_formed, last_ta
 use Rattle.lfs_dirs.proofs.SlotsReplaced.{parts_at, parts_set, slots_set}
 
 -- ---- bytes before a cut
-cut_byte : (m m' : LogMap) (d len p : ℕ) (head head' : Header) → CutsBytes m m' d (as_header head) (as_header head') len → p < len → byte_in m' d p ≡ byte_in m d p
+cut_byte : (m m' : LogMap) (d len p : ℕ) (head head' : Header) → CutsBytes m m' d (as_header head) (as_header head') len → p < len
+    → byte_in m' d p ≡ byte_in m d p
 cut_byte m m' d len p head head' cuts low = ⊎_elim
     (λ (at : p / 512 ≡ len / 512).
-    ap (λ (q : ℕ). slice_index (m'.block d q) (p % 512)) at ∙ cuts.last (p % 512) (omega (arith, at, low)) ∙ ap (λ (q : ℕ). slice_index (m.block d q) (p % 512)) (sym at))
+    ap (λ (q : ℕ). slice_index (m'.block d q) (p % 512)) at ∙ cuts.last (p % 512) (omega (arith, at, low))
+    ∙ ap (λ (q : ℕ). slice_index (m.block d q) (p % 512)) (sym at))
     (λ (ne : p / 512 ≡ len / 512 → ⊥). ap (λ (b : List ℕ). slice_index b (p % 512)) (cuts.whole (p / 512) (omega (arith, ne, low))))
     (cases_eq (p / 512) (len / 512))
 
 -- ---- slots that are left
-slots_cut : (m m' : LogMap) (d : ℕ) (head : Header) → slot_len head.form ≤ head.size → CutsBytes m m' d (as_header head) (as_header (shrunk head)) (head.size - slot_len head.form) → slots_at m' d (shrunk head) ≡ take (length (slots_at m d head) - 1) (slots_at m d head)
+slots_cut : (m m' : LogMap) (d : ℕ) (head : Header) → slot_len head.form ≤ head.size
+    → CutsBytes m m' d (as_header head) (as_header (shrunk head)) (head.size - slot_len head.form)
+    → slots_at m' d (shrunk head) ≡ take (length (slots_at m d head) - 1) (slots_at m d head)
 slots_cut m m' d head some cuts =
     let many = slots_many m d head in
     let many' = slots_many m' d (shrunk head) in
     let left = length-take (length (slots_at m d head) - 1) (slots_at m d head) in
     let less = count_less head.form head.size in
-    ext_get_or [] (slots_at m' d (shrunk head)) (take (length (slots_at m d head) - 1) (slots_at m d head)) (omega (arith, many, many', left, less))
+    ext_get_or [] (slots_at m' d (shrunk head)) (take (length (slots_at m d head) - 1) (slots_at m d head))
+    (omega (arith, many, many', left, less))
     (λ j low.
     let within : j < (head.size - slot_len head.form) / slot_len head.form = omega (arith, low, many') in
     let inside : j < slot_count head = omega (arith, within, less) in
     slot_is m' d (shrunk head) j (get_or (slots_at m d head) j []) within (slot_long m d head j inside)
-    (λ b small. slot_byte m d head j b inside small ∙ sym (cut_byte m m' d (head.size - slot_len head.form) (slot_len head.form * j + b) head (shrunk head) cuts (byte_within head.form j b (head.size - slot_len head.form) within small)))
+    (λ b small. slot_byte m d head j b inside small ∙ sym (cut_byte m m' d (head.size - slot_len head.form)
+    (slot_len head.form * j + b) head (shrunk head) cuts (byte_within head.form j b (head.size - slot_len head.form) within small)))
     ∙ sym (get_or-take (length (slots_at m d head) - 1) (slots_at m d head) j [] (omega (arith, within, many, less))))
 
 set_take : (a : List (List ℕ)) (k i : ℕ) (y : List ℕ) → set (take k a) i y ≡ take k (set a i y)
@@ -60,14 +67,18 @@ removed_last a place last =
     let left = length-take (length a - 1) a in
     removed a place ∙ set_past (take (length a - 1) a) place (get_or a (length a - 1) []) (omega (arith, last, left))
 
-pub slots_dropped : (m m' : LogMap) (d : ℕ) (head : Header) (place : ℕ) → place + 1 ≡ slot_count head → CutsBytes m m' d (as_header head) (as_header (shrunk head)) (head.size - slot_len head.form)
+pub slots_dropped : (m m' : LogMap) (d : ℕ) (head : Header) (place : ℕ) → place + 1 ≡ slot_count head
+    → CutsBytes m m' d (as_header head) (as_header (shrunk head)) (head.size - slot_len head.form)
     → slots_at m' d (shrunk head) ≡ swap_remove (slots_at m d head) place []
 slots_dropped m m' d head place last cuts =
     let many = slots_many m d head in
-    slots_cut m m' d head (one_slot head.form place head.size (omega (arith, last))) cuts ∙ sym (removed_last (slots_at m d head) place (omega (arith, last, many)))
+    slots_cut m m' d head (one_slot head.form place head.size (omega (arith, last))) cuts
+    ∙ sym (removed_last (slots_at m d head) place (omega (arith, last, many)))
 
-pub slots_moved : (m l m' : LogMap) (d : ℕ) (head : Header) (place : ℕ) (slot : List ℕ) → place + 1 < slot_count head → length slot ≡ slot_len head.form → get_or (slots_at m d head) (length (slots_at m d head) - 1) [] ≡ slot
-    → CutsBytes m l d (as_header head) (as_header (shrunk head)) (head.size - slot_len head.form) → WritesBytes l m' d (as_header (shrunk head)) (as_header (shrunk head)) (slot_len head.form * place) slot
+pub slots_moved : (m l m' : LogMap) (d : ℕ) (head : Header) (place : ℕ) (slot : List ℕ) → place + 1 < slot_count head
+    → length slot ≡ slot_len head.form → get_or (slots_at m d head) (length (slots_at m d head) - 1) [] ≡ slot
+    → CutsBytes m l d (as_header head) (as_header (shrunk head)) (head.size - slot_len head.form)
+    → WritesBytes l m' d (as_header (shrunk head)) (as_header (shrunk head)) (slot_len head.form * place) slot
     → slots_at m' d (shrunk head) ≡ swap_remove (slots_at m d head) place []
 slots_moved m l m' d head place slot inside long last cuts writes =
     slots_set l m' d (shrunk head) place slot (let less = count_less head.form head.size in omega (arith, inside, less)) long writes
@@ -76,15 +87,18 @@ slots_moved m l m' d head place slot inside long last cuts writes =
     ∙ sym (removed (slots_at m d head) place)
 
 -- ---- the file
-pub file_cut : (m m' : LogMap) (d : ℕ) (head : Header) → slot_len head.form ≤ head.size → SizesFile m m' d head (shrunk head) (head.size - slot_len head.form) → CutsSlot m m' d head
+pub file_cut : (m m' : LogMap) (d : ℕ) (head : Header) → slot_len head.form ≤ head.size
+    → SizesFile m m' d head (shrunk head) (head.size - slot_len head.form) → CutsSlot m m' d head
 file_cut m m' d head some sizes = record {
   header = sizes.header;
   only = sizes.only;
   whole = sizes.whole;
-  ends = cut_ends m m' d (as_header head) (as_header (shrunk head)) (head.size - slot_len head.form) (sizes.shorter (let least = (slot_some head.form).0 in omega (arith, some, least)));
+  ends = cut_ends m m' d (as_header head) (as_header (shrunk head)) (head.size - slot_len head.form)
+      (sizes.shorter (let least = (slot_some head.form).0 in omega (arith, some, least)));
 }
 
-pub file_moved : (m l m' : LogMap) (d : ℕ) (head : Header) (place : ℕ) (slot : List ℕ) → place + 1 < slot_count head → length slot ≡ slot_len head.form → SizesFile m l d head (shrunk head) (head.size - slot_len head.form)
+pub file_moved : (m l m' : LogMap) (d : ℕ) (head : Header) (place : ℕ) (slot : List ℕ) → place + 1 < slot_count head
+    → length slot ≡ slot_len head.form → SizesFile m l d head (shrunk head) (head.size - slot_len head.form)
     → WritesFile l m' d (shrunk head) (shrunk head) (slot_len head.form * place) slot → CutsSlot m m' d head
 file_moved m l m' d head place slot inside long sizes writes =
     let cut = file_cut m l d head (one_slot head.form place head.size (omega (arith, inside))) sizes in
@@ -96,20 +110,24 @@ file_moved m l m' d head place slot inside long sizes writes =
         version = writes.only.version ∙ cut.only.version;
       };
       whole = λ was. writes.whole (cut.whole was);
-      ends = λ p past. writes.bytes.bytes.behind p (let within = slot_within head.form (place + 1) head.size inside in let next = slot_next head.form place in omega (arith, past, within, next, long)) ∙ cut.ends p past;
+      ends = λ p past. writes.bytes.bytes.behind p (let within = slot_within head.form (place + 1) head.size inside in
+          let next = slot_next head.form place in omega (arith, past, within, next, long)) ∙ cut.ends p past;
     }
 
 -- ---- the names
 last_at : (a : List (List ℕ)) (j : ℕ) → j + 1 ≡ length a → a ≡ take j a ++ get_or a j [] ∷ []
-last_at a j last = parts_at a j (omega (arith, last)) ∙ ap (λ (b : List (List ℕ)). take j a ++ get_or a j [] ∷ b) (drop_all (j + 1) a (omega (arith, last)))
+last_at a j last = parts_at a j (omega (arith, last))
+    ∙ ap (λ (b : List (List ℕ)). take j a ++ get_or a j [] ∷ b) (drop_all (j + 1) a (omega (arith, last)))
 
-module _ (form : ℕ) (a : List (List ℕ)) (place : ℕ) (s : SlotValue) (inside : place < length a) (is : slot_in form (get_or a place []) ≡ Some s) (distinct : AreApart form a) (formed : AreFormed form a) where
+module _ (form : ℕ) (a : List (List ℕ)) (place : ℕ) (s : SlotValue) (inside : place < length a)
+    (is : slot_in form (get_or a place []) ≡ Some s) (distinct : AreApart form a) (formed : AreFormed form a) where
   pub record Removes : Type 0 where
     pub names : map_of form (swap_remove a place []) ≡ without byte_cmp s.name (map_of form a)
     pub apart : AreApart form (swap_remove a place [])
     pub formed_still : AreFormed form (swap_remove a place [])
 
-  by_parts : (b c : List (List ℕ)) → swap_remove a place [] ≡ c → a ≡ b → (map_of form c ≡ without byte_cmp s.name (map_of form b)) × AreApart form c → AreFormed form c → Removes
+  by_parts : (b c : List (List ℕ)) → swap_remove a place [] ≡ c → a ≡ b → (map_of form c ≡ without byte_cmp s.name (map_of form b))
+      × AreApart form c → AreFormed form c → Removes
   by_parts b c at parts both each = record {
     names = ap (map_of form) at ∙ both.0 ∙ ap (λ (l : List (List ℕ)). without byte_cmp s.name (map_of form l)) (sym parts);
     apart = subst (AreApart form) (sym at) both.1;
@@ -121,7 +139,8 @@ module _ (form : ℕ) (a : List (List ℕ)) (place : ℕ) (s : SlotValue) (insid
       let parts = last_at a place last in
       let here : length a - 1 ≡ place = omega (arith, last) in
       by_parts (take place a ++ get_or a place [] ∷ []) (take place a) (removed_last a place last ∙ ap (λ (k : ℕ). take k a) here) parts
-      (last_taken form (take place a) (get_or a place []) s is (subst (AreApart form) parts distinct)) (last_formed form (take place a) (get_or a place []) (subst (AreFormed form) parts formed))
+      (last_taken form (take place a) (get_or a place []) s is (subst (AreApart form) parts distinct))
+      (last_formed form (take place a) (get_or a place []) (subst (AreFormed form) parts formed))
 
   removes_other : place + 1 < length a → Removes
   removes_other other =
@@ -139,12 +158,15 @@ module _ (form : ℕ) (a : List (List ℕ)) (place : ℕ) (s : SlotValue) (insid
       ∙ append_assoc before (x ∷ behind) (y ∷ [])
       in
       by_parts (before ++ x ∷ (behind ++ y ∷ [])) (before ++ y ∷ behind) (removed a place ∙ parts_set front place y within) parts
-      (moved form before behind x y s (ap (slot_in form) same ∙ is) (subst (AreApart form) parts distinct)) (moved_formed form before behind x y (subst (AreFormed form) parts formed))
+      (moved form before behind x y s (ap (slot_in form) same ∙ is) (subst (AreApart form) parts distinct))
+      (moved_formed form before behind x y (subst (AreFormed form) parts formed))
 
   pub removes : Removes
-  removes = ⊎_elim removes_other (λ (last : length a ≤ place + 1). removes_last (omega (arith, last, inside))) (cases_lt (place + 1) (length a))
+  removes =
+      ⊎_elim removes_other (λ (last : length a ≤ place + 1). removes_last (omega (arith, last, inside))) (cases_lt (place + 1) (length a))
 
-pub takes_name : (m m' : LogMap) (d : ℕ) (head : Header) (name : List ℕ) (found : Found) → IsSlotOf head.form (slots_at m d head) name found → IsDirectory m d (as_header head)
+pub takes_name : (m m' : LogMap) (d : ℕ) (head : Header) (name : List ℕ) (found : Found) → IsSlotOf head.form (slots_at m d head) name found
+    → IsDirectory m d (as_header head)
     → slots_at m' d (shrunk head) ≡ swap_remove (slots_at m d head) found.place [] → TakesName m m' d head name
 takes_name m m' d head name found is dir slots =
     let s : SlotValue = record { number = found.number.value; name = name } in

@@ -9,7 +9,8 @@ use Rattle.lfs_model.specs.Objects.{AreLong}
 use Rattle.lfs_model.specs.Stands.{LogMap}
 use Rattle.lfs_model.proofs.ObjectMaps.{object_fits, object_kept}
 use Rattle.lfs_files.specs.declared.header.Header.{Header}
-use Rattle.lfs_files.specs.Files.{AreCounted, Counted, Counts, FilesState, HasFile, HasShrunk, IsApart, IsFault, Reads, Redrafts, Shrinks, TellsBlock, Writes, WritesFile}
+use Rattle.lfs_files.specs.Files.{AreCounted, Counted, Counts, FilesState, HasFile, HasShrunk, IsApart, IsFault, Reads, Redrafts, Shrinks}
+use Rattle.lfs_files.specs.Files.{TellsBlock, Writes, WritesFile}
 use Rattle.lfs_files.specs.Headers.{FitsHeader, as_header, resized}
 use Rattle.lfs_files.proofs.FilesCompose.{still_apart}
 use Rattle.lfs_dirs.specs.declared.searching.Found.{Found}
@@ -22,9 +23,11 @@ use Rattle.lfs_dirs.proofs.SlotPlaces.{slot_in_block, slots_many}
 use Rattle.lfs_dirs.proofs.SlotsTaken.{file_cut, file_moved, slots_dropped, slots_moved, takes_name}
 
 -- A directory that is cut in a log map is one in a log map that a volume may keep.
-pub cut_kept : (m l : LogMap) (d : ℕ) (head : Header) → head.size ≤ 1024 * slot_len head.form → HasFile m d head → AreLong m d → CutsSlot m l d head → IsLogMap l
+pub cut_kept : (m l : LogMap) (d : ℕ) (head : Header) → head.size ≤ 1024 * slot_len head.form → HasFile m d head → AreLong m d
+    → CutsSlot m l d head → IsLogMap l
 cut_kept m l d head few there long cut =
-    let was = object_fits m d (as_header head) there.map long there.there (let most = (slot_some head.form).1 in omega (arith, few, most)) in
+    let was =
+    object_fits m d (as_header head) there.map long there.there (let most = (slot_some head.form).1 in omega (arith, few, most)) in
     object_kept m l d (as_header (shrunk head)) there.map cut.only cut.header record {
       number = was.number;
       root = was.root;
@@ -36,23 +39,29 @@ cut_kept m l d head few there long cut =
 
 module _ {S D : Type 0} where
   -- ---- one slot
-  pub slot_read : (s s' : FilesState S D) (d : ℕ) (head : Header) (place : ℕ) (block slot : List ℕ) → slot ≡ part (slot_len head.form * (place % per_block head.form)) (slot_len head.form) block → TellsBlock s s' d (place / per_block head.form) block → ReadsSlot s s' d head place slot
-  slot_read s s' d head place block slot is told m m' keeps has inside = slot_in_block m' d head place block (told m m' keeps has) inside ∙ sym is
+  pub slot_read : (s s' : FilesState S D) (d : ℕ) (head : Header) (place : ℕ) (block slot : List ℕ)
+      → slot ≡ part (slot_len head.form * (place % per_block head.form)) (slot_len head.form) block
+      → TellsBlock s s' d (place / per_block head.form) block → ReadsSlot s s' d head place slot
+  slot_read s s' d head place block slot is told m m' keeps has inside = slot_in_block m' d head place block (told m m' keeps has) inside
+      ∙ sym is
 
   -- ---- the last slot goes
-  pub drops_last : (s s' : FilesState S D) (d : ℕ) (head : Header) (place : ℕ) → place + 1 ≡ slot_count head → Shrinks s s' d head (head.size - slot_len head.form) → DropsSlot s s' d head place
+  pub drops_last : (s s' : FilesState S D) (d : ℕ) (head : Header) (place : ℕ) → place + 1 ≡ slot_count head
+      → Shrinks s s' d head (head.size - slot_len head.form) → DropsSlot s s' d head place
   drops_last s s' d head place last shrinks = record {
     lost = shrinks.lost;
     headers = let few = shrinks.headers in omega (arith, few);
     blocks = let few = shrinks.blocks in omega (arith, few);
-    fits = λ m m' keeps has fit takes. shrinks.fits m m' has fit record { there = takes.there; apart = takes.apart; within = λ none. absurd (takes.staged none); header = takes.header };
+    fits = λ m m' keeps has fit takes. shrinks.fits m m' has fit
+        record { there = takes.there; apart = takes.apart; within = λ none. absurd (takes.staged none); header = takes.header };
     has = λ m m' keeps has.
         let f = shrinks.has m m' keeps has in
         record {
           map = f.map;
           has = f.has;
           file = λ there. file_cut m' f.map d head (one_slot head.form place head.size (omega (arith, last))) (f.file there);
-          slots = λ there. slots_dropped m' f.map d head place last ((f.file there).shorter (let one = one_slot head.form place head.size (omega (arith, last)) in let least = (slot_some head.form).0 in omega (arith, one, least)));
+          slots = λ there. slots_dropped m' f.map d head place last ((f.file there).shorter (let one = one_slot head.form place head.size
+              (omega (arith, last)) in let least = (slot_some head.form).0 in omega (arith, one, least)));
         };
   }
 
@@ -60,14 +69,17 @@ module _ {S D : Type 0} where
   counts_last s s' d head counts m a b keeps has has' there long map are = counts m a b keeps has has' there.map map are
 
   -- ---- or comes into another's place
-  module _ (s a b s' : FilesState S D) (d : ℕ) (head : Header) (place : ℕ) (slot : List ℕ) (inside : place + 1 < slot_count head) (long : length slot ≡ slot_len head.form)
-      (reads : Reads s a) (more : Redrafts a b) (last : Redrafts b s') (found : ReadsSlot s a d head (slot_count head - 1) slot) (shrinks : Shrinks a b d head (head.size - slot_len head.form))
+  module _ (s a b s' : FilesState S D) (d : ℕ) (head : Header) (place : ℕ) (slot : List ℕ) (inside : place + 1 < slot_count head)
+      (long : length slot ≡ slot_len head.form)
+      (reads : Reads s a) (more : Redrafts a b) (last : Redrafts b s') (found : ReadsSlot s a d head (slot_count head - 1) slot)
+      (shrinks : Shrinks a b d head (head.size - slot_len head.form))
       (writes : Writes b s' d (shrunk head) (slot_len head.form * place) slot) where
     sized : (m m' : LogMap) → s'.device.keeps_model → s.has m m' → HasShrunk b m m' d head (head.size - slot_len head.form)
     sized m m' keeps has = shrinks.has m m' (last.looks.carries.kept_before keeps) (reads.has m m' has)
 
     size : max (head.size - slot_len head.form) (slot_len head.form * place + length slot) ≡ head.size - slot_len head.form
-    size = let within = slot_within head.form (place + 1) head.size inside in let next = slot_next head.form place in omega (arith, long, within, next)
+    size = let within = slot_within head.form (place + 1) head.size inside in let next = slot_next head.form place in
+        omega (arith, long, within, next)
 
     read : (m m' : LogMap) → s'.device.keeps_model → s.has m m' → get_or (slots_at m' d head) (length (slots_at m' d head) - 1) [] ≡ slot
     read m m' keeps has =
@@ -78,12 +90,15 @@ module _ {S D : Type 0} where
     dropped m m' keeps has =
         let cut = sized m m' keeps has in
         let f = writes.file m cut.map keeps cut.has in
-        let file = subst (λ (z : ℕ). WritesFile cut.map f.map d (shrunk head) (resized (shrunk head) z) (slot_len head.form * place) slot) size f.file in
+        let file = subst (λ (z : ℕ). WritesFile cut.map f.map d (shrunk head) (resized (shrunk head) z) (slot_len head.form * place) slot)
+        size f.file in
         record {
           map = f.map;
           has = f.has;
           file = λ there. file_moved m' cut.map f.map d head place slot inside long (cut.file there) file;
-          slots = λ there. slots_moved m' cut.map f.map d head place slot inside long (read m m' keeps has) ((cut.file there).shorter (let one = one_slot head.form place head.size (omega (arith, inside)) in let least = (slot_some head.form).0 in omega (arith, one, least))) file.bytes;
+          slots = λ there. slots_moved m' cut.map f.map d head place slot inside long (read m m' keeps has)
+              ((cut.file there).shorter (let one = one_slot head.form place head.size (omega (arith, inside)) in
+              let least = (slot_some head.form).0 in omega (arith, one, least))) file.bytes;
         }
 
     apart_then : IsApart s.lost d → IsApart b.lost d
@@ -95,7 +110,12 @@ module _ {S D : Type 0} where
     fitting m m' keeps has fit takes =
         let cut = sized m m' keeps has in
         let shorter = shrinks.fits m m' (reads.has m m' has) (reads.fits m fit)
-        record { there = takes.there; apart = still_apart s a d reads takes.apart; within = λ none. absurd (takes.staged none); header = takes.header } in
+        record {
+          there = takes.there;
+          apart = still_apart s a d reads takes.apart;
+          within = λ none. absurd (takes.staged none);
+          header = takes.header;
+        } in
         writes.fits m cut.map cut.has shorter record {
           there = cut.header;
           apart = apart_then takes.apart;
@@ -107,7 +127,9 @@ module _ {S D : Type 0} where
     drops_other = record {
       lost = λ x. writes.lost x ∙ shrinks.lost x ∙ reads.lost x;
       headers = let few = shrinks.headers in let one = writes.headers in let same = reads.headers in omega (arith, few, one, same);
-      blocks = let few = shrinks.blocks in let one = writes.blocks in let same = reads.blocks in let whole = subst (λ (n : ℕ). (slot_len head.form * place + n) / 512 + min 1 ((slot_len head.form * place + n) % 512) ≤ slot_len head.form * place / 512 + 1) (sym long) (one_block head.form place) in omega (arith, few, one, same, whole);
+      blocks = let few = shrinks.blocks in let one = writes.blocks in let same = reads.blocks in
+          let whole = subst (λ (n : ℕ). (slot_len head.form * place + n) / 512 + min 1 ((slot_len head.form * place + n) % 512)
+          ≤ slot_len head.form * place / 512 + 1) (sym long) (one_block head.form place) in omega (arith, few, one, same, whole);
       fits = fitting;
       has = dropped;
     }
@@ -116,12 +138,15 @@ module _ {S D : Type 0} where
     counts_other few first next m x y keeps has has' there whole map are =
         let before = last.looks.carries.kept_before keeps in
         let cut = sized m x keeps has in
-        let kept = cut_kept x cut.map d head few there whole (file_cut x cut.map d head (one_slot head.form place head.size (omega (arith, inside))) (cut.file there)) in
+        let kept = cut_kept x cut.map d head few there whole
+        (file_cut x cut.map d head (one_slot head.form place head.size (omega (arith, inside))) (cut.file there)) in
         next m cut.map y keeps cut.has has' kept map
-        (first m x cut.map before (reads.has m x has) cut.has there.map kept (subst (λ (t : Counted). AreCounted x t) (sym reads.drafted) are))
+        (first m x cut.map before (reads.has m x has) cut.has there.map kept
+        (subst (λ (t : Counted). AreCounted x t) (sym reads.drafted) are))
 
   -- what fails where the slot is written
-  pub fails_last : (s a b s' : FilesState S D) (d : ℕ) (head : Header) (len : ℕ) → Reads s a → Redrafts a b → Redrafts b s' → Shrinks a b d head len → IsFault b s' → IsFault s s'
+  pub fails_last : (s a b s' : FilesState S D) (d : ℕ) (head : Header) (len : ℕ) → Reads s a → Redrafts a b → Redrafts b s'
+      → Shrinks a b d head len → IsFault b s' → IsFault s s'
   fails_last s a b s' d head len reads more last shrinks failed m m' keeps has =
       let cut = shrinks.has m m' (last.looks.carries.kept_before keeps) (reads.has m m' has) in
       let rose = failed m cut.map keeps cut.has in
@@ -130,7 +155,8 @@ module _ {S D : Type 0} where
       omega (arith, rose, one, two)
 
   -- ---- the slot of a name goes
-  pub drops_behind : (s a s' : FilesState S D) (d : ℕ) (head : Header) (place : ℕ) → Reads s a → DropsSlot a s' d head place → DropsSlot s s' d head place
+  pub drops_behind : (s a s' : FilesState S D) (d : ℕ) (head : Header) (place : ℕ) → Reads s a → DropsSlot a s' d head place
+      → DropsSlot s s' d head place
   drops_behind s a s' d head place reads drops = record {
     lost = λ x. drops.lost x ∙ reads.lost x;
     headers = let more = drops.headers in let same = reads.headers in omega (arith, more, same);
@@ -144,7 +170,8 @@ module _ {S D : Type 0} where
   counts_behind s a s' d head reads counts m x y keeps has has' there long map are =
       counts m x y keeps (reads.has m x has) has' there long map (subst (λ (t : Counted). AreCounted x t) (sym reads.drafted) are)
 
-  pub takes : (s a s' : FilesState S D) (d : ℕ) (head : Header) (name : List ℕ) (found : Found) → Reads s a → Redrafts a s' → FindsName s a d head name found
+  pub takes : (s a s' : FilesState S D) (d : ℕ) (head : Header) (name : List ℕ) (found : Found) → Reads s a → Redrafts a s'
+      → FindsName s a d head name found
       → DropsSlot a s' d head found.place → Takes s s' d head name
   takes s a s' d head name found reads more finds drops = record {
     place = found.place;
@@ -155,6 +182,7 @@ module _ {S D : Type 0} where
           map = f.map;
           has = f.has;
           file = f.file;
-          names = λ there dir. takes_name m' f.map d head name found (finds m m' (more.looks.carries.kept_before keeps) has dir) dir (f.slots there);
+          names = λ there dir.
+              takes_name m' f.map d head name found (finds m m' (more.looks.carries.kept_before keeps) has dir) dir (f.slots there);
         };
   }

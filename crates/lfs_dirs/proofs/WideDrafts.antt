@@ -9,7 +9,8 @@ use Rattle.lfs_model.specs.Stands.{LogMap}
 use Rattle.lfs_model.specs.Tree.{slot_len}
 use Rattle.lfs_model.proofs.ObjectMaps.{object_fits, object_kept}
 use Rattle.lfs_files.specs.declared.header.Header.{Header}
-use Rattle.lfs_files.specs.Files.{AreCounted, Counted, Counts, CountsReformed, FilesState, HasFile, HasReformed, IsApart, IsFault, IsLoneWrite, Reads, Redrafts, Reforms, Writes, WritesFile, asked_by_directory}
+use Rattle.lfs_files.specs.Files.{AreCounted, Counted, Counts, CountsReformed, FilesState, HasFile, HasReformed, IsApart, IsFault}
+use Rattle.lfs_files.specs.Files.{IsLoneWrite, Reads, Redrafts, Reforms, Writes, WritesFile, asked_by_directory}
 use Rattle.lfs_files.specs.Headers.{FitsHeader, as_header, resized}
 use Rattle.lfs_files.proofs.FilesCompose.{still_apart}
 use Rattle.lfs_dirs.specs.Directory.{slot_count}
@@ -33,7 +34,8 @@ module _ (m m' : LogMap) (d : ℕ) (head : Header) (is : IsWithHeader m d (Some 
   still_whole : AreStoredWhole m d → AreStoredWhole m' d
   still_whole was = record {
     long = λ i some. ap length (is.block d i) ∙ was.long i (subst (λ (b : List ℕ). 0 < length b) (is.block d i) some);
-    nonzero = λ i some. (let k = was.nonzero i (subst (λ (b : List ℕ). 0 < length b) (is.block d i) some) in (k.0, subst (λ (b : List ℕ). 0 < slice_index b k.0) (sym (is.block d i)) k.1));
+    nonzero = λ i some. (let k = was.nonzero i (subst (λ (b : List ℕ). 0 < length b) (is.block d i) some) in
+        (k.0, subst (λ (b : List ℕ). 0 < slice_index b k.0) (sym (is.block d i)) k.1));
   }
 
   header_widens : WidensFile m m' d head
@@ -45,9 +47,11 @@ module _ (m m' : LogMap) (d : ℕ) (head : Header) (is : IsWithHeader m d (Some 
   }
 
   -- a volume may keep it, where its version has form 1
-  header_kept : head.size ≤ 1024 * slot_len head.form → HasFile m d head → AreLong m d → IsDirectory m d (as_header head) → IsForm m.version head.kind 1 → IsLogMap m'
+  header_kept : head.size ≤ 1024 * slot_len head.form → HasFile m d head → AreLong m d → IsDirectory m d (as_header head)
+      → IsForm m.version head.kind 1 → IsLogMap m'
   header_kept few there long dir form =
-      let was = object_fits m d (as_header head) there.map long there.there (let most = (slot_some head.form).1 in omega (arith, few, most)) in
+      let was =
+      object_fits m d (as_header head) there.map long there.there (let most = (slot_some head.form).1 in omega (arith, few, most)) in
       let whole = dir.whole in
       let slots = few_slots head.form head.size few in
       let enough = wide_enough head.form head.size dir.whole in
@@ -60,8 +64,10 @@ module _ (m m' : LogMap) (d : ℕ) (head : Header) (is : IsWithHeader m d (Some 
         ends = header_widens.ends whole was.ends;
       }
 
-module _ {S D : Type 0} (s a b : FilesState S D) (d : ℕ) (head : Header) (bytes : List ℕ) (reads : Reads s a) (told : TellsWide s a d head bytes) (long : length bytes ≡ slot_len 1 * slot_count head)
-    (few : head.size ≤ 1024 * slot_len head.form) (more : Redrafts a b) (reforms : Reforms a b d head 1 (slot_len 1 * slot_count head)) where
+module _ {S D : Type 0} (s a b : FilesState S D) (d : ℕ) (head : Header) (bytes : List ℕ) (reads : Reads s a)
+    (told : TellsWide s a d head bytes) (long : length bytes ≡ slot_len 1 * slot_count head)
+    (few : head.size ≤ 1024 * slot_len head.form) (more : Redrafts a b)
+    (reforms : Reforms a b d head 1 (slot_len 1 * slot_count head)) where
   reformed_map : (m m' : LogMap) → s.has m m' → HasReformed b m m' d (wide head)
   reformed_map m m' has = reforms.file m m' (reads.has m m' has)
 
@@ -71,7 +77,8 @@ module _ {S D : Type 0} (s a b : FilesState S D) (d : ℕ) (head : Header) (byte
       record { inode = reforms.lost _ ∙ was.inode; above = λ i. reforms.lost _ ∙ was.above i }
 
   reform_fits : (m m' : LogMap) → s.has m m' → s.fits m → TakesWide s m m' d head → b.fits m
-  reform_fits m m' has fit takes = reforms.fits m m' (reads.has m m' has) (reads.fits m fit) record { there = takes.there; apart = still_apart s a d reads takes.apart; header = takes.header }
+  reform_fits m m' has fit takes = reforms.fits m m' (reads.has m m' has)
+      (reads.fits m fit) record { there = takes.there; apart = still_apart s a d reads takes.apart; header = takes.header }
 
   few_asked : s.headers ≡ 0 → s.blocks ≡ 0 → b.asked ≤ asked_by_directory
   few_asked no_header no_block =
@@ -92,12 +99,14 @@ module _ {S D : Type 0} (s a b : FilesState S D) (d : ℕ) (head : Header) (byte
           map = r.map;
           has = r.has;
           file = header_widens m' r.map d head r.file;
-          names = λ dir. names_wide m' r.map d head bytes (told m m' (more.looks.carries.kept_before keeps) has) (λ p low. absurd (omega (arith, low, none))) dir;
+          names = λ dir. names_wide m' r.map d head bytes (told m m' (more.looks.carries.kept_before keeps) has)
+              (λ p low. absurd (omega (arith, low, none))) dir;
         };
   }
 
   pub counts_empty : CountsReformed a b d head → CountsWidened s b d head
-  counts_empty counts m x y keeps has has' there whole dir form map are = counts m x y (reads.has m x has) has' there.there (subst (λ (t : Counted). AreCounted x t) (sym reads.drafted) are)
+  counts_empty counts m x y keeps has has' there whole dir form map are =
+      counts m x y (reads.has m x has) has' there.there (subst (λ (t : Counted). AreCounted x t) (sym reads.drafted) are)
 
   -- what fails where the slots are written
   pub fails_written : (s' : FilesState S D) → IsFault b s' → IsDirectoryFault s s' d head
@@ -132,15 +141,18 @@ module _ {S D : Type 0} (s a b : FilesState S D) (d : ℕ) (head : Header) (byte
             whole = λ was. file.whole (first.whole was);
             ends = λ whole ends p past. file.bytes.bytes.behind p (omega (arith, past, long)) ∙ first.ends whole ends p past;
           };
-          names = λ dir. names_wide m' f.map d head bytes (told m m' (more.looks.carries.kept_before (last.looks.carries.kept_before keeps)) has)
-              (λ p low. let here : 0 + p ≡ p = omega arith in sym (ap (λ (q : ℕ). byte_in f.map d q) here) ∙ file.bytes.bytes.inside p low) dir;
+          names = λ dir.
+              names_wide m' f.map d head bytes (told m m' (more.looks.carries.kept_before (last.looks.carries.kept_before keeps)) has)
+              (λ p low. let here : 0 + p ≡ p = omega arith in sym (ap (λ (q : ℕ). byte_in f.map d q) here) ∙ file.bytes.bytes.inside p low)
+              dir;
         }
 
     pub widens_written : (IsLoneWrite b bytes → s'.asked ≤ asked_by_directory) → Widens s s' d head
     widens_written asked = record {
       lost = λ x. writes.lost x ∙ reforms.lost x ∙ reads.lost x;
       headers = let first = reforms.headers in let next = writes.headers in let same = reads.headers in omega (arith, first, next, same);
-      blocks = let first = reforms.blocks in let next = writes.blocks in let same = reads.blocks in let slots = few_slots head.form head.size few in omega (arith, first, next, same, long, slots);
+      blocks = let first = reforms.blocks in let next = writes.blocks in let same = reads.blocks in
+          let slots = few_slots head.form head.size few in omega (arith, first, next, same, long, slots);
       asked = λ no_header no_block. asked record {
         headers = let first = reforms.headers in let same = reads.headers in omega (arith, first, same, no_header);
         blocks = reforms.blocks ∙ reads.blocks ∙ no_block;
@@ -161,4 +173,5 @@ module _ {S D : Type 0} (s a b : FilesState S D) (d : ℕ) (head : Header) (byte
     counts_written first next m x y keeps has has' there whole dir form map are =
         let r = reformed_map m x has in
         let kept = header_kept x r.map d head r.file few there whole dir form in
-        next m r.map y keeps r.has has' kept map (first m x r.map (reads.has m x has) r.has there.there (subst (λ (t : Counted). AreCounted x t) (sym reads.drafted) are))
+        next m r.map y keeps r.has has' kept map
+        (first m x r.map (reads.has m x has) r.has there.there (subst (λ (t : Counted). AreCounted x t) (sym reads.drafted) are))

@@ -1,8 +1,10 @@
 -- A directory's slots in form 1.
 use Rattle.std.specs.Prelude.{min}
-use Rattle.std.proofs.Common.{◌≡◌, ◌≢◌, ◌<◌, ◌≤◌, ◌+◌, ◌*◌, ◌-◌, ◌/◌, ◌%◌, ℕ, zero, suc, List, [], ◌∷◌, ◌++◌, length, map, take, drop, get_or, Option, Some, None, refl, sym, ◌∙◌, ap, ap₂, subst, arith}
+use Rattle.std.proofs.Common.{◌≡◌, ◌≢◌, ◌<◌, ◌≤◌, ◌+◌, ◌*◌, ◌-◌, ◌/◌, ◌%◌, ℕ, zero, suc, List, [], ◌∷◌, ◌++◌, length, map, take, drop}
+use Rattle.std.proofs.Common.{get_or, Option, Some, None, refl, sym, ◌∙◌, ap, ap₂, subst, arith}
 use Rattle.std.proofs.lemmas.Grind.{flat_map-append}
-use Rattle.std.proofs.lemmas.List.{append_assoc, append-nil, drop_all, ext_get_or, get_or_append_left, get_or-append-add, get_or-map, length-append, length-map}
+use Rattle.std.proofs.lemmas.List.{append_assoc, append-nil, drop_all, ext_get_or, get_or_append_left, get_or-append-add, get_or-map}
+use Rattle.std.proofs.lemmas.List.{length-append, length-map}
 use Rattle.lfs_model.specs.Device.{IsLawful}
 use Rattle.lfs_model.specs.Fields.{part}
 use Rattle.lfs_model.specs.Objects.{IsDirectory, byte_in}
@@ -74,11 +76,13 @@ module _ (form : ℕ) where
       omega (arith, all, one, rest)
 
   -- a byte of one of them
-  wide_byte : (a : List (List ℕ)) (j b : ℕ) → AreSlots form a → j < length a → b < slot_len 1 → get_or (wide_bytes form a) (slot_len 1 * j + b) 0 ≡ get_or (wide_slot form (get_or a j [])) b 0
+  wide_byte : (a : List (List ℕ)) (j b : ℕ) → AreSlots form a → j < length a → b < slot_len 1
+      → get_or (wide_bytes form a) (slot_len 1 * j + b) 0 ≡ get_or (wide_slot form (get_or a j [])) b 0
   wide_byte [] j b formed low inside = absurd (omega (arith, low))
   wide_byte (x ∷ a) zero b formed low inside = let one = wide_long x formed.0 in
       let place : slot_len 1 * 0 + b ≡ b = omega arith in
-      ap (λ (p : ℕ). get_or (wide_slot form x ++ wide_bytes form a) p 0) place ∙ get_or_append_left (wide_slot form x) (wide_bytes form a) 0 b (omega (arith, one, inside))
+      ap (λ (p : ℕ). get_or (wide_slot form x ++ wide_bytes form a) p 0) place
+      ∙ get_or_append_left (wide_slot form x) (wide_bytes form a) 0 b (omega (arith, one, inside))
   wide_byte (x ∷ a) (suc j) b formed low inside =
       let one = wide_long x formed.0 in
       let place : slot_len 1 * suc j + b ≡ length (wide_slot form x) + (slot_len 1 * j + b) = omega (arith, one) in
@@ -100,7 +104,8 @@ whole_wide n = omega arith
 get_slot : (a : List (List ℕ)) (form j : ℕ) → j < length a → get_or (map (wide_slot form) a) j [] ≡ wide_slot form (get_or a j [])
 get_slot a form j low = get_or-map (wide_slot form) a j [] [] low
 
-module _ (m m' : LogMap) (d : ℕ) (head : Header) (bytes : List ℕ) (is : AppendsWide head.form (slots_at m d head) [] bytes) (each : (p : ℕ) → p < length bytes → byte_in m' d p ≡ get_or bytes p 0) where
+module _ (m m' : LogMap) (d : ℕ) (head : Header) (bytes : List ℕ) (is : AppendsWide head.form (slots_at m d head) [] bytes)
+    (each : (p : ℕ) → p < length bytes → byte_in m' d p ≡ get_or bytes p 0) where
   slots_wide : slots_at m' d (wide head) ≡ map (wide_slot head.form) (slots_at m d head)
   slots_wide =
       let many = slots_many m d head in
@@ -108,13 +113,15 @@ module _ (m m' : LogMap) (d : ℕ) (head : Header) (bytes : List ℕ) (is : Appe
       let count = count_wide (slot_count head) in
       let mapped = length-map (slots_at m d head) (wide_slot head.form) in
       let formed = is.formed in
-      let all : length bytes ≡ slot_len 1 * slot_count head = ap length is.bytes ∙ bytes_many head.form (slots_at m d head) formed ∙ ap (λ (n : ℕ). slot_len 1 * n) many in
+      let all : length bytes ≡ slot_len 1 * slot_count head = ap length is.bytes ∙ bytes_many head.form (slots_at m d head) formed
+      ∙ ap (λ (n : ℕ). slot_len 1 * n) many in
       ext_get_or [] (slots_at m' d (wide head)) (map (wide_slot head.form) (slots_at m d head)) (omega (arith, many, many', count, mapped))
       (λ j low.
       let within : j < slot_count head = omega (arith, low, many', count) in
       let here : j < length (slots_at m d head) = omega (arith, within, many) in
       slot_is m' d (wide head) j (get_or (map (wide_slot head.form) (slots_at m d head)) j []) (omega (arith, within, count))
-      (ap length (get_slot (slots_at m d head) head.form j here) ∙ wide_long head.form (get_or (slots_at m d head) j []) (at_slot (slots_at m d head) j formed here))
+      (ap length (get_slot (slots_at m d head) head.form j here)
+      ∙ wide_long head.form (get_or (slots_at m d head) j []) (at_slot (slots_at m d head) j formed here))
       (λ b small.
       ap (λ (s : List ℕ). get_or s b 0) (get_slot (slots_at m d head) head.form j here)
       ∙ sym (wide_byte head.form (slots_at m d head) j b formed here small)
@@ -156,10 +163,12 @@ module _ (form : ℕ) (block : List ℕ) (count : ℕ) where
         formed = λ is. subst (λ (k : ℕ). AreSlots form (slots_in form block 0 k)) all is;
       }
 
-  pub wide_goes_on : (old now next slot : List ℕ) (place : ℕ) → place < count → slot ≡ part (slot_len form * place) (slot_len form) block → WideTo old place now → next ≡ now ++ wide_slot form slot → slot_in form slot ≢ None → WideTo old (place + 1) next
+  pub wide_goes_on : (old now next slot : List ℕ) (place : ℕ) → place < count → slot ≡ part (slot_len form * place) (slot_len form) block
+      → WideTo old place now → next ≡ now ++ wide_slot form slot → slot_in form slot ≢ None → WideTo old (place + 1) next
   wide_goes_on old now next slot place low own was more formed =
       let rest : List (List ℕ) = slots_in form block (place + 1) (count - (place + 1)) in
-      let split : slots_in form block place (count - place) ≡ slot ∷ rest = next_slot form block place count low ∙ ap (λ (s : List ℕ). s ∷ rest) (sym own) in
+      let split : slots_in form block place (count - place) ≡ slot ∷ rest = next_slot form block place count low
+      ∙ ap (λ (s : List ℕ). s ∷ rest) (sym own) in
       record {
         bytes =
             ap (λ (w : List ℕ). w ++ wide_bytes form rest) more
@@ -169,7 +178,8 @@ module _ (form : ℕ) (block : List ℕ) (count : ℕ) where
         formed = λ behind. was.formed (subst (AreSlots form) (sym split) (formed, behind));
       }
 
-  pub wide_ends : (old now : List ℕ) (place : ℕ) → count ≤ place → WideTo old place now → AppendsWide form (first_slots form block count) old now
+  pub wide_ends : (old now : List ℕ) (place : ℕ) → count ≤ place → WideTo old place now
+      → AppendsWide form (first_slots form block count) old now
   wide_ends old now place past was =
       let none = no_slots form block place count past in
       record {
@@ -177,24 +187,31 @@ module _ (form : ℕ) (block : List ℕ) (count : ℕ) where
         formed = was.formed (subst (AreSlots form) (sym none) tt);
       }
 
-module _ {S D : Type 0} (s s' : FilesState S D) (form d index count : ℕ) (few : count ≤ per_block form) (block : List ℕ) (told : TellsBlock s s' d index block) where
-  pub block_widened : (old new : List ℕ) → AppendsWide form (first_slots form block count) old new → WidensBlock s s' form d index count old new
+module _ {S D : Type 0} (s s' : FilesState S D) (form d index count : ℕ) (few : count ≤ per_block form) (block : List ℕ)
+    (told : TellsBlock s s' d index block) where
+  pub block_widened : (old new : List ℕ) → AppendsWide form (first_slots form block count) old new
+      → WidensBlock s s' form d index count old new
   block_widened old new is m m' keeps has head same room =
       by (subst (λ (f : ℕ). count ≤ per_block f) (sym same) few)
-      (subst (λ (f : ℕ). per_block f * index + count ≤ slot_count head) (sym same) room) (subst (λ (f : ℕ). AppendsWide f (first_slots f block count) old new) (sym same) is)
+      (subst (λ (f : ℕ). per_block f * index + count ≤ slot_count head) (sym same) room)
+      (subst (λ (f : ℕ). AppendsWide f (first_slots f block count) old new) (sym same) is)
     where
-      by : count ≤ per_block head.form → per_block head.form * index + count ≤ slot_count head → AppendsWide head.form (first_slots head.form block count) old new
+      by : count ≤ per_block head.form → per_block head.form * index + count ≤ slot_count head
+          → AppendsWide head.form (first_slots head.form block count) old new
           → AppendsWide form (take count (drop (per_block form * index) (slots_at m' d head))) old new
       by few room is = subst (λ (f : ℕ). AppendsWide f (take count (drop (per_block f * index) (slots_at m' d head))) old new) same
-          (subst (λ (a : List (List ℕ)). AppendsWide head.form a old new) (sym (slots_of_block m' d head index count block (told m m' keeps has) few room)) is)
+          (subst (λ (a : List (List ℕ)). AppendsWide head.form a old new)
+          (sym (slots_of_block m' d head index count block (told m m' keeps has) few room)) is)
 
 -- ---- the blocks before one of this index
 module _ {S D : Type 0} (d : ℕ) (head : Header) where
   pub record WidenedTo (s s' : FilesState S D) (index : ℕ) (bytes : List ℕ) : Type 0 where
     pub reads : Reads s s'
     pub long : length bytes ≡ slot_len 1 * min (slot_count head) (per_block head.form * index)
-    pub all : (m m' : LogMap) → s'.device.keeps_model → s.has m m' → bytes ++ wide_bytes head.form (drop (per_block head.form * index) (slots_at m' d head)) ≡ wide_bytes head.form (slots_at m' d head)
-    pub formed : (m m' : LogMap) → s'.device.keeps_model → s.has m m' → AreSlots head.form (drop (per_block head.form * index) (slots_at m' d head)) → AreSlots head.form (slots_at m' d head)
+    pub all : (m m' : LogMap) → s'.device.keeps_model → s.has m m' → bytes
+        ++ wide_bytes head.form (drop (per_block head.form * index) (slots_at m' d head)) ≡ wide_bytes head.form (slots_at m' d head)
+    pub formed : (m m' : LogMap) → s'.device.keeps_model → s.has m m'
+        → AreSlots head.form (drop (per_block head.form * index) (slots_at m' d head)) → AreSlots head.form (slots_at m' d head)
 
   pub widening_begins : (s : FilesState S D) (bytes : List ℕ) → bytes ≡ [] → WidenedTo s s 0 bytes
   widening_begins s bytes none =
@@ -202,12 +219,15 @@ module _ {S D : Type 0} (d : ℕ) (head : Header) where
       record {
         reads = reads_none s;
         long = ap length none ∙ sym (ap (λ (k : ℕ). slot_len 1 * min (slot_count head) k) first ∙ omega arith);
-        all = λ m m' keeps has. ap (λ (w : List ℕ). w ++ wide_bytes head.form (drop (per_block head.form * 0) (slots_at m' d head))) none ∙ ap (λ (k : ℕ). wide_bytes head.form (drop k (slots_at m' d head))) first;
+        all = λ m m' keeps has. ap (λ (w : List ℕ). w ++ wide_bytes head.form (drop (per_block head.form * 0) (slots_at m' d head))) none
+            ∙ ap (λ (k : ℕ). wide_bytes head.form (drop k (slots_at m' d head))) first;
         formed = λ m m' keeps has is. subst (λ (k : ℕ). AreSlots head.form (drop k (slots_at m' d head))) first is;
       }
 
-  module _ (s a b : FilesState S D) (index count : ℕ) (old : List ℕ) (is : count ≡ min (slot_count head - per_block head.form * index) (per_block head.form)) (low : per_block head.form * index < slot_count head) (was : WidenedTo s a index old) where
-    pub widening_goes_on : (new : List ℕ) → IsLawful s.device → Reads a b → length new ≡ length old + slot_len 1 * count → WidensBlock a b head.form d index count old new → WidenedTo s b (index + 1) new
+  module _ (s a b : FilesState S D) (index count : ℕ) (old : List ℕ) (is : count ≡ min (slot_count head - per_block head.form * index)
+      (per_block head.form)) (low : per_block head.form * index < slot_count head) (was : WidenedTo s a index old) where
+    pub widening_goes_on : (new : List ℕ) → IsLawful s.device → Reads a b → length new ≡ length old + slot_len 1 * count
+        → WidensBlock a b head.form d index count old new → WidenedTo s b (index + 1) new
     widening_goes_on new lawful reads long more = record {
       reads = reads_more s a b lawful was.reads reads;
       long = (let before = was.long in let next = next_block head.form index in omega (arith, before, long, is, low, next));
@@ -227,7 +247,8 @@ module _ {S D : Type 0} (d : ℕ) (head : Header) where
           let here = more m m' keeps (was.reads.has m m' has) head refl (omega (arith, is, low)) in
           let split = block_and_rest head.form slots index count (slot_count head) (slots_many m' d head) is in
           was.formed m m' (reads.looks.carries.kept_before keeps) has
-          (subst (AreSlots head.form) (sym split) (both (take count (drop (per_block head.form * index) slots)) (drop (per_block head.form * (index + 1)) slots) here.formed behind));
+          (subst (AreSlots head.form) (sym split) (both (take count (drop (per_block head.form * index) slots))
+          (drop (per_block head.form * (index + 1)) slots) here.formed behind));
     }
       where
         both : (x y : List (List ℕ)) → AreSlots head.form x → AreSlots head.form y → AreSlots head.form (x ++ y)
@@ -240,7 +261,8 @@ module _ {S D : Type 0} (d : ℕ) (head : Header) where
         let before = was.reads.looks.carries.failures in
         omega (arith, rose, before)
 
-  pub widening_ends : (s a : FilesState S D) (index : ℕ) (bytes : List ℕ) → slot_count head ≤ per_block head.form * index → WidenedTo s a index bytes → TellsWide s a d head bytes
+  pub widening_ends : (s a : FilesState S D) (index : ℕ) (bytes : List ℕ) → slot_count head ≤ per_block head.form * index
+      → WidenedTo s a index bytes → TellsWide s a d head bytes
   widening_ends s a index bytes past was m m' keeps has =
       let slots = slots_at m' d head in
       let many = slots_many m' d head in
@@ -250,8 +272,11 @@ module _ {S D : Type 0} (d : ℕ) (head : Header) where
         formed = was.formed m m' keeps has (subst (AreSlots head.form) (sym none) tt);
       }
 
-  pub widening_long : (s a : FilesState S D) (index : ℕ) (bytes : List ℕ) → slot_count head ≤ per_block head.form * index → WidenedTo s a index bytes → length bytes ≡ slot_len 1 * slot_count head
+  pub widening_long : (s a : FilesState S D) (index : ℕ) (bytes : List ℕ) → slot_count head ≤ per_block head.form * index
+      → WidenedTo s a index bytes → length bytes ≡ slot_len 1 * slot_count head
   widening_long s a index bytes past was = let long = was.long in omega (arith, long, past)
 
-  pub widening_few : (s a : FilesState S D) (index : ℕ) (bytes : List ℕ) → head.size ≤ 1024 * slot_len head.form → slot_count head ≤ per_block head.form * index → WidenedTo s a index bytes → length bytes ≤ 1024 * slot_len 1
-  widening_few s a index bytes few past was = let long = widening_long s a index bytes past was in let slots = few_slots head.form head.size few in omega (arith, long, slots)
+  pub widening_few : (s a : FilesState S D) (index : ℕ) (bytes : List ℕ) → head.size ≤ 1024 * slot_len head.form
+      → slot_count head ≤ per_block head.form * index → WidenedTo s a index bytes → length bytes ≤ 1024 * slot_len 1
+  widening_few s a index bytes few past was = let long = widening_long s a index bytes past was in
+      let slots = few_slots head.form head.size few in omega (arith, long, slots)

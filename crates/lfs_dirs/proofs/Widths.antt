@@ -12,7 +12,8 @@ pub byte_block : (form i k b : ℕ) → k < per_block form → b < slot_len form
 byte_block zero i k b low inside = omega (arith, low, inside)
 byte_block (suc form) i k b low inside = omega (arith, low, inside)
 
-pub byte_place : (form i k b : ℕ) → k < per_block form → b < slot_len form → slot_len form * k + b ≡ (slot_len form * (per_block form * i + k) + b) % 512
+pub byte_place : (form i k b : ℕ) → k < per_block form → b < slot_len form
+    → slot_len form * k + b ≡ (slot_len form * (per_block form * i + k) + b) % 512
 byte_place zero i k b low inside = omega (arith, low, inside)
 byte_place (suc form) i k b low inside = omega (arith, low, inside)
 
@@ -41,11 +42,6 @@ place_low (suc form) place = omega arith
 pub next_block : (form index : ℕ) → per_block form * (index + 1) ≡ per_block form * index + per_block form
 next_block zero index = omega arith
 next_block (suc form) index = omega arith
-
--- as many slots as lie before a place fit there
-pub block_few : (form : ℕ) → (4 ≤ per_block form) × (per_block form ≤ 8)
-block_few zero = (omega arith, omega arith)
-block_few (suc form) = (omega arith, omega arith)
 
 pub slot_some : (form : ℕ) → (64 ≤ slot_len form) × (slot_len form ≤ 128)
 slot_some zero = (omega arith, omega arith)
@@ -104,7 +100,8 @@ blocks_past zero index slots whole is past = let most = subst (λ (w : ℕ). div
 blocks_past (suc form) index slots whole is past = let most = subst (λ (w : ℕ). div_ceil slots w ≤ index) is past in omega (arith, most)
 
 -- a slot that is written is in one block
-pub one_block : (form place : ℕ) → (slot_len form * place + slot_len form) / 512 + min 1 ((slot_len form * place + slot_len form) % 512) ≤ slot_len form * place / 512 + 1
+pub one_block : (form place : ℕ) → (slot_len form * place + slot_len form) / 512 + min 1 ((slot_len form * place + slot_len form) % 512)
+    ≤ slot_len form * place / 512 + 1
 one_block zero place = omega arith
 one_block (suc form) place = omega arith
 

@@ -40,5 +40,6 @@ module _ {S D : Type 0} where
 
 -- Bytes of a slot written behind a directory's slots are one slot more.
 abbrev pub SlotWritten : Type 0
-SlotWritten = (m m' : LogMap) (d : ℕ) (head : Header) (slot : List ℕ) → IsDirectory m d (as_header head) → length slot ≡ slot_len head.form → WritesBytes m m' d (as_header head) (as_header (grown head)) head.size slot
+SlotWritten = (m m' : LogMap) (d : ℕ) (head : Header) (slot : List ℕ) → IsDirectory m d (as_header head) → length slot ≡ slot_len head.form
+    → WritesBytes m m' d (as_header head) (as_header (grown head)) head.size slot
     → slots_at m' d (grown head) ≡ slots_at m d head ++ slot ∷ []

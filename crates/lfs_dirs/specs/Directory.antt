@@ -1,5 +1,6 @@
 -- The slots of a directory, one by one and by the blocks that they stand in, and the names that they give.
-use Rattle.std.specs.Prelude.{◌≡◌, ◌<◌, ◌≤◌, ◌+◌, ◌*◌, ◌/◌, ◌%◌, ℕ, zero, suc, List, [], ◌∷◌, ◌++◌, length, map, take, drop, get_or, Some, None}
+use Rattle.std.specs.Prelude.{◌≡◌, ◌<◌, ◌≤◌, ◌+◌, ◌*◌, ◌/◌, ◌%◌, ℕ, zero, suc, List, [], ◌∷◌, ◌++◌, length, map, take, drop, get_or, Some}
+use Rattle.std.specs.Prelude.{None}
 use Rattle.std.specs.FinMap.{find, put}
 use Rattle.std.specs.List.{range_with_len}
 use Rattle.lfs_model.specs.Fields.{part}
@@ -41,12 +42,14 @@ first_slots form block count = slots_in form block 0 count
 
 -- So many of a directory's slots, from the first in block i on, are those of the block.
 abbrev pub SlotsOfBlock : Type 0
-SlotsOfBlock = (m : LogMap) (d : ℕ) (head : Header) (i count : ℕ) (block : List ℕ) → HoldsBlock m d i block → count ≤ per_block head.form → per_block head.form * i + count ≤ slot_count head
+SlotsOfBlock = (m : LogMap) (d : ℕ) (head : Header) (i count : ℕ) (block : List ℕ) → HoldsBlock m d i block → count ≤ per_block head.form
+    → per_block head.form * i + count ≤ slot_count head
     → take count (drop (per_block head.form * i) (slots_at m d head)) ≡ first_slots head.form block count
 
 -- A slot lies in a block.
 abbrev pub SlotInBlock : Type 0
-SlotInBlock = (m : LogMap) (d : ℕ) (head : Header) (place : ℕ) (block : List ℕ) → HoldsBlock m d (place / per_block head.form) block → place < slot_count head
+SlotInBlock = (m : LogMap) (d : ℕ) (head : Header) (place : ℕ) (block : List ℕ) → HoldsBlock m d (place / per_block head.form) block
+    → place < slot_count head
     → get_or (slots_at m d head) place [] ≡ part (slot_len head.form * (place % per_block head.form)) (slot_len head.form) block
 
 -- A directory has as many names as slots.
@@ -77,14 +80,17 @@ SlotAppended = (form : ℕ) (a : List (List ℕ)) (s : SlotValue) → FitsSlot f
 
 -- Where no two slots have one name, another slot of a name in place of its own gives it another number.
 abbrev pub SlotReplaced : Type 0
-SlotReplaced = (form : ℕ) (a b : List (List ℕ)) (x y : List ℕ) (s t : SlotValue) → slot_in form x ≡ Some s → slot_in form y ≡ Some t → t.name ≡ s.name → length (map_of form (a ++ x ∷ b)) ≡ length (a ++ x ∷ b)
+SlotReplaced = (form : ℕ) (a b : List (List ℕ)) (x y : List ℕ) (s t : SlotValue) → slot_in form x ≡ Some s → slot_in form y ≡ Some t
+    → t.name ≡ s.name → length (map_of form (a ++ x ∷ b)) ≡ length (a ++ x ∷ b)
     → map_of form (a ++ y ∷ b) ≡ put byte_cmp s.name t.number (map_of form (a ++ x ∷ b))
 
 -- Without the last slot its name is gone;
 abbrev pub LastSlotTaken : Type 0
-LastSlotTaken = (form : ℕ) (a : List (List ℕ)) (x : List ℕ) (s : SlotValue) → slot_in form x ≡ Some s → length (map_of form (a ++ x ∷ [])) ≡ length (a ++ x ∷ []) → map_of form a ≡ without byte_cmp s.name (map_of form (a ++ x ∷ []))
+LastSlotTaken = (form : ℕ) (a : List (List ℕ)) (x : List ℕ) (s : SlotValue) → slot_in form x ≡ Some s
+    → length (map_of form (a ++ x ∷ [])) ≡ length (a ++ x ∷ []) → map_of form a ≡ without byte_cmp s.name (map_of form (a ++ x ∷ []))
 
 -- with the last slot in the place of another that one's name is.
 abbrev pub SlotTaken : Type 0
-SlotTaken = (form : ℕ) (a b : List (List ℕ)) (x y : List ℕ) (s : SlotValue) → slot_in form x ≡ Some s → length (map_of form (a ++ x ∷ (b ++ y ∷ []))) ≡ length (a ++ x ∷ (b ++ y ∷ []))
+SlotTaken = (form : ℕ) (a b : List (List ℕ)) (x y : List ℕ) (s : SlotValue) → slot_in form x ≡ Some s
+    → length (map_of form (a ++ x ∷ (b ++ y ∷ []))) ≡ length (a ++ x ∷ (b ++ y ∷ []))
     → map_of form (a ++ y ∷ b) ≡ without byte_cmp s.name (map_of form (a ++ x ∷ (b ++ y ∷ [])))

@@ -46,4 +46,5 @@ DirectoryWidened = (m m' : LogMap) (d : ℕ) (head : Header) → IsChangedAt m d
 
 -- A number that had no object and has an empty directory now: so has the tree.
 abbrev pub DirectoryMade : Type 0
-DirectoryMade = (m m' : LogMap) (d : ℕ) (head : Header) → IsChangedAt m d m' → HasDirectory m' d head → head.size ≡ 0 → tree_in m' ≡ with_node (tree_in m) d (Dir head.form [])
+DirectoryMade = (m m' : LogMap) (d : ℕ) (head : Header) → IsChangedAt m d m' → HasDirectory m' d head → head.size ≡ 0
+    → tree_in m' ≡ with_node (tree_in m) d (Dir head.form [])

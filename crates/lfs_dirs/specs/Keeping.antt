@@ -8,11 +8,13 @@ use Rattle.lfs_dirs.specs.Directory.{names_at, slots_at}
 
 -- Where neither a block of object d nor its size changes, its slots stay, whatever else does.
 abbrev pub SlotsStay : Type 0
-SlotsStay = (m m' : LogMap) (d : ℕ) (head head' : Header) → ((i : ℕ) → m'.block d i ≡ m.block d i) → head'.form ≡ head.form → head'.size ≡ head.size → slots_at m' d head' ≡ slots_at m d head
+SlotsStay = (m m' : LogMap) (d : ℕ) (head head' : Header) → ((i : ℕ) → m'.block d i ≡ m.block d i) → head'.form ≡ head.form
+    → head'.size ≡ head.size → slots_at m' d head' ≡ slots_at m d head
 
 -- So it stays a directory, and has the names that it had.
 abbrev pub DirectoryStays : Type 0
-DirectoryStays = (m m' : LogMap) (d : ℕ) (head head' : Header) → ((i : ℕ) → m'.block d i ≡ m.block d i) → head'.form ≡ head.form → head'.size ≡ head.size → IsDirectory m d (as_header head)
+DirectoryStays = (m m' : LogMap) (d : ℕ) (head head' : Header) → ((i : ℕ) → m'.block d i ≡ m.block d i) → head'.form ≡ head.form
+    → head'.size ≡ head.size → IsDirectory m d (as_header head)
     → IsDirectory m' d (as_header head') × (names_at m' d head' ≡ names_at m d head)
 
 -- An object of no bytes is a directory of no names.

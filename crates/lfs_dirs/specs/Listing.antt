@@ -52,7 +52,8 @@ module _ {S D : Type 0} (s s' : FilesState S D) where
   -- its names, with those of one block more
   abbrev pub ListsBlock : ℕ → ℕ → ℕ → ℕ → List Entry → List Entry → Type 0
   ListsBlock form d index count es es' = (m m' : LogMap) → s'.device.keeps_model → s.has m m' → (head : Header) → head.form ≡ form
-      → per_block form * index + count ≤ slot_count head → PutsSlots form (take count (drop (per_block form * index) (slots_at m' d head))) es es'
+      → per_block form * index + count ≤ slot_count head
+      → PutsSlots form (take count (drop (per_block form * index) (slots_at m' d head))) es es'
 
   -- all of them; each of its slots is well-formed
   abbrev pub Inspects : ℕ → Header → List Entry → Type 0

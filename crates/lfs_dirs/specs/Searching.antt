@@ -41,11 +41,13 @@ module _ {S D : Type 0} (s s' : FilesState S D) where
   -- among so many of directory d's slots, from the first of a block on
   abbrev pub FindsInBlock : ℕ → ℕ → ℕ → ℕ → List ℕ → Option Found → Type 0
   FindsInBlock form d index count name found = (m m' : LogMap) → s'.device.keeps_model → s.has m m' → (head : Header) → head.form ≡ form
-      → per_block form * index + count ≤ slot_count head → FindsIn form (take count (drop (per_block form * index) (slots_at m' d head))) name found
+      → per_block form * index + count ≤ slot_count head
+      → FindsIn form (take count (drop (per_block form * index) (slots_at m' d head))) name found
 
   -- among those that stand in a block
   abbrev pub FindsInNth : ℕ → Header → ℕ → List ℕ → Option Found → Type 0
-  FindsInNth d head index name found = (m m' : LogMap) → s'.device.keeps_model → s.has m m' → FindsAmong head.form (slots_at m' d head) (slots_in_nth m' d head index) name found
+  FindsInNth d head index name found = (m m' : LogMap) → s'.device.keeps_model → s.has m m'
+      → FindsAmong head.form (slots_at m' d head) (slots_in_nth m' d head index) name found
 
   -- among all of them
   abbrev pub FindsSlot : ℕ → Header → List ℕ → Option Found → Type 0
@@ -53,4 +55,5 @@ module _ {S D : Type 0} (s s' : FilesState S D) where
 
   -- the slot of a name, where d is a directory
   abbrev pub FindsName : ℕ → Header → List ℕ → Found → Type 0
-  FindsName d head name found = (m m' : LogMap) → s'.device.keeps_model → s.has m m' → IsDirectory m' d (as_header head) → IsSlotOf head.form (slots_at m' d head) name found
+  FindsName d head name found = (m m' : LogMap) → s'.device.keeps_model → s.has m m' → IsDirectory m' d (as_header head)
+      → IsSlotOf head.form (slots_at m' d head) name found

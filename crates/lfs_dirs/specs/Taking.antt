@@ -59,7 +59,8 @@ module _ {S D : Type 0} where
 
   -- The totals with the draft stay those of the log map with it, where directory d was there with its blocks.
   abbrev pub CountsDropped : FilesState S D → FilesState S D → ℕ → Header → Type 0
-  CountsDropped s s' d head = (m a b : LogMap) → s'.device.keeps_model → s.has m a → s'.has m b → HasFile a d head → AreLong a d → IsLogMap b
+  CountsDropped s s' d head = (m a b : LogMap) → s'.device.keeps_model → s.has m a → s'.has m b → HasFile a d head → AreLong a d
+      → IsLogMap b
       → AreCounted a s.drafted → AreCounted b s'.drafted
 
   -- The name of a directory is gone.

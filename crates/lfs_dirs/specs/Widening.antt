@@ -40,7 +40,8 @@ module _ {S D : Type 0} (s s' : FilesState S D) where
   -- those of one block of directory d
   abbrev pub WidensBlock : ℕ → ℕ → ℕ → ℕ → List ℕ → List ℕ → Type 0
   WidensBlock form d index count old new = (m m' : LogMap) → s'.device.keeps_model → s.has m m' → (head : Header) → head.form ≡ form
-      → per_block form * index + count ≤ slot_count head → AppendsWide form (take count (drop (per_block form * index) (slots_at m' d head))) old new
+      → per_block form * index + count ≤ slot_count head
+      → AppendsWide form (take count (drop (per_block form * index) (slots_at m' d head))) old new
 
   -- all of them
   abbrev pub TellsWide : ℕ → Header → List ℕ → Type 0
@@ -53,7 +54,8 @@ pub record WidensFile (m m' : LogMap) (d : ℕ) (head : Header) : Type 0 where
   pub header : m'.header d ≡ Some (as_header (wide head))
   pub only : IsChangedAt m d m'
   pub whole : AreStoredWhole m d → AreStoredWhole m' d
-  pub ends : head.size % slot_len head.form ≡ 0 → ((p : ℕ) → head.size ≤ p → byte_in m d p ≡ 0) → (p : ℕ) → (wide head).size ≤ p → byte_in m' d p ≡ 0
+  pub ends : head.size % slot_len head.form ≡ 0 → ((p : ℕ) → head.size ≤ p → byte_in m d p ≡ 0) → (p : ℕ) → (wide head).size ≤ p
+      → byte_in m' d p ≡ 0
 
 -- It has the names that it had, and they give what they gave.
 pub record WidensNames (m m' : LogMap) (d : ℕ) (head : Header) : Type 0 where
@@ -86,5 +88,6 @@ module _ {S D : Type 0} where
 
   -- The totals with the draft stay those of the log map with it, where d was a directory with its blocks, and the version has form 1.
   abbrev pub CountsWidened : FilesState S D → FilesState S D → ℕ → Header → Type 0
-  CountsWidened s s' d head = (m a b : LogMap) → s'.device.keeps_model → s.has m a → s'.has m b → HasFile a d head → AreLong a d → IsDirectory a d (as_header head)
+  CountsWidened s s' d head = (m a b : LogMap) → s'.device.keeps_model → s.has m a → s'.has m b → HasFile a d head → AreLong a d
+      → IsDirectory a d (as_header head)
       → IsForm a.version head.kind 1 → IsLogMap b → AreCounted a s.drafted → AreCounted b s'.drafted

@@ -65,7 +65,8 @@ module _ {S D : Type 0} where
   still_apart a b n reads is = record { inode = reads.lost _ ∙ is.inode; above = λ i. reads.lost _ ∙ is.above i }
 
   -- what is written behind calls that read is written behind none
-  pub writes_behind : (a b c : FilesState S D) (n : ℕ) (head : Header) (at : ℕ) (w : List ℕ) → Reads a b → Writes b c n head at w → Writes a c n head at w
+  pub writes_behind : (a b c : FilesState S D) (n : ℕ) (head : Header) (at : ℕ) (w : List ℕ) → Reads a b → Writes b c n head at w
+      → Writes a c n head at w
   writes_behind a b c n head at w reads is = record {
     lost = λ x. is.lost x ∙ reads.lost x;
     headers = let more = is.headers in let same = reads.headers in omega (arith, more, same);

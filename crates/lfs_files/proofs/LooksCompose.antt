@@ -14,7 +14,10 @@ looks_none d = record {
 
 pub looks_then : (a b c : DeviceState) → IsLawful a → Looks a b → Looks b c → Looks a c
 looks_then a b c lawful one two = record {
-  untouched = record { content = two.untouched.content ∙ one.untouched.content; crash = λ x left. one.untouched.crash x (two.untouched.crash x left) };
+  untouched = record {
+    content = two.untouched.content ∙ one.untouched.content;
+    crash = λ x left. one.untouched.crash x (two.untouched.crash x left);
+  };
   carries = carries_then a b c one.carries two.carries;
   time = λ t x le left. ⊎_elim
       (λ (before : b.left_since t x). ⊎_elim

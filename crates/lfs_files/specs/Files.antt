@@ -135,12 +135,14 @@ module _ {S D : Type 0} (s s' : FilesState S D) where
 
   -- The totals with the draft stay those of the log map with it.
   abbrev pub Counts : Type 0
-  Counts = (m a b : LogMap) → s'.device.keeps_model → s.has m a → s'.has m b → IsLogMap a → IsLogMap b → AreCounted a s.drafted → AreCounted b s'.drafted
+  Counts = (m a b : LogMap) → s'.device.keeps_model → s.has m a → s'.has m b → IsLogMap a → IsLogMap b → AreCounted a s.drafted
+      → AreCounted b s'.drafted
 
 module _ {S D : Type 0} where
   -- ---- writing
 
-  -- The log map may be changed so: the file is there, and apart from what is lost; a file that isn't staged yet gets blocks below the 113th alone.
+  -- The log map may be changed so: the file is there, and apart from what is
+  -- lost; a file that isn't staged yet gets blocks below the 113th alone.
   pub record TakesWrite (s : FilesState S D) (m m' : LogMap) (n : ℕ) (h : Header) (at : ℕ) (w : List ℕ) : Type 0 where
     pub there : m'.header n ≡ Some (as_header h)
     pub apart : IsApart s.lost n
@@ -163,7 +165,8 @@ module _ {S D : Type 0} where
     pub file : (m m' : LogMap) → s'.device.keeps_model → s.has m m'
         → HasWritten s' m m' n head (resized head (max head.size (at + length w))) at w
 
-  -- Bytes that come alone into a draft: it changes no block yet, and one header at most; and they are no more than a full directory's of form 1.
+  -- Bytes that come alone into a draft: it changes no block yet, and one
+  -- header at most; and they are no more than a full directory's of form 1.
   pub record IsLoneWrite (s : FilesState S D) (w : List ℕ) : Type 0 where
     pub headers : s.headers ≤ 1
     pub blocks : s.blocks ≡ 0
@@ -194,7 +197,8 @@ module _ {S D : Type 0} where
 
   -- The totals with the draft stay those of the log map with it, where the file was there.
   abbrev pub CountsReformed : FilesState S D → FilesState S D → ℕ → Header → Type 0
-  CountsReformed s s' n head = (m a b : LogMap) → s.has m a → s'.has m b → a.header n ≡ Some (as_header head) → AreCounted a s.drafted → AreCounted b s'.drafted
+  CountsReformed s s' n head = (m a b : LogMap) → s.has m a → s'.has m b → a.header n ≡ Some (as_header head) → AreCounted a s.drafted
+      → AreCounted b s'.drafted
 
   -- ---- cutting
 
@@ -210,12 +214,14 @@ module _ {S D : Type 0} where
     pub kept : head.size ≤ len → (x : Entry) → s'.lost x ≡ false
     pub headers : s'.headers ≤ 1
     pub blocks : s'.blocks ≤ 1
-    pub fits : (m m' : LogMap) → s.has m m' → m'.header n ≡ Some (as_header head) → FitsHeader head.kind head.form head.links len → s'.fits m
+    pub fits : (m m' : LogMap) → s.has m m' → m'.header n ≡ Some (as_header head) → FitsHeader head.kind head.form head.links len
+        → s'.fits m
     pub file : (m m' : LogMap) → s'.device.keeps_model → s.has m m' → HasSized s' m m' n head (resized head len) len
 
   -- ---- cutting in the last block
 
-  -- The log map may be changed so: the file is there, and apart from what is lost; one that isn't staged yet is cut below the 113th block alone.
+  -- The log map may be changed so: the file is there, and apart from what
+  -- is lost; one that isn't staged yet is cut below the 113th block alone.
   pub record TakesShrink (s : FilesState S D) (m m' : LogMap) (n : ℕ) (h : Header) (len : ℕ) : Type 0 where
     pub there : m'.header n ≡ Some (as_header h)
     pub apart : IsApart s.lost n

@@ -1,9 +1,11 @@
 -- What the calls that make an empty volume do to its content.
-use Rattle.std.proofs.Common.{◌≡◌, ◌≢◌, ⊎_elim, ℕ, zero, suc, ◌+◌, ◌<◌, ◌≤◌, List, length, Some, None, refl, sym, ◌∙◌, ap, subst, arith, get_or-set_other, get_or-set_same}
+use Rattle.std.proofs.Common.{◌≡◌, ◌≢◌, ⊎_elim, ℕ, zero, suc, ◌+◌, ◌<◌, ◌≤◌, List, length, Some, None, refl, sym, ◌∙◌, ap, subst, arith}
+use Rattle.std.proofs.Common.{get_or-set_other, get_or-set_same}
 use Rattle.std.proofs.lemmas.Bool.{cases_eq, cases_lt}
 use Rattle.std.specs.Prelude.{slice_set}
 use Rattle.lfs_model.specs.Content.{Content}
-use Rattle.lfs_model.specs.Device.{Cell, cell_at, put, MayWrite, left_old, left_new, left_bad, DeviceState, IsLawful, AllLeft, Carries, Elapses, CrashWrites, ComesFrom, SameOutside}
+use Rattle.lfs_model.specs.Device.{Cell, cell_at, put, MayWrite, left_old, left_new, left_bad, DeviceState, IsLawful, AllLeft, Carries}
+use Rattle.lfs_model.specs.Device.{Elapses, CrashWrites, ComesFrom, SameOutside}
 use Rattle.lfs_model.specs.Image.{blank, first_uses}
 use Rattle.lfs_model.specs.Usage.{usage_sector}
 use Rattle.lfs_model.proofs.Image.{unused_spelled}
@@ -15,11 +17,13 @@ use Rattle.lfs_format.specs.Making.{MayClear, left_as_was, left_clear, left_unre
 pub slots_none : (c : Content) → MayClearSlots c c
 slots_none c = record { others = same_outside_none 0 2 c; slots = λ p lt. left_as_was refl }
 
-slot_set : (d c : Content) (s : ℕ) (x : Cell) → s < 2 → 2 ≤ length c → MayClearSlots d c → SameOutside 0 2 d (slice_set c s x) → ((old : Cell) → MayClear old x) → MayClearSlots d (slice_set c s x)
+slot_set : (d c : Content) (s : ℕ) (x : Cell) → s < 2 → 2 ≤ length c → MayClearSlots d c → SameOutside 0 2 d (slice_set c s x)
+    → ((old : Cell) → MayClear old x) → MayClearSlots d (slice_set c s x)
 slot_set d c s x low long may outside gives = record {
   others = outside;
   slots = λ p lt. ⊎_elim
-      (λ (is : p ≡ s). subst (MayClear (cell_at d p)) (sym (ap (λ (q : ℕ). cell_at (slice_set c s x) q) is ∙ get_or-set_same c s x None (omega (arith, low, long)))) (gives (cell_at d p)))
+      (λ (is : p ≡ s). subst (MayClear (cell_at d p)) (sym (ap (λ (q : ℕ). cell_at (slice_set c s x) q) is
+      ∙ get_or-set_same c s x None (omega (arith, low, long)))) (gives (cell_at d p)))
       (λ (other : p ≢ s). subst (MayClear (cell_at d p)) (sym (get_or-set_other c s p x None other)) (may.slots p lt))
       (cases_eq p s);
 }
@@ -35,8 +39,10 @@ slots_written s low d c e long may write = go write
 
     go : MayWrite s (blank 512) c e → MayClearSlots d e
     go (left_old is) = subst (MayClearSlots d) (sym is) may
-    go (left_new is) = subst (MayClearSlots d) (sym is) (slot_set d c s (Some (blank 512)) low room may (subst (SameOutside 0 2 d) is outside) (λ old. left_clear refl))
-    go (left_bad is) = subst (MayClearSlots d) (sym is) (slot_set d c s None low room may (subst (SameOutside 0 2 d) is outside) (λ old. left_unreadable refl))
+    go (left_new is) = subst (MayClearSlots d) (sym is)
+        (slot_set d c s (Some (blank 512)) low room may (subst (SameOutside 0 2 d) is outside) (λ old. left_clear refl))
+    go (left_bad is) = subst (MayClearSlots d) (sym is)
+        (slot_set d c s None low room may (subst (SameOutside 0 2 d) is outside) (λ old. left_unreadable refl))
 
 abbrev pub Slots : DeviceState → DeviceState → Type 0
 Slots old new = Run old new (ComesFrom old MayClearSlots)
@@ -44,7 +50,8 @@ Slots old new = Run old new (ComesFrom old MayClearSlots)
 pub slots_start : (d : DeviceState) → IsLawful d → Slots d d
 slots_start d lawful = run_none d (ComesFrom d MayClearSlots) lawful (λ c left. (c, left, slots_none c))
 
-pub slots_write : (old mid new : DeviceState) (s : ℕ) → s < 2 → IsLawful old → 2 ≤ old.size → Slots old mid → CrashWrites s (blank 512) mid new → Carries mid new → Elapses mid new → Slots old new
+pub slots_write : (old mid new : DeviceState) (s : ℕ) → s < 2 → IsLawful old → 2 ≤ old.size → Slots old mid
+    → CrashWrites s (blank 512) mid new → Carries mid new → Elapses mid new → Slots old new
 slots_write old mid new s low lawful room run crash carries time =
     run_call old mid new (ComesFrom old MayClearSlots) run carries time
     (all_left_write mid new (ComesFrom old MayClearSlots) (ComesFrom old MayClearSlots) s (blank 512) run.now crash (λ c e from write.
@@ -60,7 +67,8 @@ there : (c e : Content) (s : ℕ) (b : List ℕ) → e ≡ put c s b → (k : �
 there c e s b is k other = ap (λ (x : Content). cell_at x k) is ∙ get_or-set_other c s k (Some b) None other
 
 wider : (first n m : ℕ) (d c : Content) → n ≤ m → SameOutside first n d c → SameOutside first m d c
-wider first n m d c le same = record { size = same.size; before = λ k lt. same.before k lt; after = λ k past. same.after k (omega (arith, le, past)) }
+wider first n m d c le same =
+    record { size = same.size; before = λ k lt. same.before k lt; after = λ k past. same.after k (omega (arith, le, past)) }
 
 -- a later usage block is zeros
 later_uses : (N n : ℕ) → 1 ≤ n → blank 512 ≡ usage_sector (first_uses N n)
@@ -68,16 +76,20 @@ later_uses N zero some = absurd (omega (arith, some))
 later_uses N (suc n) some = sym (unused_spelled N n)
 
 -- and one usage block more
-pub chunk_more : (version N n : ℕ) (c0 c e : Content) → 1 ≤ n → 5 + n < length c0 → HasChunk version N n c0 c → e ≡ put c (5 + n) (blank 512) → HasChunk version N (n + 1) c0 e
+pub chunk_more : (version N n : ℕ) (c0 c e : Content) → 1 ≤ n → 5 + n < length c0 → HasChunk version N n c0 c
+    → e ≡ put c (5 + n) (blank 512) → HasChunk version N (n + 1) c0 e
 chunk_more version N n c0 c e some room so_far is = record {
-  others = write_outside 2 (3 + (n + 1)) (5 + n) (blank 512) (omega arith) (omega arith) c0 c e (wider 2 (3 + n) (3 + (n + 1)) c0 c (omega arith) so_far.others) (left_new is);
+  others = write_outside 2 (3 + (n + 1)) (5 + n) (blank 512) (omega arith) (omega arith) c0 c e
+      (wider 2 (3 + n) (3 + (n + 1)) c0 c (omega arith) so_far.others) (left_new is);
   summary = there c e (5 + n) (blank 512) is 2 (λ w. omega (arith, w)) ∙ so_far.summary;
   inode = there c e (5 + n) (blank 512) is 3 (λ w. omega (arith, w)) ∙ so_far.inode;
   pointers = there c e (5 + n) (blank 512) is 4 (λ w. omega (arith, w)) ∙ so_far.pointers;
   uses = λ j lt. ⊎_elim
-      (λ (at : j ≡ n). ap (λ (k : ℕ). cell_at e (5 + k)) at ∙ here c e (5 + n) (blank 512) is (let same = so_far.others.size in omega (arith, room, same)) ∙ ap (λ (b : List ℕ). Some b) (later_uses N n some)
+      (λ (at : j ≡ n). ap (λ (k : ℕ). cell_at e (5 + k)) at ∙ here c e (5 + n) (blank 512) is
+      (let same = so_far.others.size in omega (arith, room, same)) ∙ ap (λ (b : List ℕ). Some b) (later_uses N n some)
       ∙ ap (λ (k : ℕ). Some (usage_sector (first_uses N k))) (sym at))
-      (λ (other : j ≢ n). there c e (5 + n) (blank 512) is (5 + j) (λ w. other (omega (arith, w))) ∙ so_far.uses j (⊎_elim (λ (low : j < n). low) (λ (high : n ≤ j). absurd (other (omega (arith, lt, high)))) (cases_lt j n)))
+      (λ (other : j ≢ n). there c e (5 + n) (blank 512) is (5 + j) (λ w. other (omega (arith, w)))
+      ∙ so_far.uses j (⊎_elim (λ (low : j < n). low) (λ (high : n ≤ j). absurd (other (omega (arith, lt, high)))) (cases_lt j n)))
       (cases_eq j n);
 }
 
@@ -94,5 +106,7 @@ clear_survives s b past = record { written = λ c clear. kept c (Some b) clear; 
 abbrev pub Chunk : DeviceState → DeviceState → Type 0
 Chunk old new = AllLeft old AreClear → Run old new AreClear
 
-pub chunk_write : (old mid new : DeviceState) (s : ℕ) (b : List ℕ) → 2 ≤ s → Chunk old mid → CrashWrites s b mid new → Carries mid new → Elapses mid new → Chunk old new
-chunk_write old mid new s b past run crash carries time clear = run_write old mid new AreClear s b (run clear) (clear_survives s b past) crash carries time
+pub chunk_write : (old mid new : DeviceState) (s : ℕ) (b : List ℕ) → 2 ≤ s → Chunk old mid → CrashWrites s b mid new → Carries mid new
+    → Elapses mid new → Chunk old new
+chunk_write old mid new s b past run crash carries time clear =
+    run_write old mid new AreClear s b (run clear) (clear_survives s b past) crash carries time

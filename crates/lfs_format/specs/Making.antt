@@ -33,7 +33,8 @@ pub record HasChunk (version N n : ℕ) (old new : Content) : Type 0 where
   pub pointers : cell_at new 4 ≡ Some (pointer_sector first_pointers)
   pub uses : (j : ℕ) → j < n → cell_at new (5 + j) ≡ Some (usage_sector (first_uses N j))
 
--- What a stop leaves while a volume of N segments is made: what a stop might have left before, with the slots as they were, cleared or unreadable;
+-- What a stop leaves while a volume of N segments is made: what a stop might
+-- have left before, with the slots as they were, cleared or unreadable;
 -- or no checkpoint; or the new volume.
 abbrev pub MayStand : ℕ → ℕ → DeviceState → Content → Type 0
 MayStand version N old c = ComesFrom old MayClearSlots c ⊎ ((newest c ≡ None) ⊎ IsNew version N c)

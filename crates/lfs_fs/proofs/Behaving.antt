@@ -2,7 +2,9 @@
 use Rattle.std.proofs.Common.{◌≡◌, ◌≤◌, ◌+◌, ℕ, Bool, true, false, ◌||◌, List, length, refl, sym, ◌∙◌, ap, subst, inl, inr, arith}
 use Rattle.std.specs.Prelude.{IsTrue}
 use Rattle.lfs_model.specs.declared.Order.{Order}
-use Rattle.lfs_model.specs.Call.{Answer, Call, Open, Create, Close, Pread, Pwrite, Truncate, Mkdir, LinkTo, Symlink, Readlink, Unlink, Rmdir, Rename, StatOf, LstatOf, Readdir, Fsync, Sync, Clean, Space, Version, Upgrade, Widen, ListTree, Refuse, changes, cleans, commits, is_ok, may_write, takes_no_memory, never_for_device}
+use Rattle.lfs_model.specs.Call.{Answer, Call, Open, Create, Close, Pread, Pwrite, Truncate, Mkdir, LinkTo, Symlink, Readlink, Unlink}
+use Rattle.lfs_model.specs.Call.{Rmdir, Rename, StatOf, LstatOf, Readdir, Fsync, Sync, Clean, Space, Version, Upgrade, Widen, ListTree}
+use Rattle.lfs_model.specs.Call.{Refuse, changes, cleans, commits, is_ok, may_write, takes_no_memory, never_for_device}
 use Rattle.lfs_model.specs.Device.{DeviceState}
 use Rattle.lfs_model.specs.Refusal.{Refusal, NoMemory, Halted, Stuck}
 use Rattle.lfs_store.specs.log.Held.{Held, Reads}
@@ -109,7 +111,8 @@ module _ {D : Type 0} (state : D → DeviceState) where
     pub one_commit : cleans call ≡ false → HasCleanForTwo old.log → TellsAtMost state old.log new.log commit_orders
 
   -- one that changes the tree, or was to
-  pub change_bounded : (old new : Mounted D) (call : Call) → changes call ≡ true → CommitsFew old new → TellsFew state old.log new.log → IsBounded old new call
+  pub change_bounded : (old new : Mounted D) (call : Call) → changes call ≡ true → CommitsFew old new → TellsFew state old.log new.log
+      → IsBounded old new call
   change_bounded old new call change few tells = record {
     few = few;
     told = subst (λ (most : ℕ). TellsAtMost state old.log new.log most) (sym (change_orders call (segments_of old) change)) tells.room;
@@ -121,7 +124,8 @@ module _ {D : Type 0} (state : D → DeviceState) where
   sync_bounded old new few told = record { few = few; told = told; one_commit = λ unclean clean. told }
 
   -- one that cleans
-  pub clean_bounded : (old new : Mounted D) → CommitsFew old new → TellsAtMost state old.log new.log (room_orders (segments_of old)) → IsBounded old new Clean
+  pub clean_bounded : (old new : Mounted D) → CommitsFew old new → TellsAtMost state old.log new.log (room_orders (segments_of old))
+      → IsBounded old new Clean
   clean_bounded old new few told = record { few = few; told = told; one_commit = λ unclean clean. absurd (cc) }
 
   -- a volume that was halted
@@ -140,7 +144,8 @@ module _ {D : Type 0} (state : D → DeviceState) where
   }
 
   -- nothing but reads, and memory was refused
-  pub memory_behaves : (old new : Mounted D) (call : Call) → IsStill state old new → takes_no_memory call ≡ false → Behaves state old new call (Refuse NoMemory)
+  pub memory_behaves : (old new : Mounted D) (call : Call) → IsStill state old new → takes_no_memory call ≡ false
+      → Behaves state old new call (Refuse NoMemory)
   memory_behaves old new call still free = record {
     refused = λ r e. still.table;
     handles = λ e. still.table;
@@ -171,7 +176,8 @@ module _ {D : Type 0} (state : D → DeviceState) where
     }
 
     -- a call that may write, and leaves the open files
-    pub write_behaves : IsTrue (may_write call) → new.table ≡ old.table → (a ≡ Refuse Stuck → ⊥) → (takes_no_memory call ≡ true → a ≡ Refuse NoMemory → ⊥) → IsBounded old new call → Behaves state old new call a
+    pub write_behaves : IsTrue (may_write call) → new.table ≡ old.table → (a ≡ Refuse Stuck → ⊥)
+        → (takes_no_memory call ≡ true → a ≡ Refuse NoMemory → ⊥) → IsBounded old new call → Behaves state old new call a
     write_behaves may table none memory bounded = record {
       refused = λ r e. table;
       handles = λ e. table;

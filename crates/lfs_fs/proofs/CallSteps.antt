@@ -1,11 +1,13 @@
 -- The model's steps of the calls, from what the log map says: headers, bytes read, and totals for room.
-use Rattle.std.proofs.Common.{Bool, not, ◌&&◌, ◌≡◌, ◌<◌, ◌≤◌, ◌+◌, ◌-◌, ◌*◌, ◌^◌, ◌||◌, ℕ, true, false, List, length, take, drop, Some, sym, ◌∙◌, ap, subst, inr, ⊎_elim, arith}
+use Rattle.std.proofs.Common.{Bool, not, ◌&&◌, ◌≡◌, ◌<◌, ◌≤◌, ◌+◌, ◌-◌, ◌*◌, ◌^◌, ◌||◌, ℕ, true, false, List, length, take, drop, Some, sym}
+use Rattle.std.proofs.Common.{◌∙◌, ap, subst, inr, ⊎_elim, arith}
 use Rattle.std.specs.Prelude.{max, min}
 use Rattle.std.proofs.lemmas.List.{drop_min, length-drop, take_min}
 use Rattle.std.specs.Ordering.{nat_cmp}
 use Rattle.std.specs.FinMap.{find}
 use Rattle.lfs_model.specs.Bytes.{AreBytes, part}
-use Rattle.lfs_model.specs.Call.{Answer, AreArguments, Call, Count, Data, Pread, Pwrite, Refuse, Room, Space, Stat, Status, changes, cleans, is_ok}
+use Rattle.lfs_model.specs.Call.{Answer, AreArguments, Call, Count, Data, Pread, Pwrite, Refuse, Room, Space, Stat, Status, changes, cleans}
+use Rattle.lfs_model.specs.Call.{is_ok}
 use Rattle.lfs_model.specs.Entry as entry
 use Rattle.lfs_model.specs.Inode.{IsForm}
 use Rattle.lfs_model.specs.Need.{need}
@@ -44,7 +46,8 @@ pub never_worn : (N : ℕ) (call : Call) (p : Point) → changes call ≡ false 
 never_worn N call p still unclean past = ⊎_elim (λ on. let no = unclean in cc) (λ on. let yes_changes = on.0 in let no = still in cc) past.1
 
 -- nor one that the model refuses
-pub refused_not_worn : (N : ℕ) (call : Call) (p : Point) (r : Refusal) (s' : State) → Step N p.state call (Refuse r) s' → cleans call ≡ false → IsPastLast N call p → ⊥
+pub refused_not_worn : (N : ℕ) (call : Call) (p : Point) (r : Refusal) (s' : State) → Step N p.state call (Refuse r) s'
+    → cleans call ≡ false → IsPastLast N call p → ⊥
 refused_not_worn N call p r s' step unclean past = ⊎_elim
     (λ on. let no = unclean in cc)
     (λ on.
@@ -55,7 +58,8 @@ refused_not_worn N call p r s' step unclean past = ⊎_elim
     past.1
 
 -- a change that would be done is
-pub worn : (N : ℕ) (call : Call) (p q : Point) → 2 ^ 62 ≤ p.number → changes call ≡ true → (a : Answer) (s' : State) → Step N p.state call a s' → is_ok a ≡ true → IsExcused N call p q Worn
+pub worn : (N : ℕ) (call : Call) (p q : Point) → 2 ^ 62 ≤ p.number → changes call ≡ true → (a : Answer) (s' : State)
+    → Step N p.state call a s' → is_ok a ≡ true → IsExcused N call p q Worn
 worn N call p q high change a s' step ok = (high, inr (change, (a, s', step, ok)))
 
 -- ---- reads
@@ -68,7 +72,8 @@ part_clipped b o n =
     ∙ take_min n (drop o b)
 
 module _ (N : ℕ) (m : LogMap) (s : State) (is : IsMapOf N m s) where
-  module _ (h n off count : ℕ) (opens : find nat_cmp h s.handles ≡ Some n) (head : Header) (there : m.header n ≡ Some (as_header head)) (few : count ≤ 65536) (out : List ℕ) where
+  module _ (h n off count : ℕ) (opens : find nat_cmp h s.handles ≡ Some n) (head : Header) (there : m.header n ≡ Some (as_header head))
+      (few : count ≤ 65536) (out : List ℕ) where
     was : IsFileOf m s.tree n
     was = opened_file N m s is.log h n opens
 
@@ -77,30 +82,38 @@ module _ (N : ℕ) (m : LogMap) (s : State) (is : IsMapOf N m s) where
 
     pub pread_step : out ≡ part (object m n (as_header head)) off count → Step N s (Pread h off count) (Data out) s
     pread_step read =
-        subst (λ (b : List ℕ). Step N s (Pread h off count) (Data b) s) (ap (λ (x : entry.Header). part (object m n x) off count) head_is ∙ sym read)
+        subst (λ (b : List ℕ). Step N s (Pread h off count) (Data b) s)
+        (ap (λ (x : entry.Header). part (object m n x) off count) head_is ∙ sym read)
         (read_done N s h off count n opens few (object m n was.head) was.bytes)
 
     -- its ends moved back to that of the file
-    pub pread_clipped : out ≡ part (object m n (as_header head)) (min off head.size) (min (off + count) head.size - min off head.size) → Step N s (Pread h off count) (Data out) s
+    pub pread_clipped : out ≡ part (object m n (as_header head)) (min off head.size) (min (off + count) head.size - min off head.size)
+        → Step N s (Pread h off count) (Data out) s
     pread_clipped read = pread_step (read
-        ∙ ap (λ (l : ℕ). part (object m n (as_header head)) (min off l) (min (off + count) l - min off l)) (sym (object_length m n (as_header head)))
+        ∙ ap (λ (l : ℕ). part (object m n (as_header head)) (min off l) (min (off + count) l - min off l))
+        (sym (object_length m n (as_header head)))
         ∙ part_clipped (object m n (as_header head)) off count)
 
   -- ---- what is told
-  pub stat_step : (p : List ℕ) (follow : Bool) (n : ℕ) → Resolve s.tree p follow (At n) → (h : entry.Header) → m.header n ≡ Some h → IsHeaderOf n h
+  pub stat_step : (p : List ℕ) (follow : Bool) (n : ℕ) → Resolve s.tree p follow (At n) → (h : entry.Header) → m.header n ≡ Some h
+      → IsHeaderOf n h
       → Step N s (stat_call follow p) (Status (record { number = n; kind = h.kind; links = h.links; size = h.size })) s
-  stat_step p follow n walk h there fits = subst (λ (x : Stat). Step N s (stat_call follow p) (Status x) s) (stat_is N m s is.log n h there fits) (stat_done N s p follow n walk)
+  stat_step p follow n walk h there fits =
+      subst (λ (x : Stat). Step N s (stat_call follow p) (Status x) s) (stat_is N m s is.log n h there fits) (stat_done N s p follow n walk)
 
   -- ---- room
   module _ (totals : TotalsOfTree) where
     pub space_step : ((n : ℕ) (h : entry.Header) → m.header n ≡ Some h → IsHeaderOf n h) → (blocks others : ℕ) → IsCounted m blocks others
         → Step N s Space (Room blocks others (blocks + 7 * others + 720) (47 * N)) s
-    space_step fits blocks others counted = subst (λ (a : Answer). Step N s Space a s) (room_counted totals N m s is fits blocks others counted) (space_done N s)
+    space_step fits blocks others counted =
+        subst (λ (a : Answer). Step N s Space a s) (room_counted totals N m s is fits blocks others counted) (space_done N s)
 
     module _ (shaped : IsShaped m) (m' : LogMap) (blocks others : ℕ) (counted : IsCounted m' blocks others) where
       -- a write of some bytes
-      module _ (h n : ℕ) (opens : find nat_cmp h s.handles ≡ Some n) (head : Header) (there : m.header n ≡ Some (as_header head)) (at : ℕ) (w : List ℕ)
-          (writes : WritesFile m m' n head (resized head (max head.size (at + length w))) at w) (some : 0 < length w) (few : length w ≤ 65536) (end : at + length w ≤ 8511488) where
+      module _ (h n : ℕ) (opens : find nat_cmp h s.handles ≡ Some n) (head : Header) (there : m.header n ≡ Some (as_header head)) (at : ℕ)
+          (w : List ℕ)
+          (writes : WritesFile m m' n head (resized head (max head.size (at + length w))) at w) (some : 0 < length w)
+          (few : length w ≤ 65536) (end : at + length w ≤ 8511488) where
         needs : need (written N s h at w) ≡ blocks + 7 * others + 720
         needs = written_need N m m' s h n is opens head there at w writes end totals shaped blocks others counted
 
@@ -127,9 +140,12 @@ module _ (N : ℕ) (m : LogMap) (s : State) (is : IsMapOf N m s) where
         pwrite_ends = (pwrite_full, pwrite_step, λ bytes room. pwrite_map room bytes)
 
       -- a new entry
-      module _ (p : List ℕ) (d : ℕ) (walk : Parent s.tree p (At d)) (m1 : LogMap) (n : ℕ) (first : least s.tree ≡ n) (top : n ≤ 4095) (new : is_there s.tree d p ≡ false)
-          (k : NewKind) (known : IsForm s.version (kind_of_new k) (form_of_new k)) (head : Header) (size at : ℕ) (w : List ℕ) (does : NamesNew m m1 m' d n k head size at w (name p)) (call : Call) (is_mkdir : Bool) (e : MakesEntry N s p d call k is_mkdir)
-          (named : (no_last p || last_dots p) ≡ false) (short : is_long s.tree d p ≡ false) (plain : (slash p && not is_mkdir) ≡ false) (space : is_full s.tree d ≡ false) (allowed : e.own ≡ false) where
+      module _ (p : List ℕ) (d : ℕ) (walk : Parent s.tree p (At d)) (m1 : LogMap) (n : ℕ) (first : least s.tree ≡ n) (top : n ≤ 4095)
+          (new : is_there s.tree d p ≡ false)
+          (k : NewKind) (known : IsForm s.version (kind_of_new k) (form_of_new k)) (head : Header) (size at : ℕ) (w : List ℕ) (does :
+          NamesNew m m1 m' d n k head size at w (name p)) (call : Call) (is_mkdir : Bool) (e : MakesEntry N s p d call k is_mkdir)
+          (named : (no_last p || last_dots p) ≡ false) (short : is_long s.tree d p ≡ false) (plain : (slash p && not is_mkdir) ≡ false)
+          (space : is_full s.tree d ≡ false) (allowed : e.own ≡ false) where
         needs_entry : need (with_new s.tree d p (new_node k)) ≡ blocks + 7 * others + 720
         needs_entry = created_need N m m1 m' s is p d walk n first top new k known head size at w does totals shaped blocks others counted
 
@@ -137,7 +153,8 @@ module _ (N : ℕ) (m : LogMap) (s : State) (is : IsMapOf N m s) where
         number = omega (arith, first, top)
 
         entry_full : 47 * N < blocks + 7 * others + 720 → Step N s call (Refuse NoSpace) s
-        entry_full lacks = new_no_space N s p d call k is_mkdir e named short new plain space allowed number (let same = needs_entry in omega (arith, same, lacks))
+        entry_full lacks = new_no_space N s p d call k is_mkdir e named short new plain space allowed number
+            (let same = needs_entry in omega (arith, same, lacks))
 
         module _ (room : blocks + 7 * others + 720 ≤ 47 * N) where
           entry_fits : need (with_new s.tree d p (new_node k)) ≤ 47 * N
@@ -147,7 +164,8 @@ module _ (N : ℕ) (m : LogMap) (s : State) (is : IsMapOf N m s) where
           entry_step = new_done N s p d call k is_mkdir e named short new plain space allowed number entry_fits
 
           entry_map : AreArguments call → IsMapOf N m' (with_entry N s p d call k is_mkdir e)
-          entry_map arguments = created_map N m m1 m' s is p d walk n first top new k known head size at w does call is_mkdir e arguments named short plain space allowed entry_fits
+          entry_map arguments = created_map N m m1 m' s is p d walk n first top new k known head size at w does call is_mkdir e arguments
+              named short plain space allowed entry_fits
 
         pub entry_ends : (47 * N < blocks + 7 * others + 720 → Step N s call (Refuse NoSpace) s)
             × (blocks + 7 * others + 720 ≤ 47 * N

@@ -1,5 +1,6 @@
 -- What stands in a chain of directories is within, as the model has it.
-use Rattle.std.proofs.Common.{◌≡◌, ◌≢◌, ◌≤◌, ◌<◌, ℕ, zero, suc, Bool, true, false, ◌||◌, List, [], ◌∷◌, Some, refl, sym, ◌∙◌, ap, subst, ⊎_elim, arith, eqb, length}
+use Rattle.std.proofs.Common.{◌≡◌, ◌≢◌, ◌≤◌, ◌<◌, ℕ, zero, suc, Bool, true, false, ◌||◌, List, [], ◌∷◌, Some, refl, sym, ◌∙◌, ap, subst}
+use Rattle.std.proofs.Common.{⊎_elim, arith, eqb, length}
 use Rattle.std.specs.Prelude.{◌==◌}
 use Rattle.std.specs.List.{list_any}
 use Rattle.std.proofs.lemmas.Bool.{cases_lt}
@@ -51,11 +52,13 @@ module _ (N : ℕ) (s : State) (sound : Sound N s) (c : List ℕ) (is : IsChain 
 
     under_from : (k : ℕ) → Under t n (here (risen_by k c)) → Under t n (here c)
     under_from zero v = v
-    under_from (suc k) v = under_from k (down (here (risen_by k c)) (chain_directory t (risen_by k c) sound.root (each k)) (subst (Under t n) (step k) v))
+    under_from (suc k) v =
+        under_from k (down (here (risen_by k c)) (chain_directory t (risen_by k c) sound.root (each k)) (subst (Under t n) (step k) v))
 
     pub above_within : n ≢ 1 → IsAbove c n → is_within t n (here c) ≡ true
     above_within inner above =
-        under_within N s sound t (λ q x k e. e) n (here c) inner (under_from above.count (subst (λ (q : ℕ). Under t n q) (sym above.is) itself)) (chain_directory t c sound.root is)
+        under_within N s sound t (λ q x k e. e) n (here c) inner
+        (under_from above.count (subst (λ (q : ℕ). Under t n q) (sym above.is) itself)) (chain_directory t c sound.root is)
 
     -- ---- it is none
     module _ (none : IsNotAbove c n) where
@@ -63,7 +66,8 @@ module _ (N : ℕ) (s : State) (sound : Sound N s) (c : List ℕ) (is : IsChain 
       settled zero le = let same : none.count ≡ 0 = omega (arith, le) in ap (λ (q : ℕ). here (risen_by q c)) (sym same)
       settled (suc j) le = ⊎_elim
           (λ (low : none.count < suc j). step j ∙ ap (up t) (settled j (omega (arith, low))) ∙ sym (step none.count) ∙ none.stays)
-          (λ (high : suc j ≤ none.count). (let same : none.count ≡ suc j = omega (arith, le, high) in ap (λ (q : ℕ). here (risen_by q c)) (sym same)))
+          (λ (high : suc j ≤ none.count).
+          (let same : none.count ≡ suc j = omega (arith, le, high) in ap (λ (q : ℕ). here (risen_by q c)) (sym same)))
           (cases_lt none.count (suc j))
 
       never : (j : ℕ) → here (risen_by j c) ≢ n

@@ -1,5 +1,6 @@
 -- A file of a volume's log map with other bytes: the next log map is that of the state with the file so.
-use Rattle.std.proofs.Common.{◌≡◌, ◌≢◌, ◌<◌, ◌≤◌, ◌+◌, ◌*◌, ◌/◌, ◌%◌, ℕ, Bool, List, length, map, take, drop, Option, Some, None, refl, sym, ◌∙◌, ap, subst, ⊎_elim, arith, slice_index}
+use Rattle.std.proofs.Common.{◌≡◌, ◌≢◌, ◌<◌, ◌≤◌, ◌+◌, ◌*◌, ◌/◌, ◌%◌, ℕ, Bool, List, length, map, take, drop, Option, Some, None, refl, sym}
+use Rattle.std.proofs.Common.{◌∙◌, ap, subst, ⊎_elim, arith, slice_index}
 use Rattle.std.specs.Prelude.{T, count_by}
 use Rattle.std.specs.List.{AllByRecursion, range_with_len}
 use Rattle.std.proofs.Math.Path.{fun_ext}
@@ -35,23 +36,27 @@ IsFormed m n h = AllByRecursion (λ b. slot_in h.form b ≢ None) (slots m n h) 
 module _ (m m' : LogMap) (n : ℕ) (changed : IsChangedAt m n m') where
   pub slots_same : (k : ℕ) (h : Header) → (k ≡ n → ⊥) → slots m' k h ≡ slots m k h
   unfolding slots
-  slots_same k h ne = ap (λ (bytes : List ℕ). map (λ j. take (slot_len h.form) (drop (slot_len h.form * j) bytes)) (range_with_len 0 (h.size / slot_len h.form)))
+  slots_same k h ne = ap (λ (bytes : List ℕ).
+      map (λ j. take (slot_len h.form) (drop (slot_len h.form * j) bytes)) (range_with_len 0 (h.size / slot_len h.form)))
       (same_objects m' m k k h h refl (λ p lt. ap (λ (b : List ℕ). slice_index b (p % 512)) (changed.blocks k (p / 512) ne)))
 
   pub formed_same : AreFormed m → (k : ℕ) (h : Header) → (k ≡ n → ⊥) → m'.header k ≡ Some h → h.kind ≡ kind.Directory → IsFormed m' k h
   formed_same formed k h ne there dir =
-      subst (λ (l : List (List ℕ)). AllByRecursion (λ b. slot_in h.form b ≢ None) l × (length (map_of h.form l) ≡ length l)) (sym (slots_same k h ne))
+      subst (λ (l : List (List ℕ)). AllByRecursion (λ b. slot_in h.form b ≢ None) l × (length (map_of h.form l) ≡ length l))
+      (sym (slots_same k h ne))
       (formed k h (sym (changed.headers k ne) ∙ there) dir)
 
   -- the blocks of each are long, where those of n are
   pub long_kept : ((k : ℕ) → AreLong m k) → AreLong m' n → (k : ℕ) → AreLong m' k
   long_kept long own k = ⊎_elim
       (λ (here : k ≡ n). subst (AreLong m') (sym here) own)
-      (λ (ne : k ≡ n → ⊥). λ i has. ap length (changed.blocks k i ne) ∙ long k i (subst (λ (b : List ℕ). 0 < length b) (changed.blocks k i ne) has))
+      (λ (ne : k ≡ n → ⊥). λ i has. ap length (changed.blocks k i ne)
+      ∙ long k i (subst (λ (b : List ℕ). 0 < length b) (changed.blocks k i ne) has))
       (cases_eq k n)
 
   -- With one object another, a log map can be counted still.
-  pub shape_kept : IsShaped m → IsLogMap m' → AreLong m' n → ((h : Header) → m'.header n ≡ Some h → h.kind ≡ kind.Directory → IsDirectory m' n h) → IsShaped m'
+  pub shape_kept : IsShaped m → IsLogMap m' → AreLong m' n
+      → ((h : Header) → m'.header n ≡ Some h → h.kind ≡ kind.Directory → IsDirectory m' n h) → IsShaped m'
   shape_kept shaped map own directory = record {
     map = map;
     long = long_kept shaped.long own;
@@ -99,25 +104,30 @@ module _ (t : Tree) (n : ℕ) (old new : List ℕ) (in_order : T (is_sorted nat_
 -- ---- the next log map
 
 -- A file is not a directory.
-pub not_directory : (m : LogMap) (n : ℕ) (h : Header) → m.header n ≡ Some h → h.kind ≡ kind.File → (g : Header) → m.header n ≡ Some g → g.kind ≡ kind.Directory → ⊥
+pub not_directory : (m : LogMap) (n : ℕ) (h : Header) → m.header n ≡ Some h → h.kind ≡ kind.File → (g : Header) → m.header n ≡ Some g
+    → g.kind ≡ kind.Directory → ⊥
 not_directory m n h there file g at dir =
     let same : h ≡ g = (let both : Some h ≡ Some g = sym there ∙ at in cc) in
     let both : kind.File ≡ kind.Directory = sym file ∙ ap (λ (x : Header). x.kind) same ∙ dir in cc
 
-module _ (N : ℕ) (m m' : LogMap) (s : State) (is : IsMapOf N m s) (n : ℕ) (file : IsFileOf m s.tree n) (h' : Header) (changed : IsChangedAt m n m')
+module _ (N : ℕ) (m m' : LogMap) (s : State) (is : IsMapOf N m s) (n : ℕ) (file : IsFileOf m s.tree n) (h' : Header)
+    (changed : IsChangedAt m n m')
     (there : m'.header n ≡ Some h') (is_file : h'.kind ≡ kind.File) (links_same : h'.links ≡ file.head.links) (fits : IsObject m' n h')
-    (new : List ℕ) (tree : tree_in m' ≡ with_node s.tree n (File new)) (good : IsWithinLimits (File new)) (room : need (with_node s.tree n (File new)) ≤ 47 * N) where
+    (new : List ℕ) (tree : tree_in m' ≡ with_node s.tree n (File new)) (good : IsWithinLimits (File new))
+    (room : need (with_node s.tree n (File new)) ≤ 47 * N) where
   abbrev next : State
   next = with_tree s (with_node s.tree n (File new))
 
   same_links : (q : ℕ) → links (tree_in m') q ≡ links (tree_in m) q
-  same_links q = ap (λ (t : Tree). links t q) tree ∙ rewritten_links s.tree n (object m n file.head) new is.log.sound.in_order file.node q ∙ ap (λ (t : Tree). links t q) is.log.is
+  same_links q = ap (λ (t : Tree). links t q) tree ∙ rewritten_links s.tree n (object m n file.head) new is.log.sound.in_order file.node q
+      ∙ ap (λ (t : Tree). links t q) is.log.is
 
   links_kept : (k : ℕ) (h : Header) → m'.header k ≡ Some h → h.links ≡ links (tree_in m') k
   links_kept k h at = ⊎_elim
       (λ (here : k ≡ n).
       let same : h' ≡ h = (let both : Some h' ≡ Some h = sym there ∙ sym (ap m'.header here) ∙ at in cc) in
-      sym (ap (λ (x : Header). x.links) same) ∙ links_same ∙ is.log.links n file.head file.there ∙ sym (ap (links (tree_in m)) here) ∙ sym (same_links k))
+      sym (ap (λ (x : Header). x.links) same) ∙ links_same ∙ is.log.links n file.head file.there ∙ sym (ap (links (tree_in m)) here)
+      ∙ sym (same_links k))
       (λ (ne : k ≡ n → ⊥). is.log.links k h (sym (changed.headers k ne) ∙ at) ∙ sym (same_links k))
       (cases_eq k n)
 

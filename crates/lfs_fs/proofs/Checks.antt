@@ -6,10 +6,12 @@ use Rattle.lfs_model.specs.Call.{Answer}
 use Rattle.lfs_model.specs.Step.{checked}
 use Rattle.lfs_model.specs.Tree.{State}
 
-pub refuses : (s : State) (b : Bool) (a : Answer) (cs : List (Bool × Answer)) (otherwise : Answer × State) → b ≡ true → checked s ((b, a) ∷ cs) otherwise ≡ (a, s)
+pub refuses : (s : State) (b : Bool) (a : Answer) (cs : List (Bool × Answer)) (otherwise : Answer × State) → b ≡ true
+    → checked s ((b, a) ∷ cs) otherwise ≡ (a, s)
 refuses s b a cs otherwise e = ap (λ (x : Bool). if x then (a, s) else checked s cs otherwise) e
 
-pub passes : (s : State) (b : Bool) (a : Answer) (cs : List (Bool × Answer)) (otherwise : Answer × State) → b ≡ false → checked s ((b, a) ∷ cs) otherwise ≡ checked s cs otherwise
+pub passes : (s : State) (b : Bool) (a : Answer) (cs : List (Bool × Answer)) (otherwise : Answer × State) → b ≡ false
+    → checked s ((b, a) ∷ cs) otherwise ≡ checked s cs otherwise
 passes s b a cs otherwise e = ap (λ (x : Bool). if x then (a, s) else checked s cs otherwise) e
 
 -- ---- conditions

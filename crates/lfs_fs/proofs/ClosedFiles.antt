@@ -47,7 +47,8 @@ module _ (N : ℕ) (m : LogMap) (s : State) (is : IsMapOf N m s) (h n : ℕ) (op
     it_is = is_without m n
 
     not_root : n ≢ 1
-    not_root root = let dir = is.log.sound.root in let no : is_dir (node s.tree 1) ≡ false = ap (λ (q : ℕ). is_dir (node s.tree q)) (sym root) ∙ ap is_dir file.node in cc
+    not_root root = let dir = is.log.sound.root in
+        let no : is_dir (node s.tree 1) ≡ false = ap (λ (q : ℕ). is_dir (node s.tree q)) (sym root) ∙ ap is_dir file.node in cc
 
     pub gone_map : IsShaped m → IsMapOf N m' (closed N s h (without nat_cmp n s.tree))
     gone_map shaped = map_by (gone_kept m m' n shaped it_is not_root)

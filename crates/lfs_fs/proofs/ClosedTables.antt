@@ -1,5 +1,6 @@
 -- A table of numbers in which a place is freed, and whether another place has the same number.
-use Rattle.std.proofs.Common.{◌≡◌, ◌≢◌, refl, sym, ap, subst, ◌∙◌, ℕ, ◌<◌, ◌≤◌, Bool, true, false, List, Some, None, length, get_or, cond, eqb, arith, ⊎_elim, append-nil}
+use Rattle.std.proofs.Common.{◌≡◌, ◌≢◌, refl, sym, ap, subst, ◌∙◌, ℕ, ◌<◌, ◌≤◌, Bool, true, false, List, Some, None, length, get_or, cond}
+use Rattle.std.proofs.Common.{eqb, arith, ⊎_elim, append-nil}
 use Rattle.std.specs.Prelude.{◌==◌, if◌then◌else◌, not, slice_set}
 use Rattle.std.specs.List.{refill}
 use Rattle.std.proofs.lemmas.Bool.{cases_eq, cases_lt, eq-eqb}
@@ -24,7 +25,8 @@ module _ (h : ℕ) (ns : List ℕ) where
   here = find_without nat_cmp_total h h (handles_of ns) ∙ ap (λ (b : Bool). cond b None (find nat_cmp h (handles_of ns))) (cmp_same h)
 
   elsewhere : (k : ℕ) → k ≢ h → find nat_cmp k rest ≡ find nat_cmp k (handles_of ns)
-  elsewhere k ne = find_without nat_cmp_total h k (handles_of ns) ∙ ap (λ (b : Bool). cond b None (find nat_cmp k (handles_of ns))) (cmp_other k h ne)
+  elsewhere k ne = find_without nat_cmp_total h k (handles_of ns)
+      ∙ ap (λ (b : Bool). cond b None (find nat_cmp k (handles_of ns))) (cmp_other k h ne)
 
   -- ---- a place is freed
 
@@ -38,7 +40,8 @@ module _ (h : ℕ) (ns : List ℕ) where
   freed_others k ne = find_handle k (slice_set ns h 0) ∙ ap number_at (get_or-set_other ns h k 0 0 ne) ∙ sym (find_handle k ns)
 
   close_handle : handles_of (slice_set ns h 0) ≡ rest
-  close_handle = same_entries nat_cmp nat_cmp_total nat_cmp-IsAntisymmetric (handles_of (slice_set ns h 0)) rest (are_handles (slice_set ns h 0)).in_order
+  close_handle = same_entries nat_cmp nat_cmp_total nat_cmp-IsAntisymmetric (handles_of (slice_set ns h 0)) rest
+      (are_handles (slice_set ns h 0)).in_order
       (is_sorted-where_key nat_cmp (λ k. not (eq_by_cmp nat_cmp h k)) (handles_of ns) (are_handles ns).in_order)
       (λ k. ⊎_elim
       (λ (is : k ≡ h). subst (λ (q : ℕ). find nat_cmp q (handles_of (slice_set ns h 0)) ≡ find nat_cmp q rest) (sym is) (freed ∙ sym here))
@@ -48,7 +51,8 @@ module _ (h : ℕ) (ns : List ℕ) where
   -- in a table that is written back whole
   pub closed_back : (ms : List ℕ) → ms ≡ ns → handles_of (refill (length ns) ns (slice_set ms h 0)) ≡ rest
   closed_back ms same =
-      ap (λ (xs : List ℕ). handles_of (refill (length ns) ns (slice_set xs h 0))) same ∙ ap (λ (xs : List ℕ). handles_of xs) back ∙ close_handle
+      ap (λ (xs : List ℕ). handles_of (refill (length ns) ns (slice_set xs h 0))) same ∙ ap (λ (xs : List ℕ). handles_of xs) back
+      ∙ close_handle
     where
       back : refill (length ns) ns (slice_set ns h 0) ≡ slice_set ns h 0
       back =
@@ -68,7 +72,8 @@ module _ (h : ℕ) (ns : List ℕ) where
         absurd (omega (arith, all, one, none))
 
     pub no_other_open : ((k : ℕ) → k < length ns → k ≢ h → get_or ns k 0 ≢ n) → opened rest n ≡ 0
-    no_other_open none = total_zero nat_cmp_total counts rest (is_sorted-where_key nat_cmp (λ k. not (eq_by_cmp nat_cmp h k)) (handles_of ns) (are_handles ns).in_order) (λ k x found. (
+    no_other_open none = total_zero nat_cmp_total counts rest
+        (is_sorted-where_key nat_cmp (λ k. not (eq_by_cmp nat_cmp h k)) (handles_of ns) (are_handles ns).in_order) (λ k x found. (
         let apart : x ≢ n = other k x found in
         let no : eqb x n ≡ false = grind (arith, nat_tests) in
         rw no refl))

@@ -1,5 +1,6 @@
 -- The ends of a close, and of a sync through a handle, as steps of the model.
-use Rattle.std.proofs.Common.{◌≡◌, ◌≤◌, ◌<◌, ◌+◌, ◌/◌, ◌^◌, ◌==◌, ◌&&◌, ℕ, Bool, true, false, List, length, Some, refl, sym, ◌∙◌, ap, subst, inl, inr, ⊎_elim, arith}
+use Rattle.std.proofs.Common.{◌≡◌, ◌≤◌, ◌<◌, ◌+◌, ◌/◌, ◌^◌, ◌==◌, ◌&&◌, ℕ, Bool, true, false, List, length, Some, refl, sym, ◌∙◌, ap, subst}
+use Rattle.std.proofs.Common.{inl, inr, ⊎_elim, arith}
 use Rattle.std.proofs.lemmas.Bool.{eq-eqb}
 use Rattle.std.specs.Ordering.{nat_cmp}
 use Rattle.std.specs.FinMap.{find}
@@ -9,7 +10,9 @@ use Rattle.lfs_model.specs.Device.{DeviceState, IsLawful}
 use Rattle.lfs_model.specs.Encodes.{IsLogMap}
 use Rattle.lfs_model.specs.Entry.{Header}
 use Rattle.lfs_model.specs.Memory.{is_nameless, is_unlinked}
-use Rattle.lfs_model.specs.Refusal.{Refusal, NoEntry, NotDir, IsDir, Exist, NotEmpty, Inval, NameTooLong, Loop, Perm, Busy, BadHandle, TooManyOpen, TooManyLinks, FileTooBig, NoSpace, NoNumber, DirFull, NoMemory, Device, Halted, Stuck, Worn}
+use Rattle.lfs_model.specs.Refusal.{Refusal, NoEntry, NotDir, IsDir, Exist, NotEmpty, Inval, NameTooLong, Loop, Perm, Busy, BadHandle}
+use Rattle.lfs_model.specs.Refusal.{TooManyOpen, TooManyLinks, FileTooBig, NoSpace, NoNumber, DirFull, NoMemory, Device, Halted, Stuck}
+use Rattle.lfs_model.specs.Refusal.{Worn}
 use Rattle.lfs_model.specs.Run.{IsExcused, Point, StepsOr, acknowledges}
 use Rattle.lfs_model.specs.Stands.{LogMap}
 use Rattle.lfs_model.specs.Step.{Step}
@@ -45,7 +48,8 @@ use Rattle.lfs_fs.specs.Volume.{Behaves, IsAt, IsIn, Mounted, Serves, ServesAt, 
 use Rattle.lfs_fs.proofs.Behaving.{IsOrdinary, not_halted, not_memory, not_stuck, ok_refuses_none, tells_none}
 use Rattle.lfs_fs.proofs.CallSteps.{never_worn}
 use Rattle.lfs_fs.proofs.ClosedFiles.{closed_map, gone_map, names_by}
-use Rattle.lfs_fs.proofs.ClosingSteps.{close_bad_handle, close_goes, close_stays, closed, fsync_bad_handle, fsync_done, named_stays, open_stays, rest}
+use Rattle.lfs_fs.proofs.ClosingSteps.{close_bad_handle, close_goes, close_stays, closed, fsync_bad_handle, fsync_done, named_stays}
+use Rattle.lfs_fs.proofs.ClosingSteps.{open_stays, rest}
 use Rattle.lfs_fs.proofs.Ending.{runs_on}
 use Rattle.lfs_fs.proofs.Files.{IsMapOf}
 use Rattle.lfs_fs.proofs.Holding.{map_of_volume, shape_of_volume}
@@ -57,10 +61,18 @@ use Rattle.lfs_fs.proofs.WritingExits.{unopened}
 -- ---- fsync
 
 -- through an open handle a sync's step is an fsync's
-fsync_step : (N : ℕ) (s : State) (h n : ℕ) → find nat_cmp h s.handles ≡ Some n → (a : Answer) (s' : State) → Step N s Sync a s' → Step N s (Fsync h) a s'
+fsync_step : (N : ℕ) (s : State) (h n : ℕ) → find nat_cmp h s.handles ≡ Some n → (a : Answer) (s' : State) → Step N s Sync a s'
+    → Step N s (Fsync h) a s'
 fsync_step N s h n opens a s' step =
     let done = fsync_done N s h n opens in
-    record { first_end = done.first_end; second_end = done.second_end; first = done.first; second = done.second; answer = done.answer ∙ step.answer; state = done.state ∙ step.state }
+    record {
+      first_end = done.first_end;
+      second_end = done.second_end;
+      first = done.first;
+      second = done.second;
+      answer = done.answer ∙ step.answer;
+      state = done.state ∙ step.state;
+    }
 
 fsync_excused : (N h : ℕ) (p q : Point) (r : Refusal) → IsExcused N Sync p q r → IsExcused N (Fsync h) p q r
 fsync_excused N h p q NoMemory e = e
@@ -86,13 +98,15 @@ fsync_excused N h p q NoSpace e = absurd e
 fsync_excused N h p q NoNumber e = absurd e
 fsync_excused N h p q DirFull e = absurd e
 
-fsync_steps : (N h n : ℕ) (p : Point) (a : Answer) (q : Point) → find nat_cmp h p.state.handles ≡ Some n → StepsOr N Sync p a q → StepsOr N (Fsync h) p a q
+fsync_steps : (N h n : ℕ) (p : Point) (a : Answer) (q : Point) → find nat_cmp h p.state.handles ≡ Some n → StepsOr N Sync p a q
+    → StepsOr N (Fsync h) p a q
 fsync_steps N h n p a q opens steps = ⊎_elim
     (λ done. inl (fsync_step N p.state h n opens a q.state done.0, never_worn N (Fsync h) p refl refl))
     (λ excused. inr (excused.0, excused.1, fsync_excused N h p q excused.0 excused.2, excused.3))
     steps
 
-module _ {D : Type 0} (state : D → DeviceState) (old new : Mounted D) (was : old.log.halted ≡ false) (h n : ℕ) (opens : find nat_cmp h (handles_of old.table) ≡ Some n) (a : Answer) where
+module _ {D : Type 0} (state : D → DeviceState) (old new : Mounted D) (was : old.log.halted ≡ false) (h n : ℕ)
+    (opens : find nat_cmp h (handles_of old.table) ≡ Some n) (a : Answer) where
   fsync_at : (p : Point) → IsAt state old p → ServesAt state old new Sync a p → ServesAt state old new (Fsync h) a p
   fsync_at p at sync = record {
     next = sync.next;
@@ -136,7 +150,8 @@ module _ {D : Type 0} (state : D → DeviceState) (old new : Mounted D) (was : o
 
 -- ---- calls that change no more than memory
 
-module _ {D : Type 0} (state : D → DeviceState) (lawful : (d : D) → IsLawful (state d)) (old new : Mounted D) (was : old.log.halted ≡ false) (alters : Alters state old.log new.log 0 false) (saved : new.saved ≡ old.saved) (call : Call) (a : Answer) where
+module _ {D : Type 0} (state : D → DeviceState) (lawful : (d : D) → IsLawful (state d)) (old new : Mounted D) (was : old.log.halted ≡ false)
+    (alters : Alters state old.log new.log 0 false) (saved : new.saved ≡ old.saved) (call : Call) (a : Answer) where
   -- What such a call makes of a state that the volume is in.
   pub record Alterations (p : Point) (k : CheckpointValue) (m0 : LogMap) : Type 0 where
     pub next : State
@@ -153,9 +168,11 @@ module _ {D : Type 0} (state : D → DeviceState) (lawful : (d : D) → IsLawful
       (subst (λ (c : ℕ). length old.log.memory.usage.segments / 8 + 8 ≤ c) (sym alters.clean) clean)
 
   pub altered_serves : Behaves state old new call a → (a ≡ Refuse Halted → ⊥) → (acknowledges call a ≡ true → ⊥)
-      → ((p : Point) → (state new.log.device).keeps_model → IsAt state old p → (k : CheckpointValue) (m0 m : LogMap) → IsIn state old k m0 m p.state → Alterations p k m0) → Serves state old new call a
+      → ((p : Point) → (state new.log.device).keeps_model → IsAt state old p → (k : CheckpointValue) (m0 m : LogMap)
+      → IsIn state old k m0 m p.state → Alterations p k m0) → Serves state old new call a
   altered_serves behaves fine none each =
-      runs_on state old new call (lawful old.log.device) (lawful new.log.device) alters.looks.carries alters.segments was (let same = alters.number in omega (arith, same)) a fine behaves (alters.halted ∙ was) (λ p keeps here k m0 m is. (
+      runs_on state old new call (lawful old.log.device) (lawful new.log.device) alters.looks.carries alters.segments was
+      (let same = alters.number in omega (arith, same)) a fine behaves (alters.halted ∙ was) (λ p keeps here k m0 m is. (
       let does = each p keeps here k m0 m is in record {
         next = does.next;
         runs = record {
@@ -229,13 +246,16 @@ still_at_rest state h h' kept rest =
 
 module _ {D : Type 0} (state : D → DeviceState) (lawful : (d : D) → IsLawful (state d)) where
   -- the handle gives no file
-  pub close_unopened : (v : Mounted D) → v.log.halted ≡ false → (h : ℕ) (fault : FsError) → GivesNone v.table h fault → Serves state v v (Close h) (Refuse (refusal_of fault))
+  pub close_unopened : (v : Mounted D) → v.log.halted ≡ false → (h : ℕ) (fault : FsError) → GivesNone v.table h fault
+      → Serves state v v (Close h) (Refuse (refusal_of fault))
   close_unopened v was h = unopened state lawful v was (Close h) h refl (λ N s none. close_bad_handle N s h none)
 
-  pub fsync_unopened : (v : Mounted D) → v.log.halted ≡ false → (h : ℕ) (fault : FsError) → GivesNone v.table h fault → Serves state v v (Fsync h) (Refuse (refusal_of fault))
+  pub fsync_unopened : (v : Mounted D) → v.log.halted ≡ false → (h : ℕ) (fault : FsError) → GivesNone v.table h fault
+      → Serves state v v (Fsync h) (Refuse (refusal_of fault))
   fsync_unopened v was h = unopened state lawful v was (Fsync h) h refl (λ N s none. fsync_bad_handle N s h none)
 
-  module _ (old new : Mounted D) (was : old.log.halted ≡ false) (saved : new.saved ≡ old.saved) (h n : ℕ) (opens : find nat_cmp h (handles_of old.table) ≡ Some n) where
+  module _ (old new : Mounted D) (was : old.log.halted ≡ false) (saved : new.saved ≡ old.saved) (h n : ℕ)
+      (opens : find nat_cmp h (handles_of old.table) ≡ Some n) where
     opened_in : (s : State) → s.handles ≡ handles_of old.table → find nat_cmp h s.handles ≡ Some n
     opened_in s same = ap (find nat_cmp h) same ∙ opens
 
@@ -245,28 +265,38 @@ module _ {D : Type 0} (state : D → DeviceState) (lawful : (d : D) → IsLawful
 
       -- the file keeps a name, or another handle
       pub close_keeps : Reads state old.log new.log → new.blocks ≡ old.blocks → new.others ≡ old.others
-          → ((k : CheckpointValue) (m0 m : LogMap) (s : State) → (state new.log.device).keeps_model → IsIn state old k m0 m s → (names s.tree n == 0 && opened (without nat_cmp h s.handles) n == 0) ≡ false)
+          → ((k : CheckpointValue) (m0 m : LogMap) (s : State) → (state new.log.device).keeps_model → IsIn state old k m0 m s
+          → (names s.tree n == 0 && opened (without nat_cmp h s.handles) n == 0) ≡ false)
           → Serves state old new (Close h) Done
       close_keeps reads blocks others stays =
-          table_serves state old new (lawful old.log.device) (lawful new.log.device) was (Close h) Done reads saved blocks others refl refl (λ e. cc) (λ p keeps here k m0 m is. record {
+          table_serves state old new (lawful old.log.device) (lawful new.log.device) was (Close h) Done reads saved blocks others refl refl
+          (λ e. cc) (λ p keeps here k m0 m is. record {
             next = closed (segments_of old) p.state h p.state.tree;
-            map = closed_map (segments_of old) m p.state (map_of_volume state old k m0 m p.state is) h n (opened_in p.state is.handles) (stays k m0 m p.state keeps is);
+            map = closed_map (segments_of old) m p.state (map_of_volume state old k m0 m p.state is) h n (opened_in p.state is.handles)
+                (stays k m0 m p.state keeps is);
             handles = closed_handles p.state is.handles;
-            steps = inl (close_stays (segments_of old) p.state h n (opened_in p.state is.handles) (stays k m0 m p.state keeps is), never_worn (segments_of old) (Close h) p refl refl);
+            steps = inl (
+              close_stays (segments_of old) p.state h n (opened_in p.state is.handles) (stays k m0 m p.state keeps is),
+              never_worn (segments_of old) (Close h) p refl refl,
+            );
           })
 
       -- it goes with its last handle
       module _ (links : ℕ) (nameless : links ≡ 0) (shut : opened (without nat_cmp h (handles_of old.table)) n ≡ 0)
-          (there : (k : CheckpointValue) (m0 m : LogMap) (s : State) → (state new.log.device).keeps_model → IsIn state old k m0 m s → (g : Header) × (m.header n ≡ Some g) × (g.links ≡ links)) where
+          (there : (k : CheckpointValue) (m0 m : LogMap) (s : State) → (state new.log.device).keeps_model → IsIn state old k m0 m s
+          → (g : Header) × (m.header n ≡ Some g) × (g.links ≡ links)) where
         pub close_removes : IsRemoved state old.log new.log n → Forgets state old.log old.saved new.log n
-            → ((k : CheckpointValue) (m0 m : LogMap) → (state new.log.device).keeps_model → Holds state old.log k m0 m → IsLogMap m → IsLogMap (without_file n m) → IsCounted m old.blocks old.others → IsCounted (without_file n m) new.blocks new.others)
+            → ((k : CheckpointValue) (m0 m : LogMap) → (state new.log.device).keeps_model → Holds state old.log k m0 m → IsLogMap m
+            → IsLogMap (without_file n m) → IsCounted m old.blocks old.others → IsCounted (without_file n m) new.blocks new.others)
             → Serves state old new (Close h) Done
         close_removes gone forgets counted =
-            altered_serves state lawful old new was gone.alters saved (Close h) Done (closes_behaves state lawful old new was gone.alters saved (Close h) Done refl refl) (λ e. cc) (λ e. cc) (λ p keeps here k m0 m is. (
+            altered_serves state lawful old new was gone.alters saved (Close h) Done (closes_behaves state lawful old new was gone.alters
+            saved (Close h) Done refl refl) (λ e. cc) (λ e. cc) (λ p keeps here k m0 m is. (
             let map = map_of_volume state old k m0 m p.state is in
             let open_is = opened_in p.state is.handles in
             let header = there k m0 m p.state keeps is in
-            let no_name : names p.state.tree n ≡ 0 = names_by (segments_of old) m p.state map h n open_is header.0 header.1 ∙ header.2 ∙ nameless in
+            let no_name : names p.state.tree n ≡ 0 = names_by (segments_of old) m p.state map h n open_is header.0 header.1 ∙ header.2
+            ∙ nameless in
             let no_other : opened (rest (segments_of old) p.state h) n ≡ 0 = ap (λ hs. opened (without nat_cmp h hs) n) is.handles ∙ shut in
             let next_map = gone_map (segments_of old) m p.state map h n open_is no_name no_other
             (shape_of_volume state old k m0 m p.state is) in
@@ -274,17 +304,21 @@ module _ {D : Type 0} (state : D → DeviceState) (lawful : (d : D) → IsLawful
             record {
               next = closed (segments_of old) p.state h (without nat_cmp n p.state.tree);
               present = without_file n m;
-              stores = subst (λ (b : Bool). Stores state new.log b k m0 (without_file n m)) (sym saved) (forgets k m0 m keeps is.stores hidden);
+              stores = subst (λ (b : Bool). Stores state new.log b k m0 (without_file n m)) (sym saved)
+                  (forgets k m0 m keeps is.stores hidden);
               map = next_map;
               handles = closed_handles p.state is.handles;
               counted = counted k m0 m keeps is.stores.holds is.map next_map.map is.counted;
-              steps = inl (close_goes (segments_of old) p.state h n open_is no_name no_other, never_worn (segments_of old) (Close h) p refl refl);
+              steps = inl
+                  (close_goes (segments_of old) p.state h n open_is no_name no_other, never_worn (segments_of old) (Close h) p refl refl);
             }))
 
     -- a call of the device failed
-    pub close_fails : IsKept state old.log new.log → IsReadFault state old.log new.log → new.blocks ≡ old.blocks → new.others ≡ old.others → new.table ≡ old.table → Serves state old new (Close h) (Refuse Device)
+    pub close_fails : IsKept state old.log new.log → IsReadFault state old.log new.log → new.blocks ≡ old.blocks → new.others ≡ old.others
+        → new.table ≡ old.table → Serves state old new (Close h) (Refuse Device)
     close_fails kept fault blocks others table =
-        altered_serves state lawful old new was kept.alters saved (Close h) (Refuse Device) (kept_behaves state lawful old new was kept.alters saved (Close h) (Refuse Device) table tt) (λ e. cc) (λ e. cc) (λ p keeps here k m0 m is. record {
+        altered_serves state lawful old new was kept.alters saved (Close h) (Refuse Device) (kept_behaves state lawful old new was
+        kept.alters saved (Close h) (Refuse Device) table tt) (λ e. cc) (λ e. cc) (λ p keeps here k m0 m is. record {
           next = p.state;
           present = m;
           stores = record {
@@ -295,12 +329,14 @@ module _ {D : Type 0} (state : D → DeviceState) (lawful : (d : D) → IsLawful
           map = map_of_volume state old k m0 m p.state is;
           handles = is.handles ∙ ap handles_of (sym table);
           counted = record { stored = blocks ∙ is.counted.stored; above = others ∙ is.counted.above };
-          steps = (let rose = fault k m0 m keeps is.stores.holds in inr (Device, refl, (refl, (let f = here.failures in omega (arith, f, rose))), refl));
+          steps = (let rose = fault k m0 m keeps is.stores.holds in
+              inr (Device, refl, (refl, (let f = here.failures in omega (arith, f, rose))), refl));
         })
 
 -- ---- the ends of the function
 
-module _ {D : Type 0} (state : D → DeviceState) (lawful : (d : D) → IsLawful (state d)) (old : Fs D) (was : old.store.log.halted ≡ false) (h n : ℕ) (opens : find nat_cmp h (handles_of old.handles.numbers.items) ≡ Some n) where
+module _ {D : Type 0} (state : D → DeviceState) (lawful : (d : D) → IsLawful (state d)) (old : Fs D) (was : old.store.log.halted ≡ false)
+    (h n : ℕ) (opens : find nat_cmp h (handles_of old.handles.numbers.items) ≡ Some n) where
   -- a volume with another store, and without the handle
   abbrev pub with_parts : Store D → Handles → Fs D
   with_parts store handles = record { alloc = old.alloc; store = store; handles = handles }
@@ -309,15 +345,21 @@ module _ {D : Type 0} (state : D → DeviceState) (lawful : (d : D) → IsLawful
   IsClosed handles = handles_of handles.numbers.items ≡ without nat_cmp h (handles_of old.handles.numbers.items)
 
   -- another handle is open on the file
-  pub close_shared : (handles : Handles) → IsClosed handles → (opened (without nat_cmp h (handles_of old.handles.numbers.items)) n ≡ 0 → ⊥) → Serves state (seen old) (seen (with_parts old.store handles)) (Close h) Done
+  pub close_shared : (handles : Handles) → IsClosed handles → (opened (without nat_cmp h (handles_of old.handles.numbers.items)) n ≡ 0 → ⊥)
+      → Serves state (seen old) (seen (with_parts old.store handles)) (Close h) Done
   close_shared handles table some =
-      close_keeps state lawful (seen old) (seen (with_parts old.store handles)) was refl h n opens table (reads_none state old.store.log) refl refl
-      (λ k m0 m s keeps is. open_stays (names s.tree n) (opened (without nat_cmp h s.handles) n) (subst (λ hs. opened (without nat_cmp h hs) n ≡ 0 → ⊥) (sym is.handles) some))
+      close_keeps state lawful (seen old) (seen (with_parts old.store handles)) was refl h n opens table
+      (reads_none state old.store.log) refl refl
+      (λ k m0 m s keeps is. open_stays (names s.tree n) (opened (without nat_cmp h s.handles) n)
+      (subst (λ hs. opened (without nat_cmp h hs) n ≡ 0 → ⊥) (sym is.handles) some))
 
   -- its header was read
-  module _ (mid : Fs D) (empty : IsNoChange old.store.draft.changes) (reads : OnlyReads state old mid) (head : headers.Header) (has : HasHeader state old mid n head) where
-    there : (k : CheckpointValue) (m0 m : LogMap) (s : State) → (state mid.store.log.device).keeps_model → IsIn state (seen old) k m0 m s → m.header n ≡ Some (as_header head)
-    there k m0 m s keeps is = header_there state old mid (Close h) (lawful old.store.log.device) was empty reads refl n head has k m0 m s keeps is
+  module _ (mid : Fs D) (empty : IsNoChange old.store.draft.changes) (reads : OnlyReads state old mid) (head : headers.Header)
+      (has : HasHeader state old mid n head) where
+    there : (k : CheckpointValue) (m0 m : LogMap) (s : State) → (state mid.store.log.device).keeps_model → IsIn state (seen old) k m0 m s
+        → m.header n ≡ Some (as_header head)
+    there k m0 m s keeps is =
+        header_there state old mid (Close h) (lawful old.store.log.device) was empty reads refl n head has k m0 m s keeps is
 
     -- the handle is closed as it was then
     abbrev IsClosedNow : Handles → Type 0
@@ -327,20 +369,26 @@ module _ {D : Type 0} (state : D → DeviceState) (lawful : (d : D) → IsLawful
     closed_then handles table = table ∙ ap (λ (t : List ℕ). without nat_cmp h (handles_of t)) reads.still.table
 
     -- the file has a name
-    pub close_named : (handles : Handles) → IsClosedNow handles → 0 < head.links → Serves state (seen old) (seen (with_parts mid.store handles)) (Close h) Done
+    pub close_named : (handles : Handles) → IsClosedNow handles → 0 < head.links
+        → Serves state (seen old) (seen (with_parts mid.store handles)) (Close h) Done
     close_named handles table some =
-        close_keeps state lawful (seen old) (seen (with_parts mid.store handles)) was reads.still.saved h n opens (closed_then handles table) reads.still.reads reads.still.blocks reads.still.others
+        close_keeps state lawful (seen old) (seen (with_parts mid.store handles)) was reads.still.saved h n opens
+        (closed_then handles table) reads.still.reads reads.still.blocks reads.still.others
         (λ k m0 m s keeps is. (
-        let names_is = names_by (segments_of (seen old)) m s (map_of_volume state (seen old) k m0 m s is) h n (ap (find nat_cmp h) is.handles ∙ opens) (as_header head) (there k m0 m s keeps is) in
+        let names_is = names_by (segments_of (seen old)) m s (map_of_volume state (seen old) k m0 m s is) h n
+        (ap (find nat_cmp h) is.handles ∙ opens) (as_header head) (there k m0 m s keeps is) in
         named_stays (names s.tree n) (opened (without nat_cmp h s.handles) n) (λ none. omega (arith, names_is, none, some))))
 
     -- it has none, and goes
     module _ (store : Store D) (saved : store.saved ≡ mid.store.saved) where
-      pub close_last : (handles : Handles) → IsClosedNow handles → head.links ≤ 0 → opened (without nat_cmp h (handles_of old.handles.numbers.items)) n ≡ 0
-          → IsRemoved state mid.store.log store.log n → CountsGone state mid.store.log store.log n mid.store.log.totals store.log.totals → Serves state (seen old) (seen (with_parts store handles)) (Close h) Done
+      pub close_last : (handles : Handles) → IsClosedNow handles → head.links ≤ 0
+          → opened (without nat_cmp h (handles_of old.handles.numbers.items)) n ≡ 0
+          → IsRemoved state mid.store.log store.log n → CountsGone state mid.store.log store.log n mid.store.log.totals store.log.totals
+          → Serves state (seen old) (seen (with_parts store handles)) (Close h) Done
       close_last handles table none shut gone counts =
           let all = removed_more state old.store.log mid.store.log store.log n (lawful old.store.log.device) reads.still.reads gone in
-          close_removes state lawful (seen old) (seen (with_parts store handles)) was (saved ∙ reads.still.saved) h n opens (closed_then handles table) head.links (omega (arith, none)) shut
+          close_removes state lawful (seen old) (seen (with_parts store handles)) was (saved ∙ reads.still.saved) h n opens
+          (closed_then handles table) head.links (omega (arith, none)) shut
           (λ k m0 m s keeps is. (as_header head, there k m0 m s (gone.alters.looks.carries.kept_before keeps) is, refl))
           all (forgets state old.store.log store.log old.store.saved n all)
           (λ k m0 m keeps holds map map' counted.
@@ -348,18 +396,23 @@ module _ {D : Type 0} (state : D → DeviceState) (lawful : (d : D) → IsLawful
           record { stored = reads.still.blocks ∙ counted.stored; above = reads.still.others ∙ counted.above })
 
       -- a call of the device failed
-      pub close_faults : (fault : LogFault) (e : FsError) → e ≡ error_of_log fault → IsKept state mid.store.log store.log → IsReadFault state mid.store.log store.log → store.log.totals ≡ mid.store.log.totals
-          → (fault ≡ log.Halted → mid.store.log.halted ≡ true) → (fault ≡ log.Full → ⊥) → Serves state (seen old) (seen (with_parts store mid.handles)) (Close h) (Refuse (refusal_of e))
+      pub close_faults : (fault : LogFault) (e : FsError) → e ≡ error_of_log fault → IsKept state mid.store.log store.log
+          → IsReadFault state mid.store.log store.log → store.log.totals ≡ mid.store.log.totals
+          → (fault ≡ log.Halted → mid.store.log.halted ≡ true) → (fault ≡ log.Full → ⊥)
+          → Serves state (seen old) (seen (with_parts store mid.handles)) (Close h) (Refuse (refusal_of e))
       close_faults fault e is kept failed totals halted full =
-          subst (λ (x : FsError). Serves state (seen old) (seen (with_parts store mid.handles)) (Close h) (Refuse (refusal_of x))) (sym is) (by fault halted full)
+          subst (λ (x : FsError). Serves state (seen old) (seen (with_parts store mid.handles)) (Close h) (Refuse (refusal_of x))) (sym is)
+          (by fault halted full)
         where
           device : Serves state (seen old) (seen (with_parts store mid.handles)) (Close h) (Refuse Device)
           device = close_fails state lawful (seen old) (seen (with_parts store mid.handles)) was (saved ∙ reads.still.saved) h n opens
               (kept_more state old.store.log mid.store.log store.log (lawful old.store.log.device) reads.still.reads kept)
               (fault_more state old.store.log mid.store.log store.log reads.still.reads failed)
-              (ap (λ (t : BlockTotals). t.data_blocks) totals ∙ reads.still.blocks) (ap (λ (t : BlockTotals). t.meta_blocks) totals ∙ reads.still.others) reads.still.table
+              (ap (λ (t : BlockTotals). t.data_blocks) totals ∙ reads.still.blocks) (ap (λ (t : BlockTotals). t.meta_blocks) totals
+              ∙ reads.still.others) reads.still.table
 
-          by : (x : LogFault) → (x ≡ log.Halted → mid.store.log.halted ≡ true) → (x ≡ log.Full → ⊥) → Serves state (seen old) (seen (with_parts store mid.handles)) (Close h) (Refuse (refusal_of (error_of_log x)))
+          by : (x : LogFault) → (x ≡ log.Halted → mid.store.log.halted ≡ true) → (x ≡ log.Full → ⊥)
+              → Serves state (seen old) (seen (with_parts store mid.handles)) (Close h) (Refuse (refusal_of (error_of_log x)))
           by log.Device halted full = device
           by log.Halted halted full = absurd (let on = halted refl in let off = reads.still.reads.halted ∙ was in cc)
           by log.Full halted full = absurd (full refl)

@@ -41,10 +41,13 @@ pub bytes_of : (b : List ℕ) → ((i : ℕ) → Fits w8 (slice_index_or b i 0))
 bytes_of [] fits = tt
 bytes_of (x ∷ xs) fits = (let first = (fits 0).fits in omega (arith, first), bytes_of xs (λ i. fits (suc i)))
 
-module _ {D : Type 0} (state : D → DeviceState) (lawful : (d : D) → IsLawful (state d)) (old begun : Fs D) (begins : Begins old begun) (store : Store D) (reads : Reads state begun.store.log store.log)
-    (saved : store.saved ≡ begun.store.saved) (totals : store.log.totals ≡ begun.store.log.totals) (draft : store.draft ≡ begun.store.draft) (drafted : store.drafted ≡ begun.store.drafted) where
+module _ {D : Type 0} (state : D → DeviceState) (lawful : (d : D) → IsLawful (state d)) (old begun : Fs D) (begins : Begins old begun)
+    (store : Store D) (reads : Reads state begun.store.log store.log)
+    (saved : store.saved ≡ begun.store.saved) (totals : store.log.totals ≡ begun.store.log.totals) (draft : store.draft ≡ begun.store.draft)
+    (drafted : store.drafted ≡ begun.store.drafted) where
   -- the call came to the directory of the last piece
-  pub reaches : (p : List ℕ) → AreBytes p → (d : ℕ) → (piece : Option Last) → HasLast p piece → WalksTo state begun.store.log store.log begun.store.draft.changes (EndsParent p) (At d)
+  pub reaches : (p : List ℕ) → AreBytes p → (d : ℕ) → (piece : Option Last) → HasLast p piece
+      → WalksTo state begun.store.log store.log begun.store.draft.changes (EndsParent p) (At d)
       → Reaches state (seen begun) (record { alloc = begun.alloc; store = store; handles = begun.handles }) p d piece
   reaches p bytes d piece last walks = record {
     still = still;
@@ -52,7 +55,8 @@ module _ {D : Type 0} (state : D → DeviceState) (lawful : (d : D) → IsLawful
     drafted = drafted ∙ begins.drafted ∙ sym totals;
     bytes = bytes;
     last = last;
-    walk = walked state (seen begun) _ (lawful begun.store.log.device) still was begun.store.draft.changes begins.empty (EndsParent p) (At d) walks;
+    walk = walked state (seen begun) _ (lawful begun.store.log.device) still was begun.store.draft.changes begins.empty (EndsParent p)
+        (At d) walks;
   }
     where
       still : IsStill state (seen begun) (seen (record { alloc = begun.alloc; store = store; handles = begun.handles }))
@@ -64,7 +68,9 @@ module _ {D : Type 0} (state : D → DeviceState) (lawful : (d : D) → IsLawful
 -- ---- a link's text that is refused
 
 module _ {D : Type 0} (state : D → DeviceState) (lawful : (d : D) → IsLawful (state d)) (old begun : Fs D) (begins : Begins old begun) where
-  pub text_ends : (text path : List ℕ) (r : Refusal) → text_refusal text ≡ Some r → Serves state (seen begun) (seen begun) (Symlink text path) (Refuse r)
-  text_ends text path r bad = refused_serves state (seen begun) (seen begun) (Symlink text path) (lawful begun.store.log.device) (only_none state begun).still
+  pub text_ends : (text path : List ℕ) (r : Refusal) → text_refusal text ≡ Some r
+      → Serves state (seen begun) (seen begun) (Symlink text path) (Refuse r)
+  text_ends text path r bad =
+      refused_serves state (seen begun) (seen begun) (Symlink text path) (lawful begun.store.log.device) (only_none state begun).still
       (ap (λ (v : Mounted D). v.log.halted) begins.same ∙ begins.running) r (text_ordinary text r bad) refl
       (λ k m0 m s keeps is. symlink_bad_text (segments_of (seen begun)) s path text is.log.sound.named r bad)

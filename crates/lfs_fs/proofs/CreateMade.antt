@@ -1,5 +1,6 @@
 -- An object drafted under the last piece of a path, from what was read and drafted to the call as a step of the model.
-use Rattle.std.proofs.Common.{◌≡◌, ◌≢◌, ◌<◌, ◌≤◌, ◌+◌, ◌*◌, ◌||◌, ◌&&◌, not, ℕ, Bool, true, false, List, length, Some, None, refl, sym, ◌∙◌, ap, subst, arith}
+use Rattle.std.proofs.Common.{◌≡◌, ◌≢◌, ◌<◌, ◌≤◌, ◌+◌, ◌*◌, ◌||◌, ◌&&◌, not, ℕ, Bool, true, false, List, length, Some, None, refl, sym, ◌∙◌}
+use Rattle.std.proofs.Common.{ap, subst, arith}
 use Rattle.std.specs.Prelude.{count_by, max}
 use Rattle.std.specs.FinMap.{find, put}
 use Rattle.lfs_model.specs.declared.Kind.{Kind}
@@ -57,7 +58,8 @@ use Rattle.lfs_fs.proofs.NewObjects.{IsMade, object_counted, object_fits, object
 use Rattle.lfs_fs.proofs.Headers.{directory_grows, known_form}
 use Rattle.lfs_fs.proofs.Slots.{slot_some}
 use Rattle.lfs_fs.proofs.Holding.{headers_of_volume, known_version, map_of_volume, shape_of_volume, version_of_volume}
-use Rattle.lfs_fs.proofs.InDirectories.{directory_kind, directory_node, free_directory, least_number, linked_directory, linked_names, made_header, names_new, names_there, new_in_directory, short_in_directory}
+use Rattle.lfs_fs.proofs.InDirectories.{directory_kind, directory_node, free_directory, least_number, linked_directory, linked_names}
+use Rattle.lfs_fs.proofs.InDirectories.{made_header, names_new, names_there, new_in_directory, short_in_directory}
 use Rattle.lfs_fs.proofs.WritingEnds.{still_more, AreDrafts, accepted_serves, with_table, draft_turned, totals_read}
 use Rattle.lfs_fs.proofs.CallSteps.{entry_ends}
 
@@ -67,26 +69,33 @@ module _ (c c' : Changes) (d : ℕ) (head : Header) (t : BlockTotals) where
   abbrev links_of : Kind → Header
   links_of k = relinked head (more_links k head.links)
 
-  same_header : (m : LogMap) → (staged c m).header d ≡ Some (as_header head) → IsWithHeader (staged c m) d (Some (as_header head)) (staged c m)
+  same_header : (m : LogMap) → (staged c m).header d ≡ Some (as_header head)
+      → IsWithHeader (staged c m) d (Some (as_header head)) (staged c m)
   same_header m there = record { own = there; others = λ q ne. refl; block = λ q i. refl; version = refl }
 
-  linked_map : (k : Kind) → RelinksParent c c' d head t k → (m : LogMap) → (staged c m).header d ≡ Some (as_header head) → IsWithHeader (staged c m) d (Some (as_header (links_of k))) (staged c' m)
-  linked_map kind.File same m there = subst (λ (x : Changes). IsWithHeader (staged c m) d (Some (as_header head)) (staged x m)) (sym same) (same_header m there)
+  linked_map : (k : Kind) → RelinksParent c c' d head t k → (m : LogMap) → (staged c m).header d ≡ Some (as_header head)
+      → IsWithHeader (staged c m) d (Some (as_header (links_of k))) (staged c' m)
+  linked_map kind.File same m there =
+      subst (λ (x : Changes). IsWithHeader (staged c m) d (Some (as_header head)) (staged x m)) (sym same) (same_header m there)
   linked_map kind.Directory sets m there = header_put (staged c m) (staged c' m) d (relinked head (head.links + 1)) (sets.0.map m)
-  linked_map kind.Link same m there = subst (λ (x : Changes). IsWithHeader (staged c m) d (Some (as_header head)) (staged x m)) (sym same) (same_header m there)
+  linked_map kind.Link same m there =
+      subst (λ (x : Changes). IsWithHeader (staged c m) d (Some (as_header head)) (staged x m)) (sym same) (same_header m there)
 
-  linked_fits : (k : Kind) → RelinksParent c c' d head t k → (m : LogMap) → FitsBatch m c → (staged c m).header d ≡ Some (as_header head) → 0 < head.links → is_lost c.loss (Inode d) ≡ false
+  linked_fits : (k : Kind) → RelinksParent c c' d head t k → (m : LogMap) → FitsBatch m c → (staged c m).header d ≡ Some (as_header head)
+      → 0 < head.links → is_lost c.loss (Inode d) ≡ false
       → FitsHeader head.kind head.form (more_links k head.links) head.size → FitsBatch m c'
   linked_fits kind.File same m fits there some apart header = subst (FitsBatch m) (sym same) fits
   linked_fits kind.Directory sets m fits there some apart header = sets.0.fits m fits there some apart header
   linked_fits kind.Link same m fits there some apart header = subst (FitsBatch m) (sym same) fits
 
-  linked_keeps : (k : Kind) → RelinksParent c c' d head t k → (m : LogMap) → IsLogMap (staged c m) → (staged c m).header d ≡ Some (as_header head) → IsLogMap (staged c' m)
+  linked_keeps : (k : Kind) → RelinksParent c c' d head t k → (m : LogMap) → IsLogMap (staged c m)
+      → (staged c m).header d ≡ Some (as_header head) → IsLogMap (staged c' m)
   linked_keeps kind.File same m log there = subst (λ (x : Changes). IsLogMap (staged x m)) (sym same) log
   linked_keeps kind.Directory sets m log there = sets.0.keeps m log there
   linked_keeps kind.Link same m log there = subst (λ (x : Changes). IsLogMap (staged x m)) (sym same) log
 
-  linked_counts : (k : Kind) → RelinksParent c c' d head t k → (m : LogMap) → (staged c m).header d ≡ Some (as_header head) → AreTotals (staged c m) t → AreTotals (staged c' m) t
+  linked_counts : (k : Kind) → RelinksParent c c' d head t k → (m : LogMap) → (staged c m).header d ≡ Some (as_header head)
+      → AreTotals (staged c m) t → AreTotals (staged c' m) t
   linked_counts kind.File same m there totals = subst (λ (x : Changes). AreTotals (staged x m) t) (sym same) totals
   linked_counts kind.Directory sets m there totals = sets.1 m there totals
   linked_counts kind.Link same m there totals = subst (λ (x : Changes). AreTotals (staged x m) t) (sym same) totals
@@ -96,10 +105,14 @@ module _ (c c' : Changes) (d : ℕ) (head : Header) (t : BlockTotals) where
   linked_loss kind.Directory sets = sets.0.loss (omega arith)
   linked_loss kind.Link same = ap (λ (x : Changes). x.loss) same
 
-module _ {D : Type 0} (state : D → DeviceState) (lawful : (d : D) → IsLawful (state d)) (v : Mounted D) (old mid ready : Fs D) (path : List ℕ) (d : ℕ) (of : NewCall v.log.version (segments_of v) path d) (last : Last)
-    (reached : Reaches state v old path d (Some last)) (running : old.store.log.halted ≡ false) (only : OnlyReads state old mid) (head : Header) (takes : TakesEntry state old mid d last.name.now last.slash of.is_mkdir head)
-    (few : kind_of_new of.kind ≡ kind.Directory → head.links < 1000) (n : ℕ) (vacant : IsVacant state mid.store.log n) (is_ready : IsDraftedNew state mid ready d head n of.kind last.name.now)
-    (allowed : (k : CheckpointValue) (m0 m : LogMap) (s : State) → (state mid.store.log.device).keeps_model → (is : IsIn state v k m0 m s) → (walk : Parent s.tree path (At d)) → (of.makes s (version_of_volume state v k m0 m s is) walk).own ≡ false) where
+module _ {D : Type 0} (state : D → DeviceState) (lawful : (d : D) → IsLawful (state d)) (v : Mounted D) (old mid ready : Fs D)
+    (path : List ℕ) (d : ℕ) (of : NewCall v.log.version (segments_of v) path d) (last : Last)
+    (reached : Reaches state v old path d (Some last)) (running : old.store.log.halted ≡ false) (only : OnlyReads state old mid)
+    (head : Header) (takes : TakesEntry state old mid d last.name.now last.slash of.is_mkdir head)
+    (few : kind_of_new of.kind ≡ kind.Directory → head.links < 1000) (n : ℕ) (vacant : IsVacant state mid.store.log n)
+    (is_ready : IsDraftedNew state mid ready d head n of.kind last.name.now)
+    (allowed : (k : CheckpointValue) (m0 m : LogMap) (s : State) → (state mid.store.log.device).keeps_model → (is : IsIn state v k m0 m s)
+    → (walk : Parent s.tree path (At d)) → (of.makes s (version_of_volume state v k m0 m s is) walk).own ≡ false) where
   abbrev c : Changes
   c = ready.store.draft.changes
 
@@ -163,7 +176,8 @@ module _ {D : Type 0} (state : D → DeviceState) (lawful : (d : D) → IsLawful
       in_mid = held_still state v.log mid.store.log k m0 m still_mid.reads is.stores.holds
 
       looks : (m.header d ≡ Some (as_header head)) × (None ≡ find byte_cmp last.name.now (names_at m d head))
-      looks = subst (λ (x : LogMap). (x.header d ≡ Some (as_header head)) × (None ≡ find byte_cmp last.name.now (names_at x d head))) (same_old m)
+      looks = subst (λ (x : LogMap). (x.header d ≡ Some (as_header head)) × (None ≡ find byte_cmp last.name.now (names_at x d head)))
+          (same_old m)
           (takes.looks k m0 m kept_mid (held_still state v.log old.store.log k m0 m reached.still.reads is.stores.holds))
 
       dir_fits : IsHeaderOf d (as_header head)
@@ -182,10 +196,12 @@ module _ {D : Type 0} (state : D → DeviceState) (lawful : (d : D) → IsLawful
       least_is = least_number (segments_of v) m s map n vacant.some vacant.few free (λ l low below. vacant.least k m0 m in_mid l low below)
 
       absent : is_there s.tree d path ≡ false
-      absent = new_in_directory (segments_of v) m s map d dir head looks.0 path (ap (λ (x : List ℕ). find byte_cmp x (names_at m d head)) says.1 ∙ sym looks.1)
+      absent = new_in_directory (segments_of v) m s map d dir head looks.0 path
+          (ap (λ (x : List ℕ). find byte_cmp x (names_at m d head)) says.1 ∙ sym looks.1)
 
       short : is_long s.tree d path ≡ false
-      short = short_in_directory (segments_of v) m s map d dir head looks.0 path (subst (λ (x : List ℕ). length x ≤ name_len head.form) (sym says.1) takes.is_name.short)
+      short = short_in_directory (segments_of v) m s map d dir head looks.0 path
+          (subst (λ (x : List ℕ). length x ≤ name_len head.form) (sym says.1) takes.is_name.short)
 
       space : is_full s.tree d ≡ false
       space = free_directory (segments_of v) m s map d dir head looks.0 dir_fits low
@@ -198,14 +214,17 @@ module _ {D : Type 0} (state : D → DeviceState) (lawful : (d : D) → IsLawful
 
       -- the object is made
       made : IsMade m n of.kind (between m)
-      made = object_made state mid.store.log ready.store.log mid.store.draft.changes is_ready.drafts.between mid.store.drafted is_ready.drafts.half n k m0 m in_mid none_drafted (same_mid m) is.map vacant.some not_root free keeps of.kind of.short is_ready.drafts.object
+      made = object_made state mid.store.log ready.store.log mid.store.draft.changes is_ready.drafts.between mid.store.drafted
+          is_ready.drafts.half n k m0 m in_mid none_drafted (same_mid m) is.map vacant.some not_root free keeps of.kind of.short
+          is_ready.drafts.object
 
       there_1 : (between m).header d ≡ Some (as_header head)
       there_1 = made_header (segments_of v) m s map d dir head looks.0 (between m) n of.kind other made
 
       -- the directory has the links with it
       links_made : IsWithHeader (between m) d (Some (as_header head')) (linked m)
-      links_made = linked_map is_ready.drafts.between is_ready.drafts.linked d head is_ready.drafts.half (kind_of_new of.kind) is_ready.drafts.relinks m there_1
+      links_made = linked_map is_ready.drafts.between is_ready.drafts.linked d head is_ready.drafts.half
+          (kind_of_new of.kind) is_ready.drafts.relinks m there_1
 
       -- and it is named
       writes : WritesFile (linked m) (staged c m) d head' (grown head') head.size slot
@@ -213,18 +232,23 @@ module _ {D : Type 0} (state : D → DeviceState) (lawful : (d : D) → IsLawful
 
       adds : AddsName (linked m) (staged c m) d head' n last.name.now
       adds = is_ready.drafts.adds.more k m0 m keeps in_mid
-          (linked_directory (segments_of v) m s map d dir head looks.0 (between m) n of.kind other made (more_links (kind_of_new of.kind) head.links) (linked m) links_made dir_fits)
-          (ap (find byte_cmp last.name.now) (linked_names (segments_of v) m s map d dir head looks.0 (between m) n of.kind other made (more_links (kind_of_new of.kind) head.links) (linked m) links_made) ∙ sym looks.1)
+          (linked_directory (segments_of v) m s map d dir head looks.0 (between m) n of.kind other made
+          (more_links (kind_of_new of.kind) head.links) (linked m) links_made dir_fits)
+          (ap (find byte_cmp last.name.now) (linked_names (segments_of v) m s map d dir head looks.0 (between m) n of.kind other made
+          (more_links (kind_of_new of.kind) head.links) (linked m) links_made) ∙ sym looks.1)
 
       does : NamesNew m (between m) (staged c m) d n of.kind head (head.size + slot_len head.form) head.size slot (name path)
-      does = names_new (segments_of v) m s map d dir head looks.0 (between m) n of.kind other made (more_links (kind_of_new of.kind) head.links) (linked m) links_made (staged c m) (head.size + slot_len head.form) head.size slot writes (name path)
-          refl (let few_bytes = low in let most = (slot_some head.form).1 in omega (arith, few_bytes, most)) adds.directory (adds.names ∙ ap (λ (x : List ℕ). put byte_cmp x n (names_at (linked m) d head')) (sym says.1))
+      does = names_new (segments_of v) m s map d dir head looks.0 (between m) n of.kind other made (more_links (kind_of_new of.kind)
+          head.links) (linked m) links_made (staged c m) (head.size + slot_len head.form) head.size slot writes (name path)
+          refl (let few_bytes = low in let most = (slot_some head.form).1 in omega (arith, few_bytes, most)) adds.directory
+          (adds.names ∙ ap (λ (x : List ℕ). put byte_cmp x n (names_at (linked m) d head')) (sym says.1))
 
       -- the directory is linked, and stays within 1,000 links
       some_links : 0 < head.links
       some_links =
           let at = directory_node (segments_of v) m s map d dir head looks.0 in
-          let counted : links s.tree d ≡ 2 + count_by (λ x. is_dir (node s.tree x.1)) (names_there (segments_of v) m s map d dir head looks.0) = ap (links_at s.tree d) at in
+          let counted : links s.tree d ≡ 2 + count_by (λ x. is_dir (node s.tree x.1))
+          (names_there (segments_of v) m s map d dir head looks.0) = ap (links_at s.tree d) at in
           let same : head.links ≡ links s.tree d = is.log.links d (as_header head) looks.0 ∙ ap (λ (t : Tree). links t d) (sym is.log.is) in
           omega (arith, counted, same)
 
@@ -240,8 +264,12 @@ module _ {D : Type 0} (state : D → DeviceState) (lawful : (d : D) → IsLawful
       fits_here : FitsBatch m c
       fits_here =
           is_ready.drafts.adds.fits k m0 m in_mid
-          (linked_fits is_ready.drafts.between is_ready.drafts.linked d head is_ready.drafts.half (kind_of_new of.kind) is_ready.drafts.relinks m
-          (object_fits state mid.store.log ready.store.log mid.store.draft.changes is_ready.drafts.between mid.store.drafted is_ready.drafts.half n k m0 m in_mid none_drafted (same_mid m) is.map vacant.some not_root free (draft_empty mid.store.draft.changes m none_drafted).1 of.kind of.short (of.sized (known_version state v k m0 m s is)) is_ready.drafts.object)
+          (linked_fits is_ready.drafts.between is_ready.drafts.linked d head is_ready.drafts.half
+          (kind_of_new of.kind) is_ready.drafts.relinks m
+          (object_fits state mid.store.log ready.store.log mid.store.draft.changes is_ready.drafts.between mid.store.drafted
+          is_ready.drafts.half n k m0 m in_mid none_drafted (same_mid m) is.map vacant.some not_root free
+          (draft_empty mid.store.draft.changes m none_drafted).1 of.kind of.short
+          (of.sized (known_version state v k m0 m s is)) is_ready.drafts.object)
           there_1 some_links (ap (λ (x : Loss). is_lost x (Inode d)) none_lost) links_fit)
           record {
             there = links_made.own;
@@ -251,15 +279,18 @@ module _ {D : Type 0} (state : D → DeviceState) (lawful : (d : D) → IsLawful
           }
         where
           none_lost : is_ready.drafts.between.loss ≡ Nothing
-          none_lost = object_loss state mid.store.log ready.store.log mid.store.draft.changes is_ready.drafts.between mid.store.drafted is_ready.drafts.half n k m0 m in_mid none_drafted (same_mid m) is.map vacant.some not_root free of.kind is_ready.drafts.object
+          none_lost = object_loss state mid.store.log ready.store.log mid.store.draft.changes is_ready.drafts.between mid.store.drafted
+              is_ready.drafts.half n k m0 m in_mid none_drafted (same_mid m) is.map vacant.some not_root free of.kind is_ready.drafts.object
 
           loss_same : is_ready.drafts.linked.loss ≡ is_ready.drafts.between.loss
-          loss_same = linked_loss is_ready.drafts.between is_ready.drafts.linked d head is_ready.drafts.half (kind_of_new of.kind) is_ready.drafts.relinks
+          loss_same = linked_loss is_ready.drafts.between is_ready.drafts.linked d head is_ready.drafts.half
+              (kind_of_new of.kind) is_ready.drafts.relinks
 
           grows : FitsHeader head.kind head.form (more_links (kind_of_new of.kind) head.links) (max head.size (head.size + length slot))
           grows =
               let larger = directory_grows d head dir_fits (directory_kind (segments_of v) m s map d dir head looks.0) low in
-              subst (λ (z : ℕ). FitsHeader head.kind head.form (more_links (kind_of_new of.kind) head.links) z) writes.bytes.size record { known = links_fit.known; links_few = links_fit.links_few; size_fits = larger.size_fits }
+              subst (λ (z : ℕ). FitsHeader head.kind head.form (more_links (kind_of_new of.kind) head.links) z) writes.bytes.size
+              record { known = links_fit.known; links_few = links_fit.links_few; size_fits = larger.size_fits }
 
       -- and its totals are those of its log map
       counted_here : IsLogMap (staged c m)
@@ -269,8 +300,15 @@ module _ {D : Type 0} (state : D → DeviceState) (lawful : (d : D) → IsLawful
           = subst (λ (x : LogMap). AreTotals x mid.store.drafted) (sym (same_mid m))
           (totals_read state lawful v old mid reached.still reached.drafted only m is.counted) in
           is_ready.drafts.recounts k m0 m keeps in_mid
-          (linked_keeps is_ready.drafts.between is_ready.drafts.linked d head is_ready.drafts.half (kind_of_new of.kind) is_ready.drafts.relinks m (object_log state mid.store.log ready.store.log mid.store.draft.changes is_ready.drafts.between mid.store.drafted is_ready.drafts.half n k m0 m in_mid none_drafted (same_mid m) is.map vacant.some not_root free keeps of.kind of.short (subst (λ (x : ℕ). IsForm x (kind_of_new of.kind) (form_of_new of.kind)) (sym is.stores.holds.version) (of.known (known_version state v k m0 m s is))) is_ready.drafts.object) there_1) after
-          (linked_counts is_ready.drafts.between is_ready.drafts.linked d head is_ready.drafts.half (kind_of_new of.kind) is_ready.drafts.relinks m there_1 (object_counted state mid.store.log ready.store.log mid.store.draft.changes is_ready.drafts.between mid.store.drafted is_ready.drafts.half n k m0 m in_mid none_drafted (same_mid m) is.map vacant.some not_root free keeps of.kind of.short is_ready.drafts.object totals_mid))
+          (linked_keeps is_ready.drafts.between is_ready.drafts.linked d head is_ready.drafts.half
+          (kind_of_new of.kind) is_ready.drafts.relinks m (object_log state mid.store.log ready.store.log mid.store.draft.changes
+          is_ready.drafts.between mid.store.drafted is_ready.drafts.half n k m0 m in_mid none_drafted (same_mid m) is.map
+          vacant.some not_root free keeps of.kind of.short (subst (λ (x : ℕ). IsForm x (kind_of_new of.kind) (form_of_new of.kind))
+          (sym is.stores.holds.version) (of.known (known_version state v k m0 m s is))) is_ready.drafts.object) there_1) after
+          (linked_counts is_ready.drafts.between is_ready.drafts.linked d head is_ready.drafts.half
+          (kind_of_new of.kind) is_ready.drafts.relinks m there_1 (object_counted state mid.store.log ready.store.log
+          mid.store.draft.changes is_ready.drafts.between mid.store.drafted is_ready.drafts.half n k m0 m in_mid none_drafted
+          (same_mid m) is.map vacant.some not_root free keeps of.kind of.short is_ready.drafts.object totals_mid))
 
   -- ---- the calls
   module _ (new : Fs D) (rest : new.handles ≡ ready.handles) where
@@ -278,7 +316,8 @@ module _ {D : Type 0} (state : D → DeviceState) (lawful : (d : D) → IsLawful
     entry_drafts keeps k m0 m s is =
         let walk = reached.walk k m0 m s (kept_old keeps) is in
         let version = version_of_volume state v k m0 m s is in
-        let known = subst (λ (x : ℕ). IsForm x (kind_of_new of.kind) (form_of_new of.kind)) (sym version) (of.known (known_version state v k m0 m s is)) in
+        let known = subst (λ (x : ℕ). IsForm x (kind_of_new of.kind) (form_of_new of.kind)) (sym version)
+        (of.known (known_version state v k m0 m s is)) in
         let makes = of.makes s version walk in
         let map_here = map keeps k m0 m s is in
         let first = least_is keeps k m0 m s is in

@@ -1,5 +1,6 @@
 -- An object that was to be made under the last piece of a path: it is, it isn't staged, or it wasn't drafted.
-use Rattle.std.proofs.Common.{◌≢◌, refl, Result, Ok, Err, arith, ap, true, ◌≡◌, ◌<◌, ℕ, false, List, Option, Some, None, sym, ◌∙◌, subst, ⊎_elim, inl, inr}
+use Rattle.std.proofs.Common.{◌≢◌, refl, Result, Ok, Err, arith, ap, true, ◌≡◌, ◌<◌, ℕ, false, List, Option, Some, None, sym, ◌∙◌, subst}
+use Rattle.std.proofs.Common.{⊎_elim, inl, inr}
 use Rattle.std.specs.Prelude.{IfErr, OnOk}
 use Rattle.std.specs.Ordering.{nat_cmp}
 use Rattle.std.specs.FinMap.{put}
@@ -33,10 +34,14 @@ use Rattle.lfs_fs.proofs.EntrySteps.{NewCall, create_call, mkdir_call, symlink_c
 use Rattle.lfs_fs.proofs.WritingEnds.{still_more}
 use Rattle.lfs_fs.proofs.ReadingEnds.{none_serves}
 
-module _ {D : Type 0} (state : D → DeviceState) (lawful : (d : D) → IsLawful (state d)) (v : Mounted D) (old mid : Fs D) (path : List ℕ) (d : ℕ) (of : NewCall v.log.version (segments_of v) path d) (piece : Option Last)
-    (reached : Reaches state v old path d piece) (running : old.store.log.halted ≡ false) (last : Last) (some : piece ≡ Some last) (only : OnlyReads state old mid) (head : Header)
-    (takes : TakesEntry state old mid d last.name.now last.slash of.is_mkdir head) (few : kind_of_new of.kind ≡ kind.Directory → head.links < 1000) (n : ℕ) (vacant : IsVacant state mid.store.log n)
-    (allowed : (k : CheckpointValue) (m0 m : LogMap) (s : State) → (state mid.store.log.device).keeps_model → (is : IsIn state v k m0 m s) → (walk : Parent s.tree path (At d)) → (of.makes s (version_of_volume state v k m0 m s is) walk).own ≡ false) where
+module _ {D : Type 0} (state : D → DeviceState) (lawful : (d : D) → IsLawful (state d)) (v : Mounted D) (old mid : Fs D) (path : List ℕ)
+    (d : ℕ) (of : NewCall v.log.version (segments_of v) path d) (piece : Option Last)
+    (reached : Reaches state v old path d piece) (running : old.store.log.halted ≡ false) (last : Last) (some : piece ≡ Some last)
+    (only : OnlyReads state old mid) (head : Header)
+    (takes : TakesEntry state old mid d last.name.now last.slash of.is_mkdir head) (few : kind_of_new of.kind ≡ kind.Directory
+    → head.links < 1000) (n : ℕ) (vacant : IsVacant state mid.store.log n)
+    (allowed : (k : CheckpointValue) (m0 m : LogMap) (s : State) → (state mid.store.log.device).keeps_model → (is : IsIn state v k m0 m s)
+    → (walk : Parent s.tree path (At d)) → (of.makes s (version_of_volume state v k m0 m s is) walk).own ≡ false) where
   -- the path has this last piece
   with_last : Reaches state v old path d (Some last)
   with_last = subst (λ (o : Option Last). Reaches state v old path d o) some reached
@@ -48,7 +53,8 @@ module _ {D : Type 0} (state : D → DeviceState) (lawful : (d : D) → IsLawful
   was = sym reached.still.reads.halted ∙ running
 
   -- nothing was drafted
-  undrafted_ends : (new : Fs D) → IsStill state (seen mid) (seen new) → (fault : FsError) → DraftsNone state mid new fault → Serves state v (seen new) of.call (Refuse (refusal_of fault))
+  undrafted_ends : (new : Fs D) → IsStill state (seen mid) (seen new) → (fault : FsError) → DraftsNone state mid new fault
+      → Serves state v (seen new) of.call (Refuse (refusal_of fault))
   undrafted_ends new same fault none = none_serves state v (seen new) of.call (lawful v.log.device)
       (still_more state lawful v (seen mid) (seen new) still same) was of.uncommitted
       of.remembering fault (⊎_elim inl (λ failed. inr (
@@ -56,22 +62,32 @@ module _ {D : Type 0} (state : D → DeviceState) (lawful : (d : D) → IsLawful
         fault_more state v.log mid.store.log new.store.log still.reads failed.1,
       )) none)
 
-  pub unmade_ends : (new : Fs D) (fault : FsError) → MakesNone state mid new d head n of.kind last.name.now fault → Serves state v (seen new) of.call (Refuse (refusal_of fault))
+  pub unmade_ends : (new : Fs D) (fault : FsError) → MakesNone state mid new d head n of.kind last.name.now fault
+      → Serves state v (seen new) of.call (Refuse (refusal_of fault))
   unmade_ends new fault none = ⊎_elim
-      (λ turned. turned_serves state lawful v old mid turned.mid path d of last with_last running only head takes few n vacant turned.ready allowed new turned.table fault turned.turns)
+      (λ turned. turned_serves state lawful v old mid turned.mid path d of last with_last running only head takes few n vacant turned.ready
+      allowed new turned.table fault turned.turns)
       (λ undrafted. undrafted_ends new undrafted.0 fault undrafted.1)
       none
 
   -- the object is made, and the table of open files is this one then
   module _ (new : Fs D) (makes : MakesNew state mid new d head n of.kind last.name.now) (table : List ℕ) where
     abbrev pub after : Mounted D
-    after = record { log = new.store.log; saved = new.store.saved; blocks = new.store.log.totals.data_blocks; others = new.store.log.totals.meta_blocks; table = table }
+    after = record {
+      log = new.store.log;
+      saved = new.store.saved;
+      blocks = new.store.log.totals.data_blocks;
+      others = new.store.log.totals.meta_blocks;
+      table = table;
+    }
 
     pub made_ends : (a : Answer) → is_ok a ≡ true → (IsBounded state v after of.call → Behaves state v after of.call a)
-        → ((s : State) (version : s.version ≡ v.log.version) (walk : Parent s.tree path (At d)) → s.handles ≡ handles_of v.table → least s.tree ≡ n → ((of.makes s version walk).answer ≡ a) × ((of.makes s version walk).handles ≡ handles_of table))
+        → ((s : State) (version : s.version ≡ v.log.version) (walk : Parent s.tree path (At d)) → s.handles ≡ handles_of v.table
+        → least s.tree ≡ n → ((of.makes s version walk).answer ≡ a) × ((of.makes s version walk).handles ≡ handles_of table))
         → Serves state v after of.call a
     made_ends a ok behaves ends =
-        made_serves state lawful v old mid makes.mid path d of last with_last running only head takes few n vacant makes.ready allowed new makes.table makes.stages table a ok behaves ends
+        made_serves state lawful v old mid makes.mid path d of last with_last running only head takes few n vacant makes.ready allowed new
+        makes.table makes.stages table a ok behaves ends
 
     -- the table before is that of the volume that the call began with
     pub table_was : new.handles.numbers.items ≡ v.table
@@ -79,78 +95,117 @@ module _ {D : Type 0} (state : D → DeviceState) (lawful : (d : D) → IsLawful
 
 -- ---- create
 
-module _ {D : Type 0} (state : D → DeviceState) (lawful : (d : D) → IsLawful (state d)) (v : Mounted D) (old mid : Fs D) (path : List ℕ) (d : ℕ) (piece : Option Last)
-    (reached : Reaches state v old path d piece) (running : old.store.log.halted ≡ false) (last : Last) (some : piece ≡ Some last) (only : OnlyReads state old mid) (head : Header)
-    (takes : TakesEntry state old mid d last.name.now last.slash false head) (handle : ℕ) (free : handle < 64) (first : least_handle (handles_of mid.handles.numbers.items) ≡ handle)
+module _ {D : Type 0} (state : D → DeviceState) (lawful : (d : D) → IsLawful (state d)) (v : Mounted D) (old mid : Fs D) (path : List ℕ)
+    (d : ℕ) (piece : Option Last)
+    (reached : Reaches state v old path d piece) (running : old.store.log.halted ≡ false) (last : Last) (some : piece ≡ Some last)
+    (only : OnlyReads state old mid) (head : Header)
+    (takes : TakesEntry state old mid d last.name.now last.slash false head) (handle : ℕ) (free : handle < 64)
+    (first : least_handle (handles_of mid.handles.numbers.items) ≡ handle)
     (n : ℕ) (vacant : IsVacant state mid.store.log n) where
   some_free : least_handle (handles_of mid.handles.numbers.items) < 64
   some_free = subst (λ (h : ℕ). h < 64) (sym first) free
 
-  pub create_unmade : (new : Fs D) (fault : FsError) → MakesNone state mid new d head n new_file last.name.now fault → Serves state v (seen new) (Create path) (Refuse (refusal_of fault))
-  create_unmade = unmade_ends state lawful v old mid path d (create_call v.log.version (segments_of v) path d reached.bytes) piece reached running last some only head takes (λ e. absurd (cc)) n vacant
+  pub create_unmade : (new : Fs D) (fault : FsError) → MakesNone state mid new d head n new_file last.name.now fault
+      → Serves state v (seen new) (Create path) (Refuse (refusal_of fault))
+  create_unmade = unmade_ends state lawful v old mid path d (create_call v.log.version (segments_of v) path d reached.bytes) piece reached
+      running last some only head takes (λ e. absurd (cc)) n vacant
       (handle_allowed state lawful v old path d piece reached running last some mid only head takes some_free)
 
-  pub create_made : (new : Fs D) → MakesNew state mid new d head n new_file last.name.now → (table : List ℕ) → (n ≢ 0 → handles_of table ≡ put nat_cmp handle n (handles_of new.handles.numbers.items))
-      → Serves state v record { log = new.store.log; saved = new.store.saved; blocks = new.store.log.totals.data_blocks; others = new.store.log.totals.meta_blocks; table = table } (Create path) (Handle handle)
+  pub create_made : (new : Fs D) → MakesNew state mid new d head n new_file last.name.now → (table : List ℕ)
+      → (n ≢ 0 → handles_of table ≡ put nat_cmp handle n (handles_of new.handles.numbers.items))
+      → Serves state v record {
+        log = new.store.log;
+        saved = new.store.saved;
+        blocks = new.store.log.totals.data_blocks;
+        others = new.store.log.totals.meta_blocks;
+        table = table;
+      } (Create path) (Handle handle)
   create_made new makes table opened =
-      made_ends state lawful v old mid path d (create_call v.log.version (segments_of v) path d reached.bytes) piece reached running last some only head takes (λ e. absurd (cc)) n vacant
-      (handle_allowed state lawful v old path d piece reached running last some mid only head takes some_free) new makes table (Handle handle) refl
+      made_ends state lawful v old mid path d (create_call v.log.version (segments_of v) path d reached.bytes) piece reached running last
+      some only head takes (λ e. absurd (cc)) n vacant
+      (handle_allowed state lawful v old path d piece reached running last some mid only head takes some_free) new makes table
+      (Handle handle) refl
       (makes_behaves state v _ (Create path) (Handle handle) refl refl refl)
       (λ s version walk handles least_is. (
-      let was : new.handles.numbers.items ≡ v.table = table_was state lawful v old mid path d (create_call v.log.version (segments_of v) path d reached.bytes) piece reached running last some only head takes (λ e. absurd (cc)) n vacant
+      let was : new.handles.numbers.items ≡ v.table = table_was state lawful v old mid path d (create_call v.log.version
+      (segments_of v) path d reached.bytes) piece reached running last some only head takes (λ e. absurd (cc)) n vacant
       (handle_allowed state lawful v old path d piece reached running last some mid only head takes some_free) new makes table in
       let before : mid.handles.numbers.items ≡ v.table = only.still.table ∙ reached.still.table in
       let is : least_handle s.handles ≡ handle = ap least_handle (handles ∙ ap handles_of (sym before)) ∙ first in
-      let low = vacant.some in
-      (ap (λ (h : ℕ). Handle h) is, (λ i. put nat_cmp (is i) (least_is i) ((handles ∙ ap handles_of (sym was)) i)) ∙ sym (opened (λ none. omega (arith, low, none))))))
+      let low = vacant.some in (
+        ap (λ (h : ℕ). Handle h) is,
+        (λ i. put nat_cmp (is i) (least_is i) ((handles ∙ ap handles_of (sym was)) i))
+            ∙ sym (opened (λ none. omega (arith, low, none))),
+      )))
 
 -- ---- mkdir
 
-module _ {D : Type 0} (state : D → DeviceState) (lawful : (d : D) → IsLawful (state d)) (v : Mounted D) (old mid : Fs D) (path : List ℕ) (d : ℕ) (piece : Option Last)
-    (reached : Reaches state v old path d piece) (running : old.store.log.halted ≡ false) (last : Last) (some : piece ≡ Some last) (only : OnlyReads state old mid) (head : Header)
-    (takes : TakesEntry state old mid d last.name.now last.slash true head) (few : head.links < 1000) (n : ℕ) (vacant : IsVacant state mid.store.log n) (new : Fs D) where
-  mkdir_unmade : (fault : FsError) → MakesNone state mid new d head n (new_directory (new_form v.log.version)) last.name.now fault → Serves state v (seen new) (Mkdir path) (Refuse (refusal_of fault))
-  mkdir_unmade = unmade_ends state lawful v old mid path d (mkdir_call v.log.version (segments_of v) path d reached.bytes) piece reached running last some only head takes (λ e. few) n vacant
+module _ {D : Type 0} (state : D → DeviceState) (lawful : (d : D) → IsLawful (state d)) (v : Mounted D) (old mid : Fs D) (path : List ℕ)
+    (d : ℕ) (piece : Option Last)
+    (reached : Reaches state v old path d piece) (running : old.store.log.halted ≡ false) (last : Last) (some : piece ≡ Some last)
+    (only : OnlyReads state old mid) (head : Header)
+    (takes : TakesEntry state old mid d last.name.now last.slash true head) (few : head.links < 1000) (n : ℕ)
+    (vacant : IsVacant state mid.store.log n) (new : Fs D) where
+  mkdir_unmade : (fault : FsError) → MakesNone state mid new d head n (new_directory (new_form v.log.version)) last.name.now fault
+      → Serves state v (seen new) (Mkdir path) (Refuse (refusal_of fault))
+  mkdir_unmade = unmade_ends state lawful v old mid path d (mkdir_call v.log.version (segments_of v) path d reached.bytes) piece reached
+      running last some only head takes (λ e. few) n vacant
       (links_allowed state lawful v old path d piece reached running last some mid only head takes few) new
 
-  mkdir_made : MakesNew state mid new d head n (new_directory (new_form v.log.version)) last.name.now → Serves state v (seen new) (Mkdir path) Done
+  mkdir_made : MakesNew state mid new d head n (new_directory (new_form v.log.version)) last.name.now
+      → Serves state v (seen new) (Mkdir path) Done
   mkdir_made makes =
-      let was : new.handles.numbers.items ≡ v.table = table_was state lawful v old mid path d (mkdir_call v.log.version (segments_of v) path d reached.bytes) piece reached running last some only head takes (λ e. few) n vacant
-      (links_allowed state lawful v old path d piece reached running last some mid only head takes few) new makes new.handles.numbers.items in
-      made_ends state lawful v old mid path d (mkdir_call v.log.version (segments_of v) path d reached.bytes) piece reached running last some only head takes (λ e. few) n vacant
-      (links_allowed state lawful v old path d piece reached running last some mid only head takes few) new makes new.handles.numbers.items Done refl
+      let was : new.handles.numbers.items ≡ v.table = table_was state lawful v old mid path d (mkdir_call v.log.version
+      (segments_of v) path d reached.bytes) piece reached running last some only head takes (λ e. few) n vacant
+      (links_allowed state lawful v old path d piece reached running last some mid only head takes few) new makes
+      new.handles.numbers.items in
+      made_ends state lawful v old mid path d (mkdir_call v.log.version (segments_of v) path d reached.bytes) piece reached running last
+      some only head takes (λ e. few) n vacant
+      (links_allowed state lawful v old path d piece reached running last some mid only head takes few) new makes new.handles.numbers.items
+      Done refl
       (write_behaves state v (seen new) (Mkdir path) Done refl was (λ e. cc) (λ never e. absurd (cc)))
       (λ s version walk handles least_is. (refl, handles ∙ ap handles_of (sym was)))
 
   same_version : mid.store.log.version ≡ v.log.version
   same_version = only.still.reads.version ∙ reached.still.reads.version
 
-  pub mkdir_ends : (r : Result (Unit {0}) FsError) → OnOk r (MakesNew state mid new d head n (new_directory (new_form mid.store.log.version)) last.name.now)
+  pub mkdir_ends : (r : Result (Unit {0}) FsError)
+      → OnOk r (MakesNew state mid new d head n (new_directory (new_form mid.store.log.version)) last.name.now)
       → IfErr r (MakesNone state mid new d head n (new_directory (new_form mid.store.log.version)) last.name.now)
       → Serves state v (seen new) (Mkdir path) (answer_by (λ _. Done) r)
-  mkdir_ends (Ok u) made none = mkdir_made (subst (λ (x : ℕ). MakesNew state mid new d head n (new_directory (new_form x)) last.name.now) same_version made)
-  mkdir_ends (Err fault) made none = mkdir_unmade fault (subst (λ (x : ℕ). MakesNone state mid new d head n (new_directory (new_form x)) last.name.now fault) same_version none)
+  mkdir_ends (Ok u) made none =
+      mkdir_made (subst (λ (x : ℕ). MakesNew state mid new d head n (new_directory (new_form x)) last.name.now) same_version made)
+  mkdir_ends (Err fault) made none = mkdir_unmade fault
+      (subst (λ (x : ℕ). MakesNone state mid new d head n (new_directory (new_form x)) last.name.now fault) same_version none)
 
 -- ---- symlink
 
-module _ {D : Type 0} (state : D → DeviceState) (lawful : (d : D) → IsLawful (state d)) (v : Mounted D) (old mid : Fs D) (path : List ℕ) (d : ℕ) (piece : Option Last)
-    (reached : Reaches state v old path d piece) (running : old.store.log.halted ≡ false) (last : Last) (some : piece ≡ Some last) (only : OnlyReads state old mid) (head : Header)
-    (takes : TakesEntry state old mid d last.name.now last.slash false head) (text : List ℕ) (text_bytes : AreBytes text) (good : text_refusal text ≡ None) (n : ℕ) (vacant : IsVacant state mid.store.log n) (new : Fs D) where
+module _ {D : Type 0} (state : D → DeviceState) (lawful : (d : D) → IsLawful (state d)) (v : Mounted D) (old mid : Fs D) (path : List ℕ)
+    (d : ℕ) (piece : Option Last)
+    (reached : Reaches state v old path d piece) (running : old.store.log.halted ≡ false) (last : Last) (some : piece ≡ Some last)
+    (only : OnlyReads state old mid) (head : Header)
+    (takes : TakesEntry state old mid d last.name.now last.slash false head) (text : List ℕ) (text_bytes : AreBytes text)
+    (good : text_refusal text ≡ None) (n : ℕ) (vacant : IsVacant state mid.store.log n) (new : Fs D) where
   abbrev links : NewCall v.log.version (segments_of v) path d
   links = symlink_call v.log.version (segments_of v) path d reached.bytes text text_bytes good
 
-  symlink_unmade : (fault : FsError) → MakesNone state mid new d head n (new_link text) last.name.now fault → Serves state v (seen new) (Symlink text path) (Refuse (refusal_of fault))
-  symlink_unmade = unmade_ends state lawful v old mid path d links piece reached running last some only head takes (λ e. absurd (cc)) n vacant (λ k m0 m s keeps is walk. refl) new
+  symlink_unmade : (fault : FsError) → MakesNone state mid new d head n (new_link text) last.name.now fault
+      → Serves state v (seen new) (Symlink text path) (Refuse (refusal_of fault))
+  symlink_unmade = unmade_ends state lawful v old mid path d links piece reached running last some only head takes
+      (λ e. absurd (cc)) n vacant (λ k m0 m s keeps is walk. refl) new
 
   symlink_made : MakesNew state mid new d head n (new_link text) last.name.now → Serves state v (seen new) (Symlink text path) Done
   symlink_made makes =
       let was : new.handles.numbers.items ≡ v.table =
-      table_was state lawful v old mid path d links piece reached running last some only head takes (λ e. absurd (cc)) n vacant (λ k m0 m s keeps is walk. refl) new makes new.handles.numbers.items in
-      made_ends state lawful v old mid path d links piece reached running last some only head takes (λ e. absurd (cc)) n vacant (λ k m0 m s keeps is walk. refl) new makes new.handles.numbers.items Done refl
+      table_was state lawful v old mid path d links piece reached running last some only head takes (λ e. absurd (cc)) n vacant
+      (λ k m0 m s keeps is walk. refl) new makes new.handles.numbers.items in
+      made_ends state lawful v old mid path d links piece reached running last some only head takes (λ e. absurd (cc)) n vacant
+      (λ k m0 m s keeps is walk. refl) new makes new.handles.numbers.items Done refl
       (write_behaves state v (seen new) (Symlink text path) Done refl was (λ e. cc) (λ never e. absurd (cc)))
       (λ s version walk handles least_is. (refl, handles ∙ ap handles_of (sym was)))
 
-  pub symlink_ends : (r : Result (Unit {0}) FsError) → OnOk r (MakesNew state mid new d head n (new_link text) last.name.now) → IfErr r (MakesNone state mid new d head n (new_link text) last.name.now)
+  pub symlink_ends : (r : Result (Unit {0}) FsError) → OnOk r (MakesNew state mid new d head n (new_link text) last.name.now)
+      → IfErr r (MakesNone state mid new d head n (new_link text) last.name.now)
       → Serves state v (seen new) (Symlink text path) (answer_by (λ _. Done) r)
   symlink_ends (Ok u) made none = symlink_made made
   symlink_ends (Err fault) made none = symlink_unmade fault none

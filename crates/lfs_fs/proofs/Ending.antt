@@ -42,10 +42,12 @@ module _ {D : Type 0} (state : D → DeviceState) where
     pub others : new.others ≡ old.others
     pub table : new.table ≡ old.table
 
-  pub counted_still : (old new : Mounted D) (m : LogMap) → IsRest old new → IsCounted m old.blocks old.others → IsCounted m new.blocks new.others
+  pub counted_still : (old new : Mounted D) (m : LogMap) → IsRest old new → IsCounted m old.blocks old.others
+      → IsCounted m new.blocks new.others
   counted_still old new m rest counted = record { stored = rest.blocks ∙ counted.stored; above = rest.others ∙ counted.above }
 
-  module _ (old new : Mounted D) (call : Call) (lawful : IsLawful (state old.log.device)) (after : IsLawful (state new.log.device)) (carries : Carries (state old.log.device) (state new.log.device))
+  module _ (old new : Mounted D) (call : Call) (lawful : IsLawful (state old.log.device)) (after : IsLawful (state new.log.device))
+      (carries : Carries (state old.log.device) (state new.log.device))
       (segments : segments_of new ≡ segments_of old) (was : old.log.halted ≡ false) (later : old.log.number ≤ new.log.number) where
     -- ---- the volume runs on
 
@@ -58,7 +60,8 @@ module _ {D : Type 0} (state : D → DeviceState) where
       pub saves : acknowledges call a ≡ true → LeavesOne (state new.log.device) (drop_nameless next)
 
     pub runs_on : (a : Answer) → (a ≡ Refuse Halted → ⊥) → Behaves state old new call a → new.log.halted ≡ false
-        → ((p : Point) → (state new.log.device).keeps_model → IsAt state old p → (k : CheckpointValue) (m0 m : LogMap) → IsIn state old k m0 m p.state → EndsAt a p k m0 m)
+        → ((p : Point) → (state new.log.device).keeps_model → IsAt state old p → (k : CheckpointValue) (m0 m : LogMap)
+        → IsIn state old k m0 m p.state → EndsAt a p k m0 m)
         → Serves state old new call a
     runs_on a fine behaves running each = record {
       carries = carries;
@@ -69,11 +72,13 @@ module _ {D : Type 0} (state : D → DeviceState) where
       model = λ p keeps at. (
           let r = at.running was in
           let end = each p keeps at r.checkpoint r.saved r.present r.is in
-          goes_on_at state old new keeps lawful after carries r.checkpoint r.saved r.present p.state r.is call a p at refl was running later behaves fine end.next end.runs end.steps end.moment end.saves);
+          goes_on_at state old new keeps lawful after carries r.checkpoint r.saved r.present p.state r.is call a p at refl was running later
+          behaves fine end.next end.runs end.steps end.moment end.saves);
     }
 
     -- ---- a draft is staged
-    module _ (c : Changes) (done : Accepts state old.log old.saved new.log new.saved c) (low : old.log.number < 2 ^ 62) (a : Answer) (fine : a ≡ Refuse Halted → ⊥) (none : acknowledges call a ≡ true → ⊥) where
+    module _ (c : Changes) (done : Accepts state old.log old.saved new.log new.saved c) (low : old.log.number < 2 ^ 62) (a : Answer)
+        (fine : a ≡ Refuse Halted → ⊥) (none : acknowledges call a ≡ true → ⊥) where
       -- what the draft makes of a state that the volume is in
       pub record Drafts (p : Point) (m : LogMap) : Type 0 where
         pub next : State
@@ -83,12 +88,15 @@ module _ {D : Type 0} (state : D → DeviceState) where
         pub counted : IsCounted (staged c m) new.blocks new.others
         pub steps : StepsOr (segments_of old) call p a (point_of state new next)
 
-      pub accepts_by : Behaves state old new call a → ((p : Point) → (state new.log.device).keeps_model → IsAt state old p → (k : CheckpointValue) (m0 m : LogMap) → IsIn state old k m0 m p.state → Drafts p m) → Serves state old new call a
+      pub accepts_by : Behaves state old new call a → ((p : Point) → (state new.log.device).keeps_model → IsAt state old p
+          → (k : CheckpointValue) (m0 m : LogMap) → IsIn state old k m0 m p.state → Drafts p m) → Serves state old new call a
       accepts_by behaves each = runs_on a fine behaves (done.halted ∙ was) (λ p keeps at k m0 m is. (
           let drafts = each p keeps at k m0 m is in
           let log = map_dropped state old new keeps lawful after carries k m0 m p.state is in record {
             next = drafts.next;
-            runs = runs_over state old new k m0 m p.state is (staged c m) drafts.next (done.stores k m0 m keeps is.stores drafts.fits log) segments drafts.map drafts.handles drafts.counted (λ e. (done.enough, (let o = done.saves.few in let size = segments in omega (arith, o, low, size))));
+            runs = runs_over state old new k m0 m p.state is (staged c m) drafts.next
+                (done.stores k m0 m keeps is.stores drafts.fits log) segments drafts.map drafts.handles drafts.counted
+                (λ e. (done.enough, (let o = done.saves.few in let size = segments in omega (arith, o, low, size))));
             steps = drafts.steps;
             moment = done.moment k m0 m keeps is.stores log;
             saves = λ e. absurd (none e);
@@ -96,7 +104,8 @@ module _ {D : Type 0} (state : D → DeviceState) where
 
     -- ---- a commit is done
     module _ (rest : IsRest old new) (done : Commits state old.log old.saved new.log) (saved : new.saved ≡ true) where
-      over : (k : CheckpointValue) (m0 m : LogMap) → (state new.log.device).keeps_model → (stores : Stores state old.log old.saved k m0 m) → IsLogMap (dropped m) → StoresOver state k.segments m0 m new.log new.saved m
+      over : (k : CheckpointValue) (m0 m : LogMap) → (state new.log.device).keeps_model → (stores : Stores state old.log old.saved k m0 m)
+          → IsLogMap (dropped m) → StoresOver state k.segments m0 m new.log new.saved m
       over k m0 m keeps stores log =
           let next = done.stores k m0 m keeps stores log in
           let before = stores.holds.log.segments in
@@ -110,14 +119,19 @@ module _ {D : Type 0} (state : D → DeviceState) where
           }
 
       -- what a stop leaves then is the state without its nodes of no name
-      left_one : (k : CheckpointValue) (m0 m : LogMap) (s : State) → IsIn state old k m0 m s → (state new.log.device).keeps_model → IsLogMap (dropped m) → LeavesOne (state new.log.device) (drop_nameless s)
-      left_one k m0 m s is keeps log c left = stands_dropped k.segments c m s (subst (λ (n : ℕ). IsLogOf n m s) is.stores.holds.log.segments is.log) (done.left k m0 m keeps is.stores log c left)
+      left_one : (k : CheckpointValue) (m0 m : LogMap) (s : State) → IsIn state old k m0 m s → (state new.log.device).keeps_model
+          → IsLogMap (dropped m) → LeavesOne (state new.log.device) (drop_nameless s)
+      left_one k m0 m s is keeps log c left = stands_dropped k.segments c m s
+          (subst (λ (n : ℕ). IsLogOf n m s) is.stores.holds.log.segments is.log) (done.left k m0 m keeps is.stores log c left)
 
-      pub commits_by : (a : Answer) → (a ≡ Refuse Halted → ⊥) → Behaves state old new call a → ((p : Point) → (state new.log.device).keeps_model → IsAt state old p → StepsOr (segments_of old) call p a (point_of state new p.state)) → Serves state old new call a
+      pub commits_by : (a : Answer) → (a ≡ Refuse Halted → ⊥) → Behaves state old new call a
+          → ((p : Point) → (state new.log.device).keeps_model → IsAt state old p
+          → StepsOr (segments_of old) call p a (point_of state new p.state)) → Serves state old new call a
       commits_by a fine behaves each = runs_on a fine behaves done.running (λ p keeps at k m0 m is. (
           let log = map_dropped state old new keeps lawful after carries k m0 m p.state is in record {
             next = p.state;
-            runs = runs_over state old new k m0 m p.state is m p.state (over k m0 m keeps is.stores log) segments (map_of_volume state old k m0 m p.state is)
+            runs = runs_over state old new k m0 m p.state is m p.state (over k m0 m keeps is.stores log) segments
+                (map_of_volume state old k m0 m p.state is)
                 (is.handles ∙ ap handles_of (sym rest.table)) (counted_still old new m rest is.counted) (λ e. absurd (let s = saved in cc));
             steps = each p keeps at;
             moment = done.moment k m0 m keeps is.stores log;
@@ -125,19 +139,26 @@ module _ {D : Type 0} (state : D → DeviceState) where
           }))
 
     -- ---- it isn't
-    module _ (c : Changes) (rest : IsRest old new) (declines : Declines state old.log old.saved new.log new.saved c) (low : old.log.number < 2 ^ 62) (r : Refusal) (fine : r ≡ Halted → ⊥) where
+    module _ (c : Changes) (rest : IsRest old new) (declines : Declines state old.log old.saved new.log new.saved c)
+        (low : old.log.number < 2 ^ 62) (r : Refusal) (fine : r ≡ Halted → ⊥) where
       not_halted : Refuse r ≡ Refuse Halted → ⊥
       not_halted e = fine (cc)
 
-      pub declines_by : Behaves state old new call (Refuse r) → ((p : Point) → (state new.log.device).keeps_model → IsAt state old p → (k : CheckpointValue) (m0 m : LogMap) → IsIn state old k m0 m p.state
+      pub declines_by : Behaves state old new call (Refuse r) → ((p : Point) → (state new.log.device).keeps_model → IsAt state old p
+          → (k : CheckpointValue) (m0 m : LogMap) → IsIn state old k m0 m p.state
           → FitsBatch m c × StepsOr (segments_of old) call p (Refuse r) (point_of state new p.state)) → Serves state old new call (Refuse r)
       declines_by behaves each = runs_on (Refuse r) not_halted behaves (declines.halted ∙ was) (λ p keeps at k m0 m is. (
           let both = each p keeps at k m0 m is in
           let log = map_dropped state old new keeps lawful after carries k m0 m p.state is in record {
             next = p.state;
-            runs = runs_over state old new k m0 m p.state is m p.state (declines.stores k m0 m keeps is.stores both.0 log) segments (map_of_volume state old k m0 m p.state is)
+            runs = runs_over state old new k m0 m p.state is m p.state (declines.stores k m0 m keeps is.stores both.0 log) segments
+                (map_of_volume state old k m0 m p.state is)
                 (is.handles ∙ ap handles_of (sym rest.table)) (counted_still old new m rest is.counted)
-                (λ e. (declines.saves.ready (λ f. (is.ready f).0) e, (let o = declines.saves.few in let size = segments in omega (arith, o, low, size))));
+                (λ e. (
+                  declines.saves.ready (λ f. (is.ready f).0) e,
+                  (let o = declines.saves.few in let size = segments in
+                      omega (arith, o, low, size)),
+                ));
             steps = both.1;
             moment = declines.moment k m0 m keeps is.stores log;
             saves = λ e. absurd (not_acknowledged call r e);

@@ -1,18 +1,21 @@
 -- The calls that make a new entry of a directory, exit by exit.
-use Rattle.std.proofs.Common.{◌≡◌, ◌<◌, ◌≤◌, ◌*◌, ◌-◌, ℕ, Bool, true, false, not, ◌&&◌, ◌||◌, List, [], ◌∷◌, ◌++◌, length, Option, None, refl, sym, ◌∙◌, ap, subst, ⊎_elim, arith, nat_lt, nat_le}
+use Rattle.std.proofs.Common.{◌≡◌, ◌<◌, ◌≤◌, ◌*◌, ◌-◌, ℕ, Bool, true, false, not, ◌&&◌, ◌||◌, List, [], ◌∷◌, ◌++◌, length, Option, None}
+use Rattle.std.proofs.Common.{refl, sym, ◌∙◌, ap, subst, ⊎_elim, arith, nat_lt, nat_le}
 use Rattle.std.specs.Prelude.{option_map, unwrap_or}
 use Rattle.std.specs.Ordering.{nat_cmp}
 use Rattle.std.specs.FinMap.{put}
 use Rattle.lfs_model.specs.declared.Kind.TheVariants as kinds
 use Rattle.lfs_model.specs.Bytes.{AreBytes}
-use Rattle.lfs_model.specs.Call.{Answer, AreArguments, Call, Create, Done, Handle, Mkdir, Refuse, Symlink, changes, cleans, is_ok, takes_no_memory, never_for_device}
+use Rattle.lfs_model.specs.Call.{Answer, AreArguments, Call, Create, Done, Handle, Mkdir, Refuse, Symlink, changes, cleans, is_ok}
+use Rattle.lfs_model.specs.Call.{takes_no_memory, never_for_device}
 use Rattle.lfs_model.specs.Checkpoint.{IsVersion}
 use Rattle.lfs_model.specs.Image.{new_form}
 use Rattle.lfs_model.specs.Inode.{IsForm, IsSize}
 use Rattle.lfs_model.specs.Need.{need}
 use Rattle.lfs_model.specs.PathText.{slash, text_refusal}
 use Rattle.lfs_model.specs.Refusal.{Refusal, NoEntry, NoNumber, NoSpace, TooManyLinks, TooManyOpen}
-use Rattle.lfs_model.specs.Step.{PathEnds, Step, checked, is_full, is_long, is_there, last_dots, makes_link, new_entry, no_last, no_number, no_space, outcome, path_of, second_path_of, text_check, when, with_new, with_tree}
+use Rattle.lfs_model.specs.Step.{PathEnds, Step, checked, is_full, is_long, is_there, last_dots, makes_link, new_entry, no_last, no_number}
+use Rattle.lfs_model.specs.Step.{no_space, outcome, path_of, second_path_of, text_check, when, with_new, with_tree}
 use Rattle.lfs_model.specs.Tree.{Dir, File, Handles, Link, Node, State, Tree, least, least_handle, links}
 use Rattle.lfs_model.specs.Walk.{At, Parent}
 use Rattle.lfs_store.specs.Making.{first_links}
@@ -28,8 +31,8 @@ new_node new_file = File []
 new_node (new_directory form) = Dir form []
 new_node (new_link text) = Link text
 
--- A call that makes an object of this kind under the last piece of a path, in directory d. What refuses it is the rule of a new entry, then a
--- reason of its own, then the want of a number and of space.
+-- A call that makes an object of this kind under the last piece of a path, in directory d. What refuses
+-- it is the rule of a new entry, then a reason of its own, then the want of a number and of space.
 pub record MakesEntry (N : ℕ) (s : State) (p : List ℕ) (d : ℕ) (call : Call) (k : NewKind) (is_mkdir : Bool) : Type 0 where
   pub own : Bool
   pub why : Refusal
@@ -39,7 +42,8 @@ pub record MakesEntry (N : ℕ) (s : State) (p : List ℕ) (d : ℕ) (call : Cal
   pub second : PathEnds s.tree (second_path_of call) (At 1)
   pub ok : is_ok answer ≡ true
   pub is : outcome N s call (At d) (At 1)
-      ≡ checked s (new_entry s.tree d p is_mkdir ++ when own why ∷ no_number s.tree ∷ no_space N (with_new s.tree d p (new_node k)) ∷ []) (answer, record { tree = with_new s.tree d p (new_node k); handles = handles; version = s.version })
+      ≡ checked s (new_entry s.tree d p is_mkdir ++ when own why ∷ no_number s.tree ∷ no_space N (with_new s.tree d p (new_node k)) ∷ [])
+      (answer, record { tree = with_new s.tree d p (new_node k); handles = handles; version = s.version })
 
 module _ (N : ℕ) (s : State) (p : List ℕ) (d : ℕ) (walk : Parent s.tree p (At d)) where
   abbrev pub create_makes : MakesEntry N s p d (Create p) new_file false
@@ -63,7 +67,8 @@ module _ (N : ℕ) (s : State) (p : List ℕ) (d : ℕ) (walk : Parent s.tree p 
     first = walk;
     second = refl;
     ok = refl;
-    is = ap (λ (v : ℕ). checked s (new_entry s.tree d p true ++ when (nat_le 1000 (links s.tree d)) TooManyLinks ∷ no_number s.tree ∷ no_space N (with_new s.tree d p (Dir (v - 1) [])) ∷ [])
+    is = ap (λ (v : ℕ). checked s (new_entry s.tree d p true ++ when (nat_le 1000 (links s.tree d)) TooManyLinks ∷ no_number s.tree
+        ∷ no_space N (with_new s.tree d p (Dir (v - 1) [])) ∷ [])
         (Done, with_tree s (with_new s.tree d p (Dir (v - 1) [])))) same;
   }
 
@@ -91,7 +96,8 @@ pub record NewCall (version N : ℕ) (p : List ℕ) (d : ℕ) : Type 0 where
   pub makes : (s : State) → s.version ≡ version → Parent s.tree p (At d) → MakesEntry N s p d call kind is_mkdir
   pub arguments : AreArguments call
   pub known : IsVersion version → IsForm version (kind_of_new kind) (form_of_new kind)
-  pub sized : IsVersion version → FitsHeader (kind_of_new kind) (form_of_new kind) (first_links (kind_of_new kind)) (length (text_of_new kind))
+  pub sized : IsVersion version
+      → FitsHeader (kind_of_new kind) (form_of_new kind) (first_links (kind_of_new kind)) (length (text_of_new kind))
   pub short : length (text_of_new kind) ≤ 1023
   pub changing : changes call ≡ true
   pub uncommitted : never_for_device call ≡ false
@@ -116,8 +122,10 @@ directory_form version known = ⊎_elim
 pub directory_sized : (version : ℕ) → IsVersion version → FitsHeader kinds.Directory (new_form version) 2 0
 unfolding IsSize
 directory_sized version known = ⊎_elim
-    (λ (e : version ≡ 1). subst (λ (v : ℕ). FitsHeader kinds.Directory (new_form v) 2 0) (sym e) record { known = tt; links_few = omega arith; size_fits = (refl, omega arith) })
-    (λ (e : version ≡ 2). subst (λ (v : ℕ). FitsHeader kinds.Directory (new_form v) 2 0) (sym e) record { known = omega arith; links_few = omega arith; size_fits = (refl, omega arith) })
+    (λ (e : version ≡ 1). subst (λ (v : ℕ). FitsHeader kinds.Directory (new_form v) 2 0)
+    (sym e) record { known = tt; links_few = omega arith; size_fits = (refl, omega arith) })
+    (λ (e : version ≡ 2). subst (λ (v : ℕ). FitsHeader kinds.Directory (new_form v) 2 0)
+    (sym e) record { known = omega arith; links_few = omega arith; size_fits = (refl, omega arith) })
     known
 
 pub link_sized : (size : ℕ) → 1 ≤ size → size ≤ 1023 → FitsHeader kinds.Link 0 1 size
@@ -156,7 +164,8 @@ mkdir_call version N p d bytes = record {
   remembering = refl;
 }
 
-abbrev pub symlink_call : (version N : ℕ) (p : List ℕ) (d : ℕ) → AreBytes p → (text : List ℕ) → AreBytes text → text_refusal text ≡ None → NewCall version N p d
+abbrev pub symlink_call : (version N : ℕ) (p : List ℕ) (d : ℕ) → AreBytes p → (text : List ℕ) → AreBytes text → text_refusal text ≡ None
+    → NewCall version N p d
 symlink_call version N p d bytes text text_bytes good = record {
   call = Symlink text p;
   kind = new_link text;
@@ -174,7 +183,8 @@ symlink_call version N p d bytes text text_bytes good = record {
 
 -- ---- its exits
 
-module _ (N : ℕ) (s : State) (p : List ℕ) (d : ℕ) (call : Call) (k : NewKind) (is_mkdir : Bool) (e : MakesEntry N s p d call k is_mkdir) where
+module _ (N : ℕ) (s : State) (p : List ℕ) (d : ℕ) (call : Call) (k : NewKind) (is_mkdir : Bool)
+    (e : MakesEntry N s p d call k is_mkdir) where
   abbrev pub grown : Tree
   grown = with_new s.tree d p (new_node k)
 
@@ -206,7 +216,8 @@ module _ (N : ℕ) (s : State) (p : List ℕ) (d : ℕ) (call : Call) (k : NewKi
   step_made : (a : Answer) (s' : State) → outcome N s call (At d) (At 1) ≡ (a, s') → Step N s call a s'
   step_made = step_new N s p d call is_mkdir checks_new
 
-  module _ (named : (no_last p || last_dots p) ≡ false) (short : is_long s.tree d p ≡ false) (new : is_there s.tree d p ≡ false) (plain : (slash p && not is_mkdir) ≡ false) (free : is_full s.tree d ≡ false) where
+  module _ (named : (no_last p || last_dots p) ≡ false) (short : is_long s.tree d p ≡ false) (new : is_there s.tree d p ≡ false)
+      (plain : (slash p && not is_mkdir) ≡ false) (free : is_full s.tree d ≡ false) where
     a_free : outcome N s call (At d) (At 1) ≡ checked s (when e.own e.why ∷ from_number) made
     a_free = new_taken N s p d call is_mkdir checks_new record { named = named; short = short; new = new; plain = plain; free = free }
 
@@ -218,14 +229,18 @@ module _ (N : ℕ) (s : State) (p : List ℕ) (d : ℕ) (call : Call) (k : NewKi
       an_allowed = a_free ∙ passes s e.own (Refuse e.why) from_number made allowed
 
       pub new_no_number : 4095 < least s.tree → Step N s call (Refuse NoNumber) s
-      new_no_number all = step_made (Refuse NoNumber) s (an_allowed ∙ refuses s (nat_lt 4095 (least s.tree)) (Refuse NoNumber) from_space made (below 4095 (least s.tree) all))
+      new_no_number all = step_made (Refuse NoNumber) s
+          (an_allowed ∙ refuses s (nat_lt 4095 (least s.tree)) (Refuse NoNumber) from_space made (below 4095 (least s.tree) all))
 
       module _ (number : least s.tree ≤ 4095) where
         a_number : outcome N s call (At d) (At 1) ≡ checked s from_space made
-        a_number = an_allowed ∙ passes s (nat_lt 4095 (least s.tree)) (Refuse NoNumber) from_space made (not_below 4095 (least s.tree) number)
+        a_number = an_allowed
+            ∙ passes s (nat_lt 4095 (least s.tree)) (Refuse NoNumber) from_space made (not_below 4095 (least s.tree) number)
 
         pub new_no_space : 47 * N < need grown → Step N s call (Refuse NoSpace) s
-        new_no_space lacks = step_made (Refuse NoSpace) s (a_number ∙ refuses s (nat_lt (47 * N) (need grown)) (Refuse NoSpace) [] made (below (47 * N) (need grown) lacks))
+        new_no_space lacks = step_made (Refuse NoSpace) s
+            (a_number ∙ refuses s (nat_lt (47 * N) (need grown)) (Refuse NoSpace) [] made (below (47 * N) (need grown) lacks))
 
         pub new_done : need grown ≤ 47 * N → Step N s call e.answer with_entry
-        new_done room = step_made e.answer with_entry (a_number ∙ passes s (nat_lt (47 * N) (need grown)) (Refuse NoSpace) [] made (not_below (47 * N) (need grown) room))
+        new_done room = step_made e.answer with_entry
+            (a_number ∙ passes s (nat_lt (47 * N) (need grown)) (Refuse NoSpace) [] made (not_below (47 * N) (need grown) room))

@@ -1,5 +1,6 @@
 -- What a volume's log map says of the nodes of its tree: files that handles give, what stat tells, the ends of walks, and the need.
-use Rattle.std.proofs.Common.{◌≡◌, ◌≢◌, ◌≤◌, ◌+◌, ◌*◌, ◌/◌, ◌%◌, ℕ, zero, suc, Bool, true, false, List, [], length, Option, Some, None, refl, sym, ◌∙◌, ap, arith, subst}
+use Rattle.std.proofs.Common.{◌≡◌, ◌≢◌, ◌≤◌, ◌+◌, ◌*◌, ◌/◌, ◌%◌, ℕ, zero, suc, Bool, true, false, List, [], length, Option, Some, None}
+use Rattle.std.proofs.Common.{refl, sym, ◌∙◌, ap, arith, subst}
 use Rattle.std.specs.Prelude.{MatchOption, if◌then◌else◌, unwrap_or}
 use Rattle.std.specs.Ordering.{nat_cmp}
 use Rattle.std.specs.FinMap.{find}
@@ -18,7 +19,8 @@ use Rattle.lfs_model.specs.Step.{kind_of, room, size_of, stat_of, the_node}
 use Rattle.lfs_model.specs.Tree.{Node, File, Link, State, Tree, is_dir, links, node, slot_len}
 use Rattle.lfs_model.specs.TreeOf.{map_of, node_by, node_of, object, slots, tree_in}
 use Rattle.lfs_model.specs.Volume.{IsLogOf}
-use Rattle.lfs_model.specs.Walk.{Walk, no_piece, stays, goes_up, too_long, not_there, directory, file, not_dir, link, loops, followed, start, End, At, Refused, Resolve}
+use Rattle.lfs_model.specs.Walk.{Walk, no_piece, stays, goes_up, too_long, not_there, directory, file, not_dir, link, loops, followed}
+use Rattle.lfs_model.specs.Walk.{start, End, At, Refused, Resolve}
 use Rattle.lfs_model.proofs.ObjectTrees.{no_header_no_node}
 use Rattle.lfs_model.proofs.Parents.{up_dir}
 use Rattle.lfs_model.proofs.Standing.{object_length, slots_length}
@@ -75,7 +77,8 @@ module _ (N : ℕ) (m : LogMap) (s : State) (log : IsLogOf N m s) where
     where
       by : (o : Option Header) → m.header n ≡ o → (h : Header) × (m.header n ≡ Some h) × (node_by m h.kind n h ≡ x)
       by None none = absurd (let both : None ≡ Some x = sym (no_header_none n none) ∙ is in cc)
-      by (Some h) there = (h, there, (let both : Some (node_by m h.kind n h) ≡ Some x = sym (node_by_header n h (number_of n x is) there) ∙ is in cc))
+      by (Some h) there =
+          (h, there, (let both : Some (node_by m h.kind n h) ≡ Some x = sym (node_by_header n h (number_of n x is) there) ∙ is in cc))
 
   -- ---- files
   pub file_of : (n : ℕ) → IsFile (node s.tree n) → IsFileOf m s.tree n
@@ -143,12 +146,14 @@ module _ (N : ℕ) (s : State) (sound : Sound N s) where
   IsThere (Refused r) = Unit {0}
 
   start_dir : (text : List ℕ) (d : ℕ) → is_dir (node s.tree d) ≡ true → is_dir (node s.tree (start text d)) ≡ true
-  start_dir text d dir = elim (from_root text) as (λ b. is_dir (node s.tree (if b then 1 else d)) ≡ true) [ true ↦ sound.root | false ↦ dir ]
+  start_dir text d dir = elim (from_root text) as (λ b. is_dir (node s.tree (if b then 1 else d)) ≡ true)
+      [ true ↦ sound.root | false ↦ dir ]
 
   some_there : (n : ℕ) (x : Node) → node s.tree n ≡ Some x → node s.tree n ≢ None
   some_there n x is none = let both : None ≡ Some x = sym none ∙ is in cc
 
-  pub walk_there : {follow : Bool} {d : ℕ} {ps : List (List ℕ)} {slashed : Bool} {k : ℕ} {e : End} → Walk s.tree follow d ps slashed k e → is_dir (node s.tree d) ≡ true → IsThere e
+  pub walk_there : {follow : Bool} {d : ℕ} {ps : List (List ℕ)} {slashed : Bool} {k : ℕ} {e : End} → Walk s.tree follow d ps slashed k e
+      → is_dir (node s.tree d) ≡ true → IsThere e
   walk_there (no_piece {d = d}) dir = dir_there s.tree d dir
   walk_there (stays is w) dir = walk_there w dir
   walk_there (goes_up {d = d} is w) dir = walk_there w (up_dir s.tree sound.in_order sound.root d)
@@ -164,7 +169,8 @@ module _ (N : ℕ) (s : State) (sound : Sound N s) where
   pub resolved_there : (p : List ℕ) (follow : Bool) (n : ℕ) → Resolve s.tree p follow (At n) → node s.tree n ≢ None
   resolved_there p follow n walk = by (text_refusal p) walk
     where
-      by : (o : Option Refusal) → MatchOption o (Walk s.tree follow 1 (comps p) (slash p) 0 (At n)) (λ r. At n ≡ Refused r) → node s.tree n ≢ None
+      by : (o : Option Refusal) → MatchOption o (Walk s.tree follow 1 (comps p) (slash p) 0 (At n)) (λ r. At n ≡ Refused r)
+          → node s.tree n ≢ None
       by None w = walk_there w sound.root
       by (Some r) e = absurd (cc)
 
@@ -181,7 +187,8 @@ pub shape_of : (N : ℕ) (m : LogMap) (s : State) → IsMapOf N m s → ((n : �
 shape_of N m s is fits = record {
   map = is.map;
   long = is.long;
-  directories = λ n h there dir. (let formed = is.log.formed n h there dir in record { whole = (fits n h there).slots dir; formed = formed.0; apart = formed.1 });
+  directories = λ n h there dir.
+      (let formed = is.log.formed n h there dir in record { whole = (fits n h there).slots dir; formed = formed.0; apart = formed.1 });
 }
 
 -- what its tree needs, by its totals
@@ -200,14 +207,17 @@ room_shaped totals N m s is shaped blocks others counted =
     let needs = (need_shaped totals m shaped blocks others counted).0 in
     subst (λ (x : ℕ). x ≤ 47 * N) (ap need is.log.is ∙ needs) is.log.sound.room
 
-pub need_counted : TotalsOfTree → (N : ℕ) (m : LogMap) (s : State) → IsMapOf N m s → ((n : ℕ) (h : Header) → m.header n ≡ Some h → IsHeaderOf n h)
-    → (blocks others : ℕ) → IsCounted m blocks others → (need s.tree ≡ blocks + 7 * others + 720) × (data_blocks s.tree ≡ blocks) × (meta_blocks s.tree ≡ others)
+pub need_counted : TotalsOfTree → (N : ℕ) (m : LogMap) (s : State) → IsMapOf N m s
+    → ((n : ℕ) (h : Header) → m.header n ≡ Some h → IsHeaderOf n h)
+    → (blocks others : ℕ) → IsCounted m blocks others → (need s.tree ≡ blocks + 7 * others + 720) × (data_blocks s.tree ≡ blocks)
+    × (meta_blocks s.tree ≡ others)
 need_counted totals N m s is fits blocks others counted =
     let all = need_shaped totals m (shape_of N m s is fits) blocks others counted in
     (ap need is.log.is ∙ all.0, ap data_blocks is.log.is ∙ all.1, ap meta_blocks is.log.is ∙ all.2)
 
 -- so what space tells
-pub room_counted : TotalsOfTree → (N : ℕ) (m : LogMap) (s : State) → IsMapOf N m s → ((n : ℕ) (h : Header) → m.header n ≡ Some h → IsHeaderOf n h)
+pub room_counted : TotalsOfTree → (N : ℕ) (m : LogMap) (s : State) → IsMapOf N m s
+    → ((n : ℕ) (h : Header) → m.header n ≡ Some h → IsHeaderOf n h)
     → (blocks others : ℕ) → IsCounted m blocks others → room N s.tree ≡ Room blocks others (blocks + 7 * others + 720) (47 * N)
 room_counted totals N m s is fits blocks others counted =
     let all = need_counted totals N m s is fits blocks others counted in

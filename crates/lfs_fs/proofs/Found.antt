@@ -17,7 +17,8 @@ use Rattle.lfs_fs.proofs.Serving.{point_of}
 
 -- ---- a mount
 
-module _ {D : Type 0} (state : D → DeviceState) (d : D) (v : Mounted D) (mounts : MountsStore state d v.log v.saved) (keeps : (state v.log.device).keeps_model) (s : State)
+module _ {D : Type 0} (state : D → DeviceState) (d : D) (v : Mounted D) (mounts : MountsStore state d v.log v.saved)
+    (keeps : (state v.log.device).keeps_model) (s : State)
     (is : Stands (state d).content s) (all : AllByRecursion IsSector (state d).content) where
   -- the log map that the device stands for
   abbrev found_log : StandsLog (state d).content is.log
@@ -48,7 +49,8 @@ module _ {D : Type 0} (state : D → DeviceState) (d : D) (v : Mounted D) (mount
   }
 
   -- where a stop leaves what was there
-  pub found_at : handles_of v.table ≡ [] → IsCounted is.log v.blocks v.others → v.saved ≡ true → Only (state d).content (state v.log.device) → IsAt state v (point_of state v s)
+  pub found_at : handles_of v.table ≡ [] → IsCounted is.log v.blocks v.others → v.saved ≡ true → Only (state d).content (state v.log.device)
+      → IsAt state v (point_of state v s)
   found_at closed counted saved only = record {
     halted = refl;
     number = refl;

@@ -29,13 +29,15 @@ module _ {D : Type 0} (state : D → DeviceState) (a b : Store D) where
   pub adds_grow : (h k : ℕ) → GrowsDirectory (files_of state a) (files_of state b) h k → GrowsBy a.draft.changes b.draft.changes h k
   adds_grow h k is = record { headers = is.headers; blocks = is.blocks }
 
-  pub takes_grow : (d : ℕ) (head : Header) (name : List ℕ) → Takes (files_of state a) (files_of state b) d head name → GrowsBy a.draft.changes b.draft.changes 2 2
+  pub takes_grow : (d : ℕ) (head : Header) (name : List ℕ) → Takes (files_of state a) (files_of state b) d head name
+      → GrowsBy a.draft.changes b.draft.changes 2 2
   takes_grow d head name is = record { headers = is.drops.headers; blocks = is.drops.blocks }
 
 -- ---- bytes of files
 module _ {D : Type 0} (state : D → DeviceState) (h h' : Held D) where
   -- a link's text
-  pub text_grows : (c c' : Changes) (n : ℕ) (head : Header) (text : List ℕ) → length text ≤ 1023 → Writes state h h' c c' n head 0 text → GrowsBy c c' 1 2
+  pub text_grows : (c c' : Changes) (n : ℕ) (head : Header) (text : List ℕ) → length text ≤ 1023 → Writes state h h' c c' n head 0 text
+      → GrowsBy c c' 1 2
   text_grows c c' n head text few is = record {
     headers = is.headers;
     blocks = let more = is.blocks in omega (arith, more, few);
@@ -46,11 +48,14 @@ module _ {D : Type 0} (state : D → DeviceState) (h h' : Held D) where
   cut_fits c n head len is = let room = room_few c 1 1 is.headers is.blocks in omega (arith, room)
 
 -- ---- a draft has room that was begun empty
-pub begun_fits : (begun read : Draft) (c : Changes) (h k : ℕ) → 2 * h + 4 * k ≤ 452 → IsNoChange begun.changes → read ≡ begun → GrowsBy read.changes c h k → room_for c ≤ 456
-begun_fits begun read c h k low none same grows = grown_fits read.changes c h k low (subst (λ (d : Draft). IsNoChange d.changes) (sym same) none) grows
+pub begun_fits : (begun read : Draft) (c : Changes) (h k : ℕ) → 2 * h + 4 * k ≤ 452 → IsNoChange begun.changes → read ≡ begun
+    → GrowsBy read.changes c h k → room_for c ≤ 456
+begun_fits begun read c h k low none same grows =
+    grown_fits read.changes c h k low (subst (λ (d : Draft). IsNoChange d.changes) (sym same) none) grows
 
 -- a fault of memory comes of a draft that asks for more
-pub never_large : (fault : StoreFault) (e : FsError) (n : ℕ) → e ≡ error_of_store fault → n ≤ 456 → (fault ≡ store.NoMemory → 456 < n) → e ≡ error.NoMemory → ⊥
+pub never_large : (fault : StoreFault) (e : FsError) (n : ℕ) → e ≡ error_of_store fault → n ≤ 456 → (fault ≡ store.NoMemory → 456 < n)
+    → e ≡ error.NoMemory → ⊥
 never_large store.NoMemory e n is low large memory = let high = large refl in omega (arith, low, high)
 never_large (store.Log log.Full) e n is low large memory = let other : e ≡ error.Device = is in cc
 never_large (store.Log log.Device) e n is low large memory = let other : e ≡ error.Device = is in cc

@@ -1,5 +1,6 @@
 -- A table of numbers and the handles that it stands for.
-use Rattle.std.proofs.Common.{◌≡◌, ◌≢◌, refl, sym, ap, subst, ◌∙◌, ℕ, zero, suc, ◌+◌, ◌<◌, ◌≤◌, Bool, true, false, List, [], ◌∷◌, Some, None, length, get_or, cond, eqb, arith, inl, inr, replicate, append-nil}
+use Rattle.std.proofs.Common.{◌≡◌, ◌≢◌, refl, sym, ap, subst, ◌∙◌, ℕ, zero, suc, ◌+◌, ◌<◌, ◌≤◌, Bool, true, false, List, [], ◌∷◌, Some}
+use Rattle.std.proofs.Common.{None, length, get_or, cond, eqb, arith, inl, inr, replicate, append-nil}
 use Rattle.std.specs.Prelude.{T, ◌==◌, slice_set}
 use Rattle.std.specs.List.{refill}
 use Rattle.std.proofs.lemmas.List.{length-set, drop_all, take_all}
@@ -32,7 +33,8 @@ find_from a zero (n ∷ ns) =
     let none : find nat_cmp (a + 0) (handles_from (a + 1) ns) ≡ None = none_below (a + 0) (a + 1) ns (omega arith) in
     let at : a + 0 ≡ a = omega arith in
     let here = cmp_same a in
-    elim (n == 0) as (λ b. find nat_cmp (a + 0) (cond b (handles_from (a + 1) ns) ((a, n) ∷ handles_from (a + 1) ns)) ≡ cond b None (Some n)) [
+    elim (n == 0)
+    as (λ b. find nat_cmp (a + 0) (cond b (handles_from (a + 1) ns) ((a, n) ∷ handles_from (a + 1) ns)) ≡ cond b None (Some n)) [
       | true ↦ none
       | false ↦ rw (at, here) refl
     ]
@@ -40,7 +42,8 @@ find_from a (suc i) (n ∷ ns) =
     let at : a + suc i ≡ a + 1 + i = omega arith in
     let rest : find nat_cmp (a + suc i) (handles_from (a + 1) ns) ≡ number_at (get_or ns i 0) = rw at (find_from (a + 1) i ns) in
     let no = cmp_other (a + suc i) a (omega arith) in
-    elim (n == 0) as (λ b. find nat_cmp (a + suc i) (cond b (handles_from (a + 1) ns) ((a, n) ∷ handles_from (a + 1) ns)) ≡ number_at (get_or ns i 0)) [
+    elim (n == 0) as (λ b. find nat_cmp (a + suc i) (cond b (handles_from (a + 1) ns) ((a, n) ∷ handles_from (a + 1) ns))
+    ≡ number_at (get_or ns i 0)) [
       | true ↦ rest
       | false ↦ rw no rest
     ]
@@ -48,7 +51,8 @@ find_from a (suc i) (n ∷ ns) =
 -- a handle's number is the one at its place
 pub find_handle : (h : ℕ) (ns : List ℕ) → find nat_cmp h (handles_of ns) ≡ number_at (get_or ns h 0)
 unfolding handles_of
-find_handle h ns = let at : 0 + h ≡ h = omega arith in subst (λ (k : ℕ). find nat_cmp k (handles_from 0 ns) ≡ number_at (get_or ns h 0)) at (find_from 0 h ns)
+find_handle h ns = let at : 0 + h ≡ h = omega arith in
+    subst (λ (k : ℕ). find nat_cmp k (handles_from 0 ns) ≡ number_at (get_or ns h 0)) at (find_from 0 h ns)
 
 pub find_open : (h n : ℕ) (ns : List ℕ) → n ≢ 0 → n ≡ get_or ns h 0 → find nat_cmp h (handles_of ns) ≡ Some n
 find_open h n ns some is =
@@ -106,7 +110,8 @@ put_front k b n [] lt = refl
 put_front k b n (m ∷ ns) lt =
     let rest = put_front k (b + 1) n ns (omega arith) in
     let less : nat_cmp k b ≡ Less = sym (nat_cmp_is k b Less lt) in
-    elim (m == 0) as (λ c. put nat_cmp k n (cond c (handles_from (b + 1) ns) ((b, m) ∷ handles_from (b + 1) ns)) ≡ (k, n) ∷ cond c (handles_from (b + 1) ns) ((b, m) ∷ handles_from (b + 1) ns)) [
+    elim (m == 0) as (λ c. put nat_cmp k n (cond c (handles_from (b + 1) ns) ((b, m) ∷ handles_from (b + 1) ns)) ≡ (k, n)
+    ∷ cond c (handles_from (b + 1) ns) ((b, m) ∷ handles_from (b + 1) ns)) [
       | true ↦ rest
       | false ↦ rw less refl
     ]
@@ -119,23 +124,27 @@ put_from a zero n (m ∷ ns) some lt =
     let tie : nat_cmp a a ≡ Equal = sym (nat_cmp_is a a Equal refl) in
     let new = put_front a (a + 1) n ns (omega arith) in
     let is : put nat_cmp a n (handles_from a (m ∷ ns)) ≡ (a, n) ∷ handles_from (a + 1) ns =
-    elim (m == 0) as (λ c. put nat_cmp a n (cond c (handles_from (a + 1) ns) ((a, m) ∷ handles_from (a + 1) ns)) ≡ (a, n) ∷ handles_from (a + 1) ns) [
+    elim (m == 0)
+    as (λ c. put nat_cmp a n (cond c (handles_from (a + 1) ns) ((a, m) ∷ handles_from (a + 1) ns)) ≡ (a, n) ∷ handles_from (a + 1) ns) [
       | true ↦ new
       | false ↦ rw tie refl
     ] in
     rw (at, no) is
 put_from a (suc i) n (m ∷ ns) some lt =
     let at : a + suc i ≡ a + 1 + i = omega arith in
-    let rest : put nat_cmp (a + suc i) n (handles_from (a + 1) ns) ≡ handles_from (a + 1) (slice_set ns i n) = rw at (put_from (a + 1) i n ns some (omega arith)) in
+    let rest : put nat_cmp (a + suc i) n (handles_from (a + 1) ns) ≡ handles_from (a + 1) (slice_set ns i n) =
+    rw at (put_from (a + 1) i n ns some (omega arith)) in
     let more : nat_cmp (a + suc i) a ≡ Greater = sym (nat_cmp_is (a + suc i) a Greater (omega arith)) in
-    elim (m == 0) as (λ c. put nat_cmp (a + suc i) n (cond c (handles_from (a + 1) ns) ((a, m) ∷ handles_from (a + 1) ns)) ≡ cond c (handles_from (a + 1) (slice_set ns i n)) ((a, m) ∷ handles_from (a + 1) (slice_set ns i n))) [
+    elim (m == 0) as (λ c. put nat_cmp (a + suc i) n (cond c (handles_from (a + 1) ns) ((a, m) ∷ handles_from (a + 1) ns))
+    ≡ cond c (handles_from (a + 1) (slice_set ns i n)) ((a, m) ∷ handles_from (a + 1) (slice_set ns i n))) [
       | true ↦ rest
       | false ↦ rw more (ap (λ (hs : Handles). (a, m) ∷ hs) rest)
     ]
 
 put_handle : (h n : ℕ) (ns : List ℕ) → n ≢ 0 → h < length ns → handles_of (slice_set ns h n) ≡ put nat_cmp h n (handles_of ns)
 unfolding handles_of
-put_handle h n ns some lt = let at : 0 + h ≡ h = omega arith in subst (λ (k : ℕ). handles_from 0 (slice_set ns h n) ≡ put nat_cmp k n (handles_from 0 ns)) at (sym (put_from 0 h n ns some lt))
+put_handle h n ns some lt = let at : 0 + h ≡ h = omega arith in
+    subst (λ (k : ℕ). handles_from 0 (slice_set ns h n) ≡ put nat_cmp k n (handles_from 0 ns)) at (sym (put_from 0 h n ns some lt))
 
 -- a table that is written back whole
 written_back : (ns : List ℕ) (h n : ℕ) → refill (length ns) ns (slice_set ns h n) ≡ slice_set ns h n
@@ -143,9 +152,11 @@ written_back ns h n =
     let long = length-set ns h n in
     rw (drop_all (length (slice_set ns h n)) ns (omega arith), append-nil) (take_all (length ns) (slice_set ns h n) (omega arith))
 
-pub put_back : (ns ms : List ℕ) (h n : ℕ) → n ≢ 0 → h < length ns → ms ≡ ns → handles_of (refill (length ns) ns (slice_set ms h n)) ≡ put nat_cmp h n (handles_of ns)
+pub put_back : (ns ms : List ℕ) (h n : ℕ) → n ≢ 0 → h < length ns → ms ≡ ns
+    → handles_of (refill (length ns) ns (slice_set ms h n)) ≡ put nat_cmp h n (handles_of ns)
 put_back ns ms h n some lt same =
-    ap (λ (xs : List ℕ). handles_of (refill (length ns) ns (slice_set xs h n))) same ∙ ap (λ (xs : List ℕ). handles_of xs) (written_back ns h n) ∙ put_handle h n ns some lt
+    ap (λ (xs : List ℕ). handles_of (refill (length ns) ns (slice_set xs h n))) same
+    ∙ ap (λ (xs : List ℕ). handles_of xs) (written_back ns h n) ∙ put_handle h n ns some lt
 
 -- ---- all handles
 

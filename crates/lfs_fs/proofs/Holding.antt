@@ -22,7 +22,8 @@ use Rattle.lfs_fs.proofs.PathSteps.{open_file, with_handle}
 
 -- ---- the log map of a volume
 
-module _ {D : Type 0} (state : D → DeviceState) (v : Mounted D) (k : CheckpointValue) (m0 m : LogMap) (s : State) (is : IsIn state v k m0 m s) where
+module _ {D : Type 0} (state : D → DeviceState) (v : Mounted D) (k : CheckpointValue) (m0 m : LogMap) (s : State)
+    (is : IsIn state v k m0 m s) where
   pub map_of_volume : IsMapOf (segments_of v) m s
   map_of_volume = let running = is.stores.holds.log.running in record {
     map = is.map;
@@ -46,7 +47,8 @@ module _ {D : Type 0} (state : D → DeviceState) (v : Mounted D) (k : Checkpoin
 
 -- ---- the volume after a call
 
-module _ {D : Type 0} (state : D → DeviceState) (old new : Mounted D) (k : CheckpointValue) (m0 m : LogMap) (s : State) (is : IsIn state old k m0 m s) where
+module _ {D : Type 0} (state : D → DeviceState) (old new : Mounted D) (k : CheckpointValue) (m0 m : LogMap) (s : State)
+    (is : IsIn state old k m0 m s) where
   -- the acknowledged map is a tree's still
   saved_tree : (next : LogMap) → (next ≡ m0) ⊎ (next ≡ dropped m) → IsTree (segments_of old) next
   saved_tree next either = ⊎_elim
@@ -54,8 +56,10 @@ module _ {D : Type 0} (state : D → DeviceState) (old new : Mounted D) (k : Che
       (λ (e : next ≡ dropped m). subst (IsTree (segments_of old)) (sym e) (dropped_tree (segments_of old) m s is.log).tree)
       either
 
-  pub runs_over : (m' : LogMap) (next : State) → StoresOver state k.segments m0 m new.log new.saved m' → segments_of new ≡ segments_of old → IsMapOf (segments_of old) m' next
-      → next.handles ≡ handles_of new.table → IsCounted m' new.blocks new.others → (new.saved ≡ false → HasClean new.log × (new.log.number ≤ 2 ^ 62 + segments_of new / 8)) → Runs state new next
+  pub runs_over : (m' : LogMap) (next : State) → StoresOver state k.segments m0 m new.log new.saved m' → segments_of new ≡ segments_of old
+      → IsMapOf (segments_of old) m' next
+      → next.handles ≡ handles_of new.table → IsCounted m' new.blocks new.others
+      → (new.saved ≡ false → HasClean new.log × (new.log.number ≤ 2 ^ 62 + segments_of new / 8)) → Runs state new next
   runs_over m' next over same map handles counted ready = record {
     checkpoint = over.checkpoint;
     saved = over.acknowledged;
@@ -74,7 +78,8 @@ module _ {D : Type 0} (state : D → DeviceState) (old new : Mounted D) (k : Che
 -- ---- open
 
 -- a handle more leaves the log map
-pub opened_map : (N : ℕ) (m : LogMap) (s : State) → IsMapOf N m s → (p : List ℕ) (n : ℕ) (walk : Resolve s.tree p true (At n)) → is_dir (node s.tree n) ≡ false → least_handle s.handles < 64
+pub opened_map : (N : ℕ) (m : LogMap) (s : State) → IsMapOf N m s → (p : List ℕ) (n : ℕ) (walk : Resolve s.tree p true (At n))
+    → is_dir (node s.tree n) ≡ false → least_handle s.handles < 64
     → IsMapOf N m (with_handle N s p n walk)
 opened_map N m s is p n walk file some = record {
   map = is.map;

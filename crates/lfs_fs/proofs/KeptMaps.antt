@@ -1,6 +1,7 @@
 -- What the log map of a volume keeps through each step of a draft, whatever state it is of, and
 -- what becomes of links.
-use Rattle.std.proofs.Common.{◌≡◌, ◌≢◌, ◌⊎◌, inl, inr, ◌<◌, ◌≤◌, ◌+◌, ◌*◌, ◌/◌, ◌%◌, ℕ, Bool, true, false, List, length, map, take, drop, slice_index, Some, None, refl, sym, ◌∙◌, ap, subst, cond, ⊎_elim, arith}
+use Rattle.std.proofs.Common.{◌≡◌, ◌≢◌, ◌⊎◌, inl, inr, ◌<◌, ◌≤◌, ◌+◌, ◌*◌, ◌/◌, ◌%◌, ℕ, Bool, true, false, List, length, map, take, drop}
+use Rattle.std.proofs.Common.{slice_index, Some, None, refl, sym, ◌∙◌, ap, subst, cond, ⊎_elim, arith}
 use Rattle.std.specs.Prelude.{◌==◌}
 use Rattle.std.specs.List.{AllByRecursion, range_with_len}
 use Rattle.std.specs.FinMap.{put}

@@ -29,7 +29,8 @@ module _ {D : Type 0} (state : D → DeviceState) where
 
   module _ (lawful : (d : D) → IsLawful (state d)) where
     -- a line that does nothing
-    stays : (N : ℕ) (v : Mounted D) (line : Line) (answer : Answer) (p : Point) → IsAt state v p → LineAnswers N line p answer p → (acknowledges (call_of line) answer ≡ true → ⊥)
+    stays : (N : ℕ) (v : Mounted D) (line : Line) (answer : Answer) (p : Point) → IsAt state v p → LineAnswers N line p answer p
+        → (acknowledges (call_of line) answer ≡ true → ⊥)
         → StepsLine N v v line answer p
     stays N v line answer p at does none = record {
       next = p;
@@ -40,7 +41,8 @@ module _ {D : Type 0} (state : D → DeviceState) where
     }
 
     -- one of a volume that was halted
-    line_halted : (N : ℕ) (v : Mounted D) (line : Line) (p : Point) → IsAt state v p → v.log.halted ≡ true → StepsLine N v v line (Refuse Halted) p
+    line_halted : (N : ℕ) (v : Mounted D) (line : Line) (p : Point) → IsAt state v p → v.log.halted ≡ true
+        → StepsLine N v v line (Refuse Halted) p
     line_halted N v line p at was = stays N v line (Refuse Halted) p at
         (inl (record {
           steps = inr (Halted, refl, inl (at.halted ∙ was), refl);
@@ -57,12 +59,14 @@ module _ {D : Type 0} (state : D → DeviceState) where
 
     module _ (old new : Mounted D) (line : Line) (answer : Answer) where
       -- the line's call
-      line_served : (N : ℕ) (p : Point) → (old.log.halted ≡ false → segments_of old ≡ N) → (state new.log.device).keeps_model → IsAt state old p → Serves state old new (call_of line) answer
+      line_served : (N : ℕ) (p : Point) → (old.log.halted ≡ false → segments_of old ≡ N) → (state new.log.device).keeps_model
+          → IsAt state old p → Serves state old new (call_of line) answer
           → StepsLine N old new line answer p
       line_served N p same keeps at serves = elim old.log.halted as (λ b. old.log.halted ≡ b → StepsLine N old new line answer p) [
         | true ↦ λ was. (
             let none = serves.orderly was in
-            subst (λ (v : Mounted D). StepsLine N old v line answer p) (sym none.1) (subst (λ (a : Answer). StepsLine N old old line a p) (sym none.0) (line_halted N old line p at was)))
+            subst (λ (v : Mounted D). StepsLine N old v line answer p) (sym none.1)
+            (subst (λ (a : Answer). StepsLine N old old line a p) (sym none.0) (line_halted N old line p at was)))
         | false ↦ λ was. (
             let served = serves.model p keeps at in record {
               next = served.next;
@@ -74,16 +78,19 @@ module _ {D : Type 0} (state : D → DeviceState) where
       ] refl
 
       -- a line, its call made or not
-      pub line_steps : (N : ℕ) (p : Point) → (old.log.halted ≡ false → segments_of old ≡ N) → (state new.log.device).keeps_model → IsAt state old p → ServesLine state old new line answer
+      pub line_steps : (N : ℕ) (p : Point) → (old.log.halted ≡ false → segments_of old ≡ N) → (state new.log.device).keeps_model
+          → IsAt state old p → ServesLine state old new line answer
           → StepsLine N old new line answer p
       line_steps N p same keeps at (inl serves) = line_served N p same keeps at serves
       line_steps N p same keeps at (inr none) =
           subst (λ (v : Mounted D). StepsLine N old v line answer p) (sym none.2)
-          (stays N old line answer p at (inr (none.0, none.1, refl)) (λ e. not_acknowledged (call_of line) NoMemory (subst (λ (a : Answer). acknowledges (call_of line) a ≡ true) none.1 e)))
+          (stays N old line answer p at (inr (none.0, none.1, refl))
+          (λ e. not_acknowledged (call_of line) NoMemory (subst (λ (a : Answer). acknowledges (call_of line) a ≡ true) none.1 e)))
 
       pub line_carries : ServesLine state old new line answer → Carries (state old.log.device) (state new.log.device)
       line_carries (inl serves) = serves.carries
-      line_carries (inr none) = subst (λ (v : Mounted D). Carries (state old.log.device) (state v.log.device)) (sym none.2) (carries_none (state old.log.device))
+      line_carries (inr none) =
+          subst (λ (v : Mounted D). Carries (state old.log.device) (state v.log.device)) (sym none.2) (carries_none (state old.log.device))
 
       -- what runs after it ran before it
       served_running : Serves state old new (call_of line) answer → new.log.halted ≡ false → old.log.halted ≡ false

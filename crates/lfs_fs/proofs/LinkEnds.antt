@@ -1,5 +1,6 @@
 -- A further name that was drafted, as a step of the model.
-use Rattle.std.proofs.Common.{◌≡◌, ◌<◌, ◌≤◌, ◌+◌, ◌*◌, ℕ, true, false, List, length, Option, Some, None, Result, refl, sym, ◌∙◌, ap, subst, ⊎_elim, arith, inl, inr}
+use Rattle.std.proofs.Common.{◌≡◌, ◌<◌, ◌≤◌, ◌+◌, ◌*◌, ℕ, true, false, List, length, Option, Some, None, Result, refl, sym, ◌∙◌, ap, subst}
+use Rattle.std.proofs.Common.{⊎_elim, arith, inl, inr}
 use Rattle.std.specs.Prelude.{IfErr, OnOk, max}
 use Rattle.std.specs.FinMap.{find}
 use Rattle.lfs_model.specs.Call.{Done, LinkTo, Refuse}

@@ -107,11 +107,6 @@ module _ {D : Type 0} (state : D → DeviceState) (lawful : (d : D) → IsLawful
   link_no_piece = rule.no_piece_exists state lawful v old b d (LinkTo a b) false asks piece reached
       running
 
-  -- no directory has number 0
-  pub link_zero : d ≡ 0 → Serves state v (seen old) (LinkTo a b) (Refuse refusals.Device)
-  link_zero = rule.no_number_zero state lawful v old b d (LinkTo a b) false asks piece reached
-      running
-
   module _ (l : Last) (is_last : piece ≡ Some l) (mid : Fs D) (only : OnlyReads state old mid) where
     -- the directory doesn't take the entry
     pub link_entry_refused : (fault : FsError)

@@ -14,7 +14,8 @@ use Rattle.lfs_model.specs.TreeOf.{tree_in}
 use Rattle.lfs_model.proofs.Keeps.{parent_dir}
 use Rattle.lfs_model.proofs.Makes.{dir_at, not_some}
 use Rattle.lfs_fs.proofs.InDirectories.{directory_kind}
-use Rattle.lfs_fs.proofs.KeptMaps.{HasHolder, map_by, relinked_kept, relinked_tree, relinked_shifts, written_kept, written_tree, written_shifts}
+use Rattle.lfs_fs.proofs.KeptMaps.{HasHolder, map_by, relinked_kept, relinked_tree, relinked_shifts, written_kept, written_tree}
+use Rattle.lfs_fs.proofs.KeptMaps.{written_shifts}
 use Rattle.lfs_model.specs.Changing.{IsWithHeader}
 use Rattle.lfs_model.proofs.Shrinking.{named_counts}
 use Rattle.lfs_model.proofs.Naming.{leaf_names_are}

@@ -55,7 +55,8 @@ module _ (N : ℕ) (m : LogMap) (s : State) (log : IsLogOf N m s) where
   rows_are zero a low high = sym (rows_none s.tree a)
   rows_are (suc count) a low high =
       with_rows s.tree a (node_of m a (m.header a)) (nodes_from m count (a + 1))
-      ∙ ap (λ (o : Option Node). rows_by s.tree a o ++ flat_map (node_rows s.tree) (nodes_from m count (a + 1))) (sym (node_is N m s log a (low, omega (arith, high))))
+      ∙ ap (λ (o : Option Node). rows_by s.tree a o ++ flat_map (node_rows s.tree) (nodes_from m count (a + 1)))
+      (sym (node_is N m s log a (low, omega (arith, high))))
       ∙ ap (λ (rows : List TreeRow). rows_at s.tree a ++ rows) (rows_are count (a + 1) (omega (arith, low)) (omega (arith, high)))
       ∙ sym (rows_one s.tree count a)
 

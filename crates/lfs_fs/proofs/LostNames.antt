@@ -1,5 +1,6 @@
 -- An object that loses a name has a link less, or goes: in the log map, and in the tree.
-use Rattle.std.proofs.Common.{◌≡◌, ◌≢◌, ◌⊎◌, ◌≤◌, ◌∙◌, ◌+◌, ◌-◌, ◌&&◌, not, ℕ, Bool, true, false, Option, Some, None, refl, sym, ap, inl, inr, ⊎_elim, arith}
+use Rattle.std.proofs.Common.{◌≡◌, ◌≢◌, ◌⊎◌, ◌≤◌, ◌∙◌, ◌+◌, ◌-◌, ◌&&◌, not, ℕ, Bool, true, false, Option, Some, None, refl, sym, ap, inl}
+use Rattle.std.proofs.Common.{inr, ⊎_elim, arith}
 use Rattle.lfs_model.specs.declared.Kind.TheVariants as kind
 use Rattle.lfs_model.specs.Entry as entry
 use Rattle.std.specs.Prelude.{◌==◌, if◌then◌else◌}

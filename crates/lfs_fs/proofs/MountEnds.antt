@@ -37,20 +37,31 @@ state_found c t has =
     let m = has.tables.held.log in
     let k = has.tables.held.checkpoint in (
       record { tree = tree_in m; handles = []; version = layout_version k },
-      record { checkpoint = k; log = m; found = has.tables.held.newest; stands = has.tables.stands; tree = has.tree; version = refl; closed = refl },
+      record {
+        checkpoint = k;
+        log = m;
+        found = has.tables.held.newest;
+        stands = has.tables.stands;
+        tree = has.tree;
+        version = refl;
+        closed = refl;
+      },
     )
 
 -- ---- the volume behind it
-module _ {D : Type 0} (state : D → DeviceState) (d d' : D) (lawful : IsLawful (state d)) (looks : Looks (state d) (state d')) (v : Fs D) (same : v.store.log.device ≡ d')
+module _ {D : Type 0} (state : D → DeviceState) (d d' : D) (lawful : IsLawful (state d)) (looks : Looks (state d) (state d')) (v : Fs D)
+    (same : v.store.log.device ≡ d')
     (stores : MountsStore state d' v.store.log v.store.saved) (counts : MountsTotals state d' v.store.log v.store.log.totals)
     (durable : (state d').keeps_model → Only (state d).content (state d')) where
   stores_first : MountsStore state d v.store.log v.store.saved
   stores_first =
-      subst (λ (c : Content). (m : LogMap) → (state v.store.log.device).keeps_model → (is : StandsLog c m) → Stores state v.store.log v.store.saved is.checkpoint m m) looks.untouched.content stores
+      subst (λ (c : Content). (m : LogMap) → (state v.store.log.device).keeps_model → (is : StandsLog c m)
+      → Stores state v.store.log v.store.saved is.checkpoint m m) looks.untouched.content stores
 
   counts_first : MountsTotals state d v.store.log v.store.log.totals
   counts_first =
-      subst (λ (c : Content). (m : LogMap) → (state v.store.log.device).keeps_model → StandsLog c m → AreTotals m v.store.log.totals) looks.untouched.content counts
+      subst (λ (c : Content). (m : LogMap) → (state v.store.log.device).keeps_model → StandsLog c m → AreTotals m v.store.log.totals)
+      looks.untouched.content counts
 
   -- all that was there is durable
   pub durable_now : (state v.store.log.device).keeps_model → Only (state d).content (state v.store.log.device)
@@ -64,7 +75,8 @@ module _ {D : Type 0} (state : D → DeviceState) (d d' : D) (lawful : IsLawful 
       same = refl;
       running = found_running state d (seen v) stores_first keeps s is lawful.now;
       at = found_at state d (seen v) stores_first keeps s is lawful.now closed
-          (counts_first is.log keeps (record { checkpoint = is.checkpoint; newest = is.found; stands = is.stands })) saved (durable_now keeps);
+          (counts_first is.log keeps (record { checkpoint = is.checkpoint; newest = is.found; stands = is.stands })) saved
+          (durable_now keeps);
     }
 
     -- and it stands for one

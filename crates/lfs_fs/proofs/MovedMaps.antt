@@ -1,7 +1,8 @@
 -- A name moved from one directory to another, from log map to log map: a draft changes the links
 -- of both directories, takes
 -- the name out of the first, and writes it into the second. The two may be one directory.
-use Rattle.std.proofs.Common.{◌≡◌, ◌≢◌, ◌⊎◌, ◌≤◌, ◌+◌, ℕ, List, [], Option, Some, None, refl, sym, ◌∙◌, ap, subst, ⊎_elim, arith, Bool, true, false, cond, eqb}
+use Rattle.std.proofs.Common.{◌≡◌, ◌≢◌, ◌⊎◌, ◌≤◌, ◌+◌, ℕ, List, [], Option, Some, None, refl, sym, ◌∙◌, ap, subst, ⊎_elim, arith, Bool}
+use Rattle.std.proofs.Common.{true, false, cond, eqb}
 use Rattle.std.specs.Prelude.{◌==◌, unwrap_or}
 use Rattle.std.specs.FinMap.{find, put}
 use Rattle.std.proofs.lemmas.Bool.Decides.{eqb_tells}
@@ -21,7 +22,8 @@ use Rattle.lfs_path.specs.dirs.Taking.{CutsSlot, TakesName, shrunk}
 use Rattle.lfs_path.proofs.of_dirs.InTrees.{directory_node}
 use Rattle.lfs_store.specs.Making.{relinked}
 use Rattle.lfs_fs.proofs.Files.{IsShaped}
-use Rattle.lfs_fs.proofs.KeptMaps.{HasHolder, Shifts, holder_directory, relinked_kept, relinked_shifts, relinked_tree, shifts_joined, taken_kept, taken_shifts, taken_tree, written_kept, written_shifts, written_tree}
+use Rattle.lfs_fs.proofs.KeptMaps.{HasHolder, Shifts, holder_directory, relinked_kept, relinked_shifts, relinked_tree, shifts_joined}
+use Rattle.lfs_fs.proofs.KeptMaps.{taken_kept, taken_shifts, taken_tree, written_kept, written_shifts, written_tree}
 use Rattle.lfs_fs.proofs.MovedNames.{nothing_at, only_at}
 use Rattle.lfs_fs.proofs.Slots.{slot_some}
 

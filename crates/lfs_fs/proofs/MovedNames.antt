@@ -1,5 +1,6 @@
 -- Trees with the names of a directory changed: how many names and links each node has then.
-use Rattle.std.proofs.Common.{◌≡◌, ◌≢◌, ◌+◌, ◌&&◌, ℕ, Bool, true, false, not, List, [], ◌∷◌, Option, Some, None, refl, sym, ◌∙◌, ap, subst, cond, ⊎_elim, eqb, arith}
+use Rattle.std.proofs.Common.{◌≡◌, ◌≢◌, ◌+◌, ◌&&◌, ℕ, Bool, true, false, not, List, [], ◌∷◌, Option, Some, None, refl, sym, ◌∙◌, ap, subst}
+use Rattle.std.proofs.Common.{cond, ⊎_elim, eqb, arith}
 use Rattle.std.specs.Prelude.{T, ◌==◌, count_by, sum_by, unwrap_or}
 use Rattle.std.proofs.Math.Path.{fun_ext}
 use Rattle.std.proofs.lemmas.Bool.{eq-eqb}
@@ -11,7 +12,8 @@ use Rattle.std.specs.Ordering.{nat_cmp, eq_by_cmp}
 use Rattle.std.specs.FinMap.{find, is_sorted, put}
 use Rattle.std.specs.FinMap.Entries.{is_sorted-where_key}
 use Rattle.lfs_model.specs.Objects.{one_if}
-use Rattle.lfs_model.specs.Tree.{Dir, File, Link, Names, Node, Tree, byte_cmp, entry, form_of, is_dir, links, links_at, names, names_in, names_of, node, with_name, with_node, without, without_name}
+use Rattle.lfs_model.specs.Tree.{Dir, File, Link, Names, Node, Tree, byte_cmp, entry, form_of, is_dir, links, links_at, names, names_in}
+use Rattle.lfs_model.specs.Tree.{names_of, node, with_name, with_node, without, without_name}
 use Rattle.lfs_model.proofs.Growing.{gives, same_or_not}
 use Rattle.lfs_model.proofs.Makes.{dir_at}
 use Rattle.lfs_model.proofs.Moves.{none_if}

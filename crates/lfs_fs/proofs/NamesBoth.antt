@@ -19,13 +19,15 @@ use Rattle.lfs_fs.proofs.NamesFound.{log_again, log_still}
 use Rattle.lfs_fs.proofs.PathEnds.{has_again}
 
 module _ {D : Type 0} (state : D → DeviceState) (old mid new : Fs D) (first : OnlyReads state old mid) where
-  name_again : (d : ℕ) (name : List ℕ) (head : Header) (found : Option Object) → FindsName state mid new d name head found → FindsName state old new d name head found
+  name_again : (d : ℕ) (name : List ℕ) (head : Header) (found : Option Object) → FindsName state mid new d name head found
+      → FindsName state old new d name head found
   name_again d name head found finds = record {
     size = finds.size;
     looks = log_again state old mid new first (λ m. LooksAt m d name head found) finds.looks;
   }
 
-  name_still : OnlyReads state mid new → (d : ℕ) (name : List ℕ) (head : Header) (found : Option Object) → FindsName state old mid d name head found → FindsName state old new d name head found
+  name_still : OnlyReads state mid new → (d : ℕ) (name : List ℕ) (head : Header) (found : Option Object)
+      → FindsName state old mid d name head found → FindsName state old new d name head found
   name_still next d name head found finds = record {
     size = finds.size;
     looks = log_still state old mid new first next (λ m. LooksAt m d name head found) finds.looks;
@@ -37,18 +39,21 @@ module _ {D : Type 0} (state : D → DeviceState) (old mid new : Fs D) (first : 
       (λ failed. inr (
         failed.0,
         λ k m0 m keeps holds is. (
-            let rose = log_again state old mid new first (λ y. P y → (state mid.store.log.device).failures < (state new.store.log.device).failures) failed.1 k m0 m keeps holds is in
+            let rose = log_again state old mid new first
+            (λ y. P y → (state mid.store.log.device).failures < (state new.store.log.device).failures) failed.1 k m0 m keeps holds is in
             let low = first.still.reads.looks.carries.failures in
             omega (arith, rose, low)),
       ))
       fails
 
-  pub next_again : (d : ℕ) (name : List ℕ) (ends : Bool) (kind : Kind) (fault : FsError) → RefusesNext state mid new d name ends kind fault → RefusesNext state old new d name ends kind fault
+  pub next_again : (d : ℕ) (name : List ℕ) (ends : Bool) (kind : Kind) (fault : FsError) → RefusesNext state mid new d name ends kind fault
+      → RefusesNext state old new d name ends kind fault
   next_again d name ends kind error.NameTooLong why = (why.0, has_again state old mid new first d why.0 why.1, why.2)
   next_again d name ends kind error.NotDir why = ((why.0.0, has_again state old mid new first d why.0.0 why.0.1, why.0.2), why.1)
   next_again d name ends kind fault why = fails_again (λ m. MayName m d name) fault why
 
-  pub source_still : OnlyReads state mid new → (d : ℕ) (name : List ℕ) (ends : Bool) (source : Source) → FindsSource state old mid d name ends source → FindsSource state old new d name ends source
+  pub source_still : OnlyReads state mid new → (d : ℕ) (name : List ℕ) (ends : Bool) (source : Source)
+      → FindsSource state old mid d name ends source → FindsSource state old new d name ends source
   source_still next d name ends source finds = record {
     directory = finds.directory;
     named = finds.named;
@@ -58,8 +63,10 @@ module _ {D : Type 0} (state : D → DeviceState) (old mid new : Fs D) (first : 
     plain = finds.plain;
   }
 
-  pub both_found : OnlyReads state mid new → (da : ℕ) (na : List ℕ) (ea : Bool) (source : Source) → FindsSource state old mid da na ea source
-      → (d db : ℕ) → d ≡ db → (nb : List ℕ) (eb : Bool) (target : Target) → FindsTarget state mid new d nb eb source.object.header.kind target
+  pub both_found : OnlyReads state mid new → (da : ℕ) (na : List ℕ) (ea : Bool) (source : Source)
+      → FindsSource state old mid da na ea source
+      → (d db : ℕ) → d ≡ db → (nb : List ℕ) (eb : Bool) (target : Target)
+      → FindsTarget state mid new d nb eb source.object.header.kind target
       → FindsBoth state old new da na ea db nb eb source target
   both_found next da na ea source finds d db is nb eb target also = record {
     first = source_still next da na ea source finds;
@@ -73,18 +80,23 @@ module _ {D : Type 0} (state : D → DeviceState) (old mid new : Fs D) (first : 
   }
 
 -- a directory of a log map has one form
-pub never_two : {D : Type 0} (state : D → DeviceState) (old new : Fs D) (da : ℕ) (na : List ℕ) (ea : Bool) (db : ℕ) (nb : List ℕ) (eb : Bool) (source : Source) (target : Target)
-    → FindsBoth state old new da na ea db nb eb source target → source.directory.value ≡ target.directory.value → source.holder.form ≢ target.holder.form
+pub never_two : {D : Type 0} (state : D → DeviceState) (old new : Fs D) (da : ℕ) (na : List ℕ) (ea : Bool) (db : ℕ) (nb : List ℕ)
+    (eb : Bool) (source : Source) (target : Target)
+    → FindsBoth state old new da na ea db nb eb source target → source.directory.value ≡ target.directory.value
+    → source.holder.form ≢ target.holder.form
     → RefusesNext state old new db nb eb source.object.header.kind error.Device
 never_two state old new da na ea db nb eb source target both same apart = inr (
   refl,
-  λ k m0 m keeps holds may. absurd (apart (one_form m (both.first.finds.looks k m0 m keeps holds).header (both.second.finds.looks k m0 m keeps holds).header)),
+  λ k m0 m keeps holds may.
+      absurd (apart (one_form m (both.first.finds.looks k m0 m keeps holds).header (both.second.finds.looks k m0 m keeps holds).header)),
 )
   where
-    one_form : (m : LogMap) → (staged old.store.draft.changes m).header da ≡ Some (as_header source.holder) → (staged old.store.draft.changes m).header db ≡ Some (as_header target.holder)
+    one_form : (m : LogMap) → (staged old.store.draft.changes m).header da ≡ Some (as_header source.holder)
+        → (staged old.store.draft.changes m).header db ≡ Some (as_header target.holder)
         → source.holder.form ≡ target.holder.form
     one_form m a b =
         let here : da ≡ db = sym both.first.directory ∙ same ∙ both.second.directory in
-        let one : Some (as_header source.holder) ≡ Some (as_header target.holder) = sym a ∙ ap (staged old.store.draft.changes m).header here ∙ b in
+        let one : Some (as_header source.holder) ≡ Some (as_header target.holder) = sym a
+        ∙ ap (staged old.store.draft.changes m).header here ∙ b in
         let heads : as_header source.holder ≡ as_header target.holder = cc in
         ap (λ (h : entry.Header). h.form) heads

@@ -30,10 +30,12 @@ module _ {D : Type 0} (state : D → DeviceState) where
     log_still next P all k m0 m keeps = all k m0 m (next.still.reads.looks.carries.kept_before keeps)
 
   -- ---- an object
-  pub object_missing : (old new : Fs D) (n : ℕ) (fault : FsError) → LacksHeader state old new n fault → FailsWhere state old new (λ m. IsObject m n) fault
+  pub object_missing : (old new : Fs D) (n : ℕ) (fault : FsError) → LacksHeader state old new n fault
+      → FailsWhere state old new (λ m. IsObject m n) fault
   object_missing old new n fault lacks = ⊎_elim
       (λ halted. inl halted)
-      (λ failed. inr (failed.0, λ k m0 m keeps holds is. ⊎_elim (λ rose. rose) (λ none. absurd (is.there none)) (failed.1 k m0 m keeps holds)))
+      (λ failed.
+      inr (failed.0, λ k m0 m keeps holds is. ⊎_elim (λ rose. rose) (λ none. absurd (is.there none)) (failed.1 k m0 m keeps holds)))
       lacks
 
   -- ---- a name
@@ -64,12 +66,14 @@ module _ {D : Type 0} (state : D → DeviceState) where
             record { header = found.0; gives = sym found.1 ∙ none; there = tt });
       }
 
-  module _ (old mid new : Fs D) (first : OnlyReads state old mid) (next : OnlyReads state mid new) (d : ℕ) (name : List ℕ) (head : Header) (o : Option ℕ) (n : ℕ)
+  module _ (old mid new : Fs D) (first : OnlyReads state old mid) (next : OnlyReads state mid new) (d : ℕ) (name : List ℕ) (head : Header)
+      (o : Option ℕ) (n : ℕ)
       (is : o ≡ Some n) (looks : LooksUp state old mid d name head o) where
     before : (state new.store.log.device).keeps_model → (state mid.store.log.device).keeps_model
     before keeps = next.still.reads.looks.carries.kept_before keeps
 
-    pub some_there : head.size ≤ 1024 * slot_len head.form → (x : Object) → FindsObject state mid new n x → FindsName state old new d name head (Some x)
+    pub some_there : head.size ≤ 1024 * slot_len head.form → (x : Object) → FindsObject state mid new n x
+        → FindsName state old new d name head (Some x)
     some_there size x finds = record {
       size = size;
       looks = λ k m0 m keeps holds. (
@@ -82,7 +86,8 @@ module _ {D : Type 0} (state : D → DeviceState) where
           });
     }
 
-    pub object_lost : (fault : FsError) → FailsWhere state mid new (λ m. IsObject m n) fault → FailsWhere state old new (λ m. MayLook m d name) fault
+    pub object_lost : (fault : FsError) → FailsWhere state mid new (λ m. IsObject m n) fault
+        → FailsWhere state old new (λ m. MayLook m d name) fault
     object_lost fault fails = ⊎_elim
         (λ halted. inl (halted.0, sym first.still.reads.halted ∙ halted.1))
         (λ failed. inr (
@@ -90,7 +95,8 @@ module _ {D : Type 0} (state : D → DeviceState) where
           λ k m0 m keeps holds may. (
               let found = looks k m0 m (before keeps) holds in
               let object = may.gives head n found.0 (sym found.1 ∙ is) in
-              let rose = log_again old mid new first (λ y. IsObject y n → (state mid.store.log.device).failures < (state new.store.log.device).failures) failed.1 k m0 m keeps holds object in
+              let rose = log_again old mid new first (λ y. IsObject y n
+              → (state mid.store.log.device).failures < (state new.store.log.device).failures) failed.1 k m0 m keeps holds object in
               let low = first.still.reads.looks.carries.failures in
               omega (arith, rose, low)),
         ))
@@ -99,7 +105,8 @@ module _ {D : Type 0} (state : D → DeviceState) where
   -- ---- both names
   module _ (old new : Fs D) (d : ℕ) (name : List ℕ) where
     -- no directory of a volume has so few links
-    pub few_links : (head : Header) (found : Option Object) → FindsName state old new d name head found → head.links < 2 → FailsWhere state old new (λ m. MayLook m d name) error.Device
+    pub few_links : (head : Header) (found : Option Object) → FindsName state old new d name head found → head.links < 2
+        → FailsWhere state old new (λ m. MayLook m d name) error.Device
     few_links head found finds few = inr (
       refl,
       λ k m0 m keeps holds is. absurd (
@@ -107,7 +114,8 @@ module _ {D : Type 0} (state : D → DeviceState) where
           omega (arith, few, many)),
     )
 
-    pub first_refused : (ends : Bool) (fault : FsError) → FailsLookAt state old new d name fault → RefusesSource state old new d name ends fault
+    pub first_refused : (ends : Bool) (fault : FsError) → FailsLookAt state old new d name fault
+        → RefusesSource state old new d name ends fault
     first_refused ends fault why = ⊎_elim
         (λ long. subst (λ (e : FsError). RefusesSource state old new d name ends e) (sym long.0) long.1)
         (λ fails. ⊎_elim
@@ -116,11 +124,13 @@ module _ {D : Type 0} (state : D → DeviceState) where
         fails)
         why
 
-    pub next_refused : (ends : Bool) (kind : Kind) (fault : FsError) → FailsLookAt state old new d name fault → RefusesNext state old new d name ends kind fault
+    pub next_refused : (ends : Bool) (kind : Kind) (fault : FsError) → FailsLookAt state old new d name fault
+        → RefusesNext state old new d name ends kind fault
     next_refused ends kind fault why = ⊎_elim
         (λ long. subst (λ (e : FsError). RefusesNext state old new d name ends kind e) (sym long.0) long.1)
         (λ fails. ⊎_elim
         (λ halted. subst (λ (e : FsError). RefusesNext state old new d name ends kind e) (sym halted.0) (inl (refl, halted.1)))
-        (λ failed. subst (λ (e : FsError). RefusesNext state old new d name ends kind e) (sym failed.0) (inr (refl, λ k m0 m keeps holds is. failed.1 k m0 m keeps holds is.looks)))
+        (λ failed. subst (λ (e : FsError). RefusesNext state old new d name ends kind e) (sym failed.0)
+        (inr (refl, λ k m0 m keeps holds is. failed.1 k m0 m keeps holds is.looks)))
         fails)
         why

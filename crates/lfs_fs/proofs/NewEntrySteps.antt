@@ -3,7 +3,8 @@ use Rattle.std.proofs.Common.{◌≡◌, ℕ, Bool, true, false, not, ◌&&◌, 
 use Rattle.lfs_model.specs.Call.{Answer, Call, Refuse}
 use Rattle.lfs_model.specs.PathText.{slash}
 use Rattle.lfs_model.specs.Refusal.{DirFull, Exist, NameTooLong, NoEntry}
-use Rattle.lfs_model.specs.Step.{PathEnds, Step, checked, is_full, is_long, is_there, last_dots, new_entry, no_last, outcome, path_of, second_path_of, when}
+use Rattle.lfs_model.specs.Step.{PathEnds, Step, checked, is_full, is_long, is_there, last_dots, new_entry, no_last, outcome, path_of}
+use Rattle.lfs_model.specs.Step.{second_path_of, when}
 use Rattle.lfs_model.specs.Tree.{State}
 use Rattle.lfs_model.specs.Walk.{End}
 use Rattle.lfs_fs.proofs.Checks.{passes, refuses}

@@ -1,5 +1,6 @@
 -- The refusals of the rule of a new entry, for any call that asks for one.
-use Rattle.std.proofs.Common.{not, ◌&&◌, ◌≡◌, ◌<◌, ◌≤◌, ◌*◌, ◌||◌, ℕ, Bool, true, false, List, length, Option, Some, None, sym, ◌∙◌, ap, subst, ⊎_elim, arith}
+use Rattle.std.proofs.Common.{not, ◌&&◌, ◌≡◌, ◌<◌, ◌≤◌, ◌*◌, ◌||◌, ℕ, Bool, true, false, List, length, Option, Some, None, sym, ◌∙◌, ap}
+use Rattle.std.proofs.Common.{subst, ⊎_elim, arith}
 use Rattle.lfs_model.specs.Call.{Call, Refuse, cleans, never_for_device}
 use Rattle.lfs_model.specs.Checkpoint.{CheckpointValue}
 use Rattle.lfs_model.specs.Device.{DeviceState, IsLawful}
@@ -30,7 +31,8 @@ use Rattle.lfs_fs.proofs.InDirectories.{free_directory, full_directory}
 use Rattle.lfs_fs.proofs.LastNames.{last_is_name}
 use Rattle.lfs_fs.proofs.NameLooks.{only_none}
 use Rattle.lfs_fs.proofs.NewEntrySteps.{ChecksNew, IsTaken, new_dots, new_full, new_long, new_slash, new_there}
-use Rattle.lfs_fs.proofs.OldEntries.{dir, dots_are, fits, found_there, has_last, head_is as head_read, is_missing, limit_is, long_is, looked, rises, says, short_is, still, volume, IsRefused, walk_refuses, walk_zero}
+use Rattle.lfs_fs.proofs.OldEntries.{dir, dots_are, fits, found_there, has_last, head_is as head_read, is_missing, limit_is, long_is}
+use Rattle.lfs_fs.proofs.OldEntries.{looked, rises, says, short_is, still, volume, IsRefused, walk_refuses, walk_zero}
 use Rattle.lfs_fs.proofs.ReadingEnds.{failed_serves}
 
 -- A call that asks for an entry in directory d, in each state that the volume may be in.
@@ -59,10 +61,6 @@ module _ {D : Type 0} (state : D → DeviceState) (lawful : (d : D) → IsLawful
       (λ k m0 m s keeps is walk.
       new_dots (segments_of v) s path d call is_mkdir (of.checks k m0 m s keeps is walk)
       (ap (λ (b : Bool). b || last_dots path) says))
-
-  -- no directory has number 0
-  pub no_number_zero : d ≡ 0 → Serves state v (seen old) call (Refuse refusals.Device)
-  no_number_zero = walk_zero state lawful v old path d piece reached running call
 
   module _ (l : Last) (is_last : piece ≡ Some l) (new : Fs D) (only : OnlyReads state old new) where
     -- ---- the rule in one state

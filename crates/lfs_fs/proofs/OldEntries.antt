@@ -1,6 +1,7 @@
 -- An entry that was looked up in the directory of a path's last piece, in each state that the
 -- volume may be in.
-use Rattle.std.proofs.Common.{◌≡◌, ◌≢◌, ◌⊎◌, ◌<◌, ◌≤◌, ◌*◌, ◌||◌, ℕ, Bool, true, false, List, length, Option, Some, None, sym, ◌∙◌, ap, subst, ⊎_elim, nat_lt, arith, inl}
+use Rattle.std.proofs.Common.{◌≡◌, ◌≢◌, ◌⊎◌, ◌<◌, ◌≤◌, ◌*◌, ◌||◌, ℕ, Bool, true, false, List, length, Option, Some, None, sym, ◌∙◌, ap}
+use Rattle.std.proofs.Common.{subst, ⊎_elim, nat_lt, arith, inl}
 use Rattle.std.specs.Prelude.{unwrap_or}
 use Rattle.std.specs.FinMap.{find}
 use Rattle.lfs_model.specs.declared.Kind.{Kind}
@@ -35,7 +36,8 @@ use Rattle.lfs_fs.proofs.Checks.{below, not_below}
 use Rattle.lfs_fs.proofs.CreateEnds.{still_more}
 use Rattle.lfs_fs.proofs.Files.{IsMapOf, dir_there, no_header_none, node_by_header}
 use Rattle.lfs_fs.proofs.Holding.{headers_of_volume, map_of_volume}
-use Rattle.lfs_fs.proofs.InDirectories.{directory_formed, directory_node, entry_in_directory, names_in_directory, new_in_directory, size_of_directory, there_in_directory}
+use Rattle.lfs_fs.proofs.InDirectories.{directory_formed, directory_node, entry_in_directory, names_in_directory, new_in_directory}
+use Rattle.lfs_fs.proofs.InDirectories.{size_of_directory, there_in_directory}
 use Rattle.lfs_fs.proofs.Slots.{few_slots}
 use Rattle.lfs_fs.proofs.OpenEnds.{no_dir_by}
 use Rattle.lfs_fs.proofs.Serving.{still_in, served_still}
@@ -126,17 +128,20 @@ module _ {D : Type 0} (state : D → DeviceState) (lawful : (d : D) → IsLawful
     pub rises : (state new.store.log.device).keeps_model → FailsLook state old new d
         → (state v.log.device).failures < (state new.store.log.device).failures
     rises keeps fails =
-        let rose : (state old.store.log.device).failures < (state new.store.log.device).failures = fails k m0 m keeps holds has_one formed in
+        let rose : (state old.store.log.device).failures < (state new.store.log.device).failures =
+        fails k m0 m keeps holds has_one formed in
         let before = reached.still.reads.looks.carries.failures in
         omega (arith, rose, before)
       where
         has_one : (staged old.store.draft.changes m).header d ≢ None
         has_one none = dir_there s.tree d dir (no_header_none (segments_of v) m s is.log d (header_is ∙ none))
 
-        formed : (head : Header) → (staged old.store.draft.changes m).header d ≡ Some (as_header head) → IsDirectory (staged old.store.draft.changes m) d (as_header head)
+        formed : (head : Header) → (staged old.store.draft.changes m).header d ≡ Some (as_header head)
+            → IsDirectory (staged old.store.draft.changes m) d (as_header head)
         formed head there =
             let here = header_is ∙ there in
-            subst (λ (x : LogMap). IsDirectory x d (as_header head)) same (directory_formed (segments_of v) m s volume d dir head here (fits head here))
+            subst (λ (x : LogMap). IsDirectory x d (as_header head)) same
+            (directory_formed (segments_of v) m s volume d dir head here (fits head here))
 
     module _ (keeps : (state new.store.log.device).keeps_model) (head : Header) (n : ℕ)
         (looks : LooksUp state old new d l.name.now head (Some n)) where
@@ -165,7 +170,8 @@ module _ {D : Type 0} (state : D → DeviceState) (lawful : (d : D) → IsLawful
           few_slots head.form (length (names_in s.tree d)) head.size many few
         where
           dir_node : node s.tree d ≡ Some (Dir head.form (names_in s.tree d))
-          dir_node = directory_node (segments_of v) m s volume d dir head there_d ∙ ap (λ (ms : Names). Some (Dir head.form ms)) (sym (names_in_directory (segments_of v) m s volume d dir head there_d))
+          dir_node = directory_node (segments_of v) m s volume d dir head there_d
+              ∙ ap (λ (ms : Names). Some (Dir head.form ms)) (sym (names_in_directory (segments_of v) m s volume d dir head there_d))
 
       -- ---- what it gives
       pub object_there : (object : Header) → HasHeader state old new n object
@@ -209,7 +215,8 @@ module _ {D : Type 0} (state : D → DeviceState) (lawful : (d : D) → IsLawful
           (λ halted. absurd (let on = halted.0 in cc))
           (λ failed. ⊎_elim
           (λ rose. (let before = reached.still.reads.looks.carries.failures in omega (arith, rose, before)))
-          (λ none. absurd (is.log.sound.named d (name path) n entry_is (no_header_none (segments_of v) m s is.log n ((λ i. (same i).header n) ∙ none))))
+          (λ none. absurd
+          (is.log.sound.named d (name path) n entry_is (no_header_none (segments_of v) m s is.log n ((λ i. (same i).header n) ∙ none))))
           (failed.1 k m0 m keeps holds))
           lacks)
           rest)

@@ -4,7 +4,8 @@ use Rattle.lfs_model.specs.Call.{Answer, Call, Refuse, cleans, never_for_device}
 use Rattle.lfs_model.specs.PathText.{slash}
 use Rattle.lfs_model.specs.Refusal.{NameTooLong, NoEntry, NotDir, Perm}
 use Rattle.lfs_model.specs.Sound.{Sound}
-use Rattle.lfs_model.specs.Step.{PathEnds, Step, checked, gives_dir, is_long, is_there, last_dots, no_last, old_entry, outcome, path_of, second_path_of, when}
+use Rattle.lfs_model.specs.Step.{PathEnds, Step, checked, gives_dir, is_long, is_there, last_dots, no_last, old_entry, outcome, path_of}
+use Rattle.lfs_model.specs.Step.{second_path_of, when}
 use Rattle.lfs_model.specs.Tree.{State}
 use Rattle.lfs_model.specs.Walk.{At, End, Parent}
 use Rattle.lfs_fs.proofs.Checks.{passes, refuses}

@@ -16,7 +16,8 @@ use Rattle.lfs_fs.proofs.PathEnds.{has_again}
 
 module _ {D : Type 0} (state : D → DeviceState) (old mid : Fs D) (d : ℕ) (name : List ℕ) where
   -- the rule of an old entry, where the name isn't looked up
-  pub old_unseen : (ends : Bool) → is_dots name ≡ false → (fault : FsError) → LooksNone state old mid d name fault → RefusesOld state old mid d name ends fault
+  pub old_unseen : (ends : Bool) → is_dots name ≡ false → (fault : FsError) → LooksNone state old mid d name fault
+      → RefusesOld state old mid d name ends fault
   old_unseen ends named fault none = ⊎_elim
       (λ long. subst (RefusesOld state old mid d name ends) (sym long.0) (named, long.1))
       (λ rest. ⊎_elim

@@ -25,7 +25,8 @@ use Rattle.lfs_fs.specs.Unlinking.{RefusesOld, SeesEntry}
 use Rattle.lfs_fs.specs.Volume.{IsIn, Mounted, Serves, segments_of}
 use Rattle.lfs_fs.proofs.Behaving.{IsOrdinary}
 use Rattle.lfs_fs.proofs.NameLooks.{only_none}
-use Rattle.lfs_fs.proofs.OldEntries.{dots_are, found_there, gives_directory, gives_plain, has_last, head_is, is_missing, long_is, looked, never, rises, short_is, still, IsRefused, walk_refuses, walk_zero}
+use Rattle.lfs_fs.proofs.OldEntries.{dots_are, found_there, gives_directory, gives_plain, has_last, head_is, is_missing, long_is, looked}
+use Rattle.lfs_fs.proofs.OldEntries.{never, rises, short_is, still, IsRefused, walk_refuses, walk_zero}
 use Rattle.lfs_fs.proofs.OldEntrySteps.{ChecksOld, OldCall, old_directory, old_dots, old_long, old_missing, old_slash}
 use Rattle.lfs_fs.proofs.ReadingEnds.{failed_serves}
 
@@ -45,10 +46,6 @@ module _ {D : Type 0} (state : D → DeviceState) (lawful : (d : D) → IsLawful
       (λ k m0 m s keeps is walk.
       old_dots (segments_of v) s path d call (of.checks s is.log.sound walk)
       (ap (λ (b : Bool). b || last_dots path) says))
-
-  -- no directory has number 0
-  pub zero_device : d ≡ 0 → Serves state v (seen old) call (Refuse refusals.Device)
-  zero_device = walk_zero state lawful v old path d piece reached running call
 
   module _ (l : Last) (is_last : piece ≡ Some l) (new : Fs D) (only : OnlyReads state old new) where
     refused : (r : Refusal) → IsOrdinary (Refuse r)
@@ -98,7 +95,8 @@ module _ {D : Type 0} (state : D → DeviceState) (lawful : (d : D) → IsLawful
                 (not_long (Some n) sees.looks)
                 (found_there state lawful v old path d piece reached l is_last new only k m0 m s is walk keeps head n sees.looks)
                 ((has_last state lawful v old path d piece reached l is_last new only).1 ∙ ends)
-                (gives_plain state lawful v old path d piece reached l is_last new only k m0 m s is walk keeps head n sees.looks object sees.there other)
+                (gives_plain state lawful v old path d piece reached l is_last new only k m0 m s is walk keeps head n sees.looks object
+                sees.there other)
 
             directory_step : object.kind ≡ kind.Directory
                 → Step (segments_of v) s call (Refuse refusals.Perm) s
@@ -106,7 +104,8 @@ module _ {D : Type 0} (state : D → DeviceState) (lawful : (d : D) → IsLawful
                 old_directory (segments_of v) s path d call checks (dots false named)
                 (not_long (Some n) sees.looks)
                 (found_there state lawful v old path d piece reached l is_last new only k m0 m s is walk keeps head n sees.looks)
-                (gives_directory state lawful v old path d piece reached l is_last new only k m0 m s is walk keeps head n sees.looks object sees.there is_kind)
+                (gives_directory state lawful v old path d piece reached l is_last new only k m0 m s is walk keeps head n sees.looks object
+                sees.there is_kind)
 
     -- ---- the call
     pub entry_refused : (fault : FsError)

@@ -1,5 +1,6 @@
 -- A name that goes with one link of what it gave, from the log map to the state after the call.
-use Rattle.std.proofs.Common.{◌≡◌, ◌≢◌, ◌≤◌, ◌+◌, ◌∙◌, ℕ, Bool, true, false, List, [], Option, Some, None, refl, sym, ap, subst, arith, not, ◌*◌}
+use Rattle.std.proofs.Common.{◌≡◌, ◌≢◌, ◌≤◌, ◌+◌, ◌∙◌, ℕ, Bool, true, false, List, [], Option, Some, None, refl, sym, ap, subst, arith, not}
+use Rattle.std.proofs.Common.{◌*◌}
 use Rattle.lfs_model.specs.Entry as entry
 use Rattle.lfs_fs.proofs.MovedNames as trees
 use Rattle.std.specs.Prelude.{◌==◌, unwrap_or, T}
@@ -8,7 +9,8 @@ use Rattle.lfs_model.specs.Stands.{LogMap}
 use Rattle.lfs_model.specs.Objects.{one_if}
 use Rattle.lfs_model.specs.Sound.{Sound}
 use Rattle.lfs_model.specs.Step.{let_go, name, target}
-use Rattle.lfs_model.specs.Tree.{Dir, File, Names, Node, State, Tree, byte_cmp, entry as entry_in, form_of, is_dir, links as links_in, names, names_in, names_of, node, slot_len, without, without_name}
+use Rattle.lfs_model.specs.Tree.{Dir, File, Names, Node, State, Tree, byte_cmp, entry as entry_in, form_of, is_dir, links as links_in}
+use Rattle.lfs_model.specs.Tree.{names, names_in, names_of, node, slot_len, without, without_name}
 use Rattle.lfs_model.specs.TreeOf.{tree_in}
 use Rattle.lfs_model.specs.Walk.{At, Parent}
 use Rattle.lfs_model.proofs.Keeps.{parent_dir}

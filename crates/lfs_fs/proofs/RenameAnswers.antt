@@ -1,5 +1,6 @@
 -- What a rename answers, once both names were found.
-use Rattle.std.proofs.Common.{◌≡◌, ◌<◌, ◌≤◌, ◌^◌, ℕ, true, false, List, Option, Some, Result, Ok, Err, sym, subst, ⊎_elim, arith, ◌*◌, refl, ◌∙◌, ap, ◌⊎◌, inl, inr}
+use Rattle.std.proofs.Common.{◌≡◌, ◌<◌, ◌≤◌, ◌^◌, ℕ, true, false, List, Option, Some, Result, Ok, Err, sym, subst, ⊎_elim, arith, ◌*◌, refl}
+use Rattle.std.proofs.Common.{◌∙◌, ap, ◌⊎◌, inl, inr}
 use Rattle.std.specs.Prelude.{IfErr, OnErr, OnOk}
 use Rattle.lfs_model.specs.Call.{Done, Refuse, Rename}
 use Rattle.lfs_model.specs.Device.{DeviceState, IsLawful}
@@ -12,7 +13,8 @@ use Rattle.lfs_fs.specs.declared.fs.Fs.{Fs}
 use Rattle.lfs_fs.specs.declared.moving.Source.{Source}
 use Rattle.lfs_fs.specs.declared.moving.Target.{Target}
 use Rattle.lfs_fs.specs.Refusals.{refusal_of}
-use Rattle.lfs_fs.specs.Renaming.{ChecksRename, FindsBoth, GivesName, MovesEntry, MovesNone, ReachesBoth, IsMoveReady, TurnsMove, FailsMove, GivesUpMove, of_drop, of_memory, of_name, of_take}
+use Rattle.lfs_fs.specs.Renaming.{ChecksRename, FindsBoth, GivesName, MovesEntry, MovesNone, ReachesBoth, IsMoveReady, TurnsMove, FailsMove}
+use Rattle.lfs_fs.specs.Renaming.{GivesUpMove, of_drop, of_memory, of_name, of_take}
 use Rattle.lfs_fs.specs.Seen.{OnlyReads, answer_by, seen}
 use Rattle.lfs_fs.specs.Volume.{Mounted, Serves, IsIn, IsStill, segments_of}
 use Rattle.lfs_fs.proofs.RenameRefusals.{same_done, same_worn}

@@ -20,7 +20,8 @@ use Rattle.lfs_fs.specs.declared.fs.Fs.{Fs}
 use Rattle.lfs_fs.specs.declared.moving.Object.{Object}
 use Rattle.lfs_fs.specs.declared.moving.Source.{Source}
 use Rattle.lfs_fs.specs.declared.moving.Target.{Target}
-use Rattle.lfs_fs.specs.Renaming.{DraftsLinks, DraftsTake, HasNamed, InLog, RelinksWhere, Rises, fewer_links, first_holder, gains_directory, loses_directory, more_links, second_holder}
+use Rattle.lfs_fs.specs.Renaming.{DraftsLinks, DraftsTake, HasNamed, InLog, RelinksWhere, Rises, fewer_links, first_holder, gains_directory}
+use Rattle.lfs_fs.specs.Renaming.{loses_directory, more_links, second_holder}
 use Rattle.lfs_fs.specs.Volume.{Mounted}
 use Rattle.lfs_fs.proofs.DraftedNames.{first_there, second_there}
 use Rattle.lfs_fs.proofs.KeptMaps.{holder_directory}

@@ -1,6 +1,7 @@
 -- The draft of a rename fits each log map of its volume: what is lost first, then the headers of
 -- both directories and the names in them.
-use Rattle.std.proofs.Common.{◌≡◌, ◌≢◌, ◌&&◌, ◌<◌, ◌≤◌, ◌+◌, ◌-◌, not, ℕ, Bool, true, false, List, length, Option, Some, None, refl, sym, ◌∙◌, subst, ⊎_elim, arith, ◌*◌}
+use Rattle.std.proofs.Common.{◌≡◌, ◌≢◌, ◌&&◌, ◌<◌, ◌≤◌, ◌+◌, ◌-◌, not, ℕ, Bool, true, false, List, length, Option, Some, None, refl, sym}
+use Rattle.std.proofs.Common.{◌∙◌, subst, ⊎_elim, arith, ◌*◌}
 use Rattle.std.specs.Prelude.{◌==◌, if◌then◌else◌, is_none, max}
 use Rattle.std.proofs.lemmas.Bool.{eq-eqb, cases_eq}
 use Rattle.lfs_model.specs.Checkpoint.{CheckpointValue}
@@ -24,11 +25,13 @@ use Rattle.lfs_fs.specs.declared.fs.Fs.{Fs}
 use Rattle.lfs_fs.specs.declared.moving.Object.{Object}
 use Rattle.lfs_fs.specs.declared.moving.Source.{Source}
 use Rattle.lfs_fs.specs.declared.moving.Target.{Target}
-use Rattle.lfs_fs.specs.Renaming.{DraftsMove, DropsFound, DropsObject, FitsFound, NamesFound, fewer_links, first_holder, gains_directory, is_directory, loses_directory, more_links, second_holder, DraftsTake, RelinksWhere}
+use Rattle.lfs_fs.specs.Renaming.{DraftsMove, DropsFound, DropsObject, FitsFound, NamesFound, fewer_links, first_holder, gains_directory}
+use Rattle.lfs_fs.specs.Renaming.{is_directory, loses_directory, more_links, second_holder, DraftsTake, RelinksWhere}
 use Rattle.lfs_fs.specs.Unlinking.{LosesLink}
 use Rattle.lfs_fs.proofs.Headers.{directory_grows, directory_shrinks, known_form, links_fit}
 use Rattle.lfs_fs.proofs.InDirectories.{directory_kind, slot_in_directory}
-use Rattle.lfs_fs.proofs.RenamedFiles.{apart_first, apart_second, names_plain, dir_a, dir_b, kind_o, linked_twice, linked_twice_b, looks_o, there as there_o}
+use Rattle.lfs_fs.proofs.RenamedFiles.{apart_first, apart_second, names_plain, dir_a, dir_b, kind_o, linked_twice, linked_twice_b, looks_o}
+use Rattle.lfs_fs.proofs.RenamedFiles.{there as there_o}
 use Rattle.lfs_store.specs.log.verify.declared.totals.BlockTotals.{BlockTotals}
 use Rattle.lfs_fs.proofs.MovedMaps.{IsMoving, a_3, b_2, second_holder as holder_4}
 use Rattle.lfs_fs.specs.Volume.{Mounted, segments_of}

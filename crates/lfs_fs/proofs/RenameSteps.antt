@@ -1,11 +1,13 @@
 -- The call rename, exit by exit.
-use Rattle.std.proofs.Common.{◌≡◌, ◌⊎◌, ◌<◌, ◌≤◌, ◌*◌, ◌++◌, ℕ, Bool, true, false, not, ◌&&◌, ◌||◌, List, [], ◌∷◌, length, refl, ◌∙◌, ap, inl, inr, ⊎_elim, nat_le, nat_lt}
+use Rattle.std.proofs.Common.{◌≡◌, ◌⊎◌, ◌<◌, ◌≤◌, ◌*◌, ◌++◌, ℕ, Bool, true, false, not, ◌&&◌, ◌||◌, List, [], ◌∷◌, length, refl, ◌∙◌, ap}
+use Rattle.std.proofs.Common.{inl, inr, ⊎_elim, nat_le, nat_lt}
 use Rattle.std.specs.Prelude.{◌==◌, if◌then◌else◌}
 use Rattle.lfs_model.specs.Call.{Answer, Done, Refuse, Rename}
 use Rattle.lfs_model.specs.Need.{need}
 use Rattle.lfs_model.specs.PathText.{slash}
 use Rattle.lfs_model.specs.Refusal.{Busy, DirFull, Inval, IsDir, NameTooLong, NoEntry, NoSpace, NotDir, NotEmpty, Refusal, TooManyLinks}
-use Rattle.lfs_model.specs.Step.{Step, checked, gives_dir, is_full, is_long, is_there, is_within, last_dots, let_go, name, no_last, no_space, target, when, with_tree}
+use Rattle.lfs_model.specs.Step.{Step, checked, gives_dir, is_full, is_long, is_there, is_within, last_dots, let_go, name, no_last}
+use Rattle.lfs_model.specs.Step.{no_space, target, when, with_tree}
 use Rattle.lfs_model.specs.Tree.{State, Tree, links, names_in, with_name, without_name}
 use Rattle.lfs_model.specs.Walk.{At, End, Parent, Refused}
 use Rattle.lfs_fs.proofs.Checks.{below, not_below, passes, refuses}
@@ -45,11 +47,15 @@ stops_behind (c ∷ cs) ds x all at = inr (all.0, stops_behind cs ds x all.1 at)
 
 -- ---- paths that aren't walked to their ends
 
-pub rename_refused : (N : ℕ) (s : State) (a b : List ℕ) (r : Refusal) (e : End) → Parent s.tree b e → Parent s.tree a (Refused r) → Step N s (Rename a b) (Refuse r) s
-rename_refused N s a b r e other walk = record { first_end = Refused r; second_end = e; first = walk; second = other; answer = refl; state = refl }
+pub rename_refused : (N : ℕ) (s : State) (a b : List ℕ) (r : Refusal) (e : End) → Parent s.tree b e → Parent s.tree a (Refused r)
+    → Step N s (Rename a b) (Refuse r) s
+rename_refused N s a b r e other walk =
+    record { first_end = Refused r; second_end = e; first = walk; second = other; answer = refl; state = refl }
 
-pub rename_refused_next : (N : ℕ) (s : State) (a b : List ℕ) (da : ℕ) (r : Refusal) → Parent s.tree a (At da) → Parent s.tree b (Refused r) → Step N s (Rename a b) (Refuse r) s
-rename_refused_next N s a b da r walk other = record { first_end = At da; second_end = Refused r; first = walk; second = other; answer = refl; state = refl }
+pub rename_refused_next : (N : ℕ) (s : State) (a b : List ℕ) (da : ℕ) (r : Refusal) → Parent s.tree a (At da) → Parent s.tree b (Refused r)
+    → Step N s (Rename a b) (Refuse r) s
+rename_refused_next N s a b da r walk other =
+    record { first_end = At da; second_end = Refused r; first = walk; second = other; answer = refl; state = refl }
 
 -- ---- the list of refusals, from its end on
 
@@ -98,7 +104,8 @@ module _ (N : ℕ) (s : State) (a b : List ℕ) (da db : ℕ) where
   from_next = when (is_long t db b) NameTooLong ∷ when (slash b && not (gives_dir t da a)) NotDir ∷ from_same
 
   abbrev pub from_source : List (Bool × Answer)
-  from_source = when (is_long t da a) NameTooLong ∷ when (not (is_there t da a)) NoEntry ∷ when (slash a && not (gives_dir t da a)) NotDir ∷ from_next
+  from_source = when (is_long t da a) NameTooLong ∷ when (not (is_there t da a)) NoEntry ∷ when (slash a && not (gives_dir t da a)) NotDir
+      ∷ from_next
 
   abbrev pub conditions : List (Bool × Answer)
   conditions = when (no_last a || no_last b) Busy ∷ when (last_dots a || last_dots b) Inval ∷ from_source
@@ -126,12 +133,26 @@ module _ (N : ℕ) (s : State) (a b : List ℕ) (da db : ℕ) where
     pub rename_stops : (x : Answer) → StopsAt conditions x → Step N s (Rename a b) x s
     rename_stops x at =
         let is = stops s conditions (Done, with_tree s renamed) x at in
-        record { first_end = At da; second_end = At db; first = walk; second = other_walk; answer = ap (λ r. r.0) is; state = ap (λ r. r.1) is }
+        record {
+          first_end = At da;
+          second_end = At db;
+          first = walk;
+          second = other_walk;
+          answer = ap (λ r. r.0) is;
+          state = ap (λ r. r.1) is;
+        }
 
     pub rename_passes : PassesAll conditions → Step N s (Rename a b) Done (with_tree s renamed)
     rename_passes all =
         let is = passes_all s conditions (Done, with_tree s renamed) all in
-        record { first_end = At da; second_end = At db; first = walk; second = other_walk; answer = ap (λ r. r.0) is; state = ap (λ r. r.1) is }
+        record {
+          first_end = At da;
+          second_end = At db;
+          first = walk;
+          second = other_walk;
+          answer = ap (λ r. r.0) is;
+          state = ap (λ r. r.1) is;
+        }
 
     -- where nothing but the need of space may refuse it
     module _ (all : PassesAll before_space) where
@@ -203,9 +224,55 @@ module _ (N : ℕ) (s : State) (a b : List ℕ) (da db : ℕ) where
               stops_empty full = inr (is_dir_of ∙ right, inr (not_dir_of ∙ also, inl ((λ i. there i && full i), refl)))
 
               -- nothing but the need of space is left
-              pub passes_replaced : AreNamed → (slash b && not dir) ≡ false → is_long t db b ≡ false → nat_lt 0 (length (names_in t old)) ≡ false
+              pub passes_replaced : AreNamed → (slash b && not dir) ≡ false → is_long t db b ≡ false
+                  → nat_lt 0 (length (names_in t old)) ≡ false
                   → PassesAll before_space
-              passes_replaced named ends short empty = (named.pieces, (named.names, (source.short, (ap not source.there, (ap (λ (y : Bool). slash a && not y) source.kind ∙ source.ends, (short, (ap (λ (y : Bool). slash b && not y) source.kind ∙ ends, (same_not, (ap (λ (q : ℕ). is_within t q db) source.is ∙ within, (is_dir_of ∙ right, (not_dir_of ∙ also, ((λ i. there i && empty i), ((λ i. not (there i) && not (da == db) && is_full t db), ((λ i. gives_dir t da a && not (there i) && not (da == db) && nat_le 1000 (links t db)) ∙ never (gives_dir t da a) (not (da == db)) (nat_le 1000 (links t db)), tt))))))))))))))
+              passes_replaced named ends short empty = (
+                named.pieces,
+                (
+                  named.names,
+                  (
+                    source.short,
+                    (
+                      ap not source.there,
+                      (
+                        ap (λ (y : Bool). slash a && not y) source.kind ∙ source.ends,
+                        (
+                          short,
+                          (
+                            ap (λ (y : Bool). slash b && not y) source.kind
+                                ∙ ends,
+                            (
+                              same_not,
+                              (
+                                ap (λ (q : ℕ). is_within t q db) source.is ∙ within,
+                                (
+                                  is_dir_of ∙ right,
+                                  (
+                                    not_dir_of
+                                        ∙ also,
+                                    (
+                                      (λ i. there i && empty i),
+                                      (
+                                        (λ i. not (there i) && not (da == db) && is_full t db),
+                                        (
+                                          (λ i. gives_dir t da a && not (there i) && not (da == db) && nat_le 1000 (links t db))
+                                              ∙ never (gives_dir t da a) (not (da == db)) (nat_le 1000 (links t db)),
+                                          tt,
+                                        ),
+                                      ),
+                                    ),
+                                  ),
+                                ),
+                              ),
+                            ),
+                          ),
+                        ),
+                      ),
+                    ),
+                  ),
+                ),
+              )
                 where
                   never : (x y z : Bool) → (x && false && y && z) ≡ false
                   never true y z = refl
@@ -246,5 +313,47 @@ module _ (N : ℕ) (s : State) (a b : List ℕ) (da db : ℕ) where
 
       -- nothing but the need of space is left
       pub passes_new : AreNamed → (slash b && not dir) ≡ false → is_long t db b ≡ false → is_within t number db ≡ false
-          → (not (da == db) && is_full t db) ≡ false → (dir && true && not (da == db) && nat_le 1000 (links t db)) ≡ false → PassesAll before_space
-      passes_new named ends short within free few = (named.pieces, (named.names, (source.short, (ap not source.there, (ap (λ (y : Bool). slash a && not y) source.kind ∙ source.ends, (short, (ap (λ (y : Bool). slash b && not y) source.kind ∙ ends, (same_none, (ap (λ (q : ℕ). is_within t q db) source.is ∙ within, ((λ i. new i && gives_dir t db b && not (gives_dir t da a)), ((λ i. new i && gives_dir t da a && not (gives_dir t db b)), ((λ i. new i && nat_lt 0 (length (names_in t old))), ((λ i. not (new i) && not (da == db) && is_full t db) ∙ free, ((λ i. source.kind i && not (new i) && not (da == db) && nat_le 1000 (links t db)) ∙ few, tt))))))))))))))
+          → (not (da == db) && is_full t db) ≡ false → (dir && true && not (da == db) && nat_le 1000 (links t db)) ≡ false
+          → PassesAll before_space
+      passes_new named ends short within free few = (
+        named.pieces,
+        (
+          named.names,
+          (
+            source.short,
+            (
+              ap not source.there,
+              (
+                ap (λ (y : Bool). slash a && not y) source.kind ∙ source.ends,
+                (
+                  short,
+                  (
+                    ap (λ (y : Bool). slash b && not y) source.kind
+                        ∙ ends,
+                    (
+                      same_none,
+                      (
+                        ap (λ (q : ℕ). is_within t q db) source.is ∙ within,
+                        (
+                          (λ i. new i && gives_dir t db b && not (gives_dir t da a)),
+                          (
+                            (λ i. new i && gives_dir t da a && not (gives_dir t db b)),
+                            (
+                              (λ i. new i && nat_lt 0 (length (names_in t old))),
+                              (
+                                (λ i. not (new i) && not (da == db) && is_full t db)
+                                    ∙ free,
+                                ((λ i. source.kind i && not (new i) && not (da == db) && nat_le 1000 (links t db)) ∙ few, tt),
+                              ),
+                            ),
+                          ),
+                        ),
+                      ),
+                    ),
+                  ),
+                ),
+              ),
+            ),
+          ),
+        ),
+      )

@@ -1,5 +1,6 @@
 -- What a name gives in the directory of a path's last piece, as the model sees it.
-use Rattle.std.proofs.Common.{◌≡◌, ◌<◌, ◌≤◌, ◌*◌, ◌||◌, ℕ, true, false, List, [], length, Option, Some, None, refl, sym, ◌∙◌, ap, nat_lt, arith}
+use Rattle.std.proofs.Common.{◌≡◌, ◌<◌, ◌≤◌, ◌*◌, ◌||◌, ℕ, true, false, List, [], length, Option, Some, None, refl, sym, ◌∙◌, ap, nat_lt}
+use Rattle.std.proofs.Common.{arith}
 use Rattle.std.specs.Prelude.{is_some, unwrap_or}
 use Rattle.lfs_model.specs.declared.Kind.{Kind}
 use Rattle.lfs_model.specs.declared.Kind.TheVariants as kinds
@@ -8,7 +9,8 @@ use Rattle.lfs_model.specs.Entry as entries
 use Rattle.lfs_model.specs.Objects.{IsHeaderOf}
 use Rattle.lfs_model.specs.Stands.{LogMap}
 use Rattle.lfs_model.specs.Step.{gives_dir, is_full, is_there, last_dots, name, no_last, target}
-use Rattle.lfs_model.specs.Tree.{Dir, File, Link, Names, Node, State, Tree, entry, is_dir, links, links_at, name_len, name_limit, names_in, names_of, node, slot_len}
+use Rattle.lfs_model.specs.Tree.{Dir, File, Link, Names, Node, State, Tree, entry, is_dir, links, links_at, name_len, name_limit, names_in}
+use Rattle.lfs_model.specs.Tree.{names_of, node, slot_len}
 use Rattle.lfs_model.specs.TreeOf.{node_by}
 use Rattle.lfs_model.specs.Walk.{At, Parent}
 use Rattle.lfs_model.proofs.Keeps.{parent_dir}
@@ -18,7 +20,8 @@ use Rattle.lfs_fs.specs.declared.moving.Object.{Object}
 use Rattle.lfs_fs.specs.Renaming.{LooksAt, MayLook, MayName, is_directory, number_of}
 use Rattle.lfs_fs.proofs.Checks.{below, not_below}
 use Rattle.lfs_fs.proofs.Files.{IsMapOf, dir_there, no_header_none, node_by_header}
-use Rattle.lfs_fs.proofs.InDirectories.{directory_formed, directory_node, entry_in_directory, free_directory, full_directory, names_in_directory, size_of_directory}
+use Rattle.lfs_fs.proofs.InDirectories.{directory_formed, directory_node, entry_in_directory, free_directory, full_directory}
+use Rattle.lfs_fs.proofs.InDirectories.{names_in_directory, size_of_directory}
 use Rattle.lfs_fs.proofs.LastNames.{last_is_name}
 use Rattle.lfs_fs.proofs.Slots.{few_slots, no_slots, some_names}
 
@@ -43,20 +46,26 @@ two_links (Some (File b)) t d dir = cc
 two_links (Some (Dir form ms)) t d dir = omega arith
 two_links (Some (Link text)) t d dir = cc
 
-module _ (N : ℕ) (m : LogMap) (s : State) (is : IsMapOf N m s) (headers : (n : ℕ) (h : entries.Header) → m.header n ≡ Some h → IsHeaderOf n h) where
+module _ (N : ℕ) (m : LogMap) (s : State) (is : IsMapOf N m s)
+    (headers : (n : ℕ) (h : entries.Header) → m.header n ≡ Some h → IsHeaderOf n h) where
   -- ---- an object
-  module _ (o : Object) (range : (1 ≤ o.number.value) × (o.number.value ≤ 4095)) (there : m.header o.number.value ≡ Some (as_header o.header)) where
+  module _ (o : Object) (range : (1 ≤ o.number.value) × (o.number.value ≤ 4095))
+      (there : m.header o.number.value ≡ Some (as_header o.header)) where
     pub kind_is : is_dir (node s.tree o.number.value) ≡ is_directory o.header.kind
-    kind_is = ap is_dir (node_by_header N m s is.log o.number.value (as_header o.header) range there) ∙ dir_by m o.header.kind o.number.value (as_header o.header)
+    kind_is = ap is_dir (node_by_header N m s is.log o.number.value (as_header o.header) range there)
+        ∙ dir_by m o.header.kind o.number.value (as_header o.header)
 
     dir_names : is_directory o.header.kind ≡ true → slot_len o.header.form * length (names_in s.tree o.number.value) ≡ o.header.size
-    dir_names dir = size_of_directory N m s is o.number.value (kind_is ∙ dir) o.header there (headers o.number.value (as_header o.header) there)
+    dir_names dir =
+        size_of_directory N m s is o.number.value (kind_is ∙ dir) o.header there (headers o.number.value (as_header o.header) there)
 
     pub has_entries : is_directory o.header.kind ≡ true → 0 < o.header.size → nat_lt 0 (length (names_in s.tree o.number.value)) ≡ true
-    has_entries dir some = below 0 (length (names_in s.tree o.number.value)) (some_names o.header.form (length (names_in s.tree o.number.value)) o.header.size (dir_names dir) some)
+    has_entries dir some = below 0 (length (names_in s.tree o.number.value))
+        (some_names o.header.form (length (names_in s.tree o.number.value)) o.header.size (dir_names dir) some)
 
     pub is_empty : is_directory o.header.kind ≡ true → o.header.size ≡ 0 → nat_lt 0 (length (names_in s.tree o.number.value)) ≡ false
-    is_empty dir none = not_below 0 (length (names_in s.tree o.number.value)) (let few = no_slots o.header.form (length (names_in s.tree o.number.value)) o.header.size (dir_names dir) none in omega (arith, few))
+    is_empty dir none = not_below 0 (length (names_in s.tree o.number.value)) (let few =
+        no_slots o.header.form (length (names_in s.tree o.number.value)) o.header.size (dir_names dir) none in omega (arith, few))
 
     pub plain_empty : is_directory o.header.kind ≡ false → nat_lt 0 (length (names_in s.tree o.number.value)) ≡ false
     plain_empty plain = ap (λ (ms : Names). nat_lt 0 (length ms)) (none_in (node s.tree o.number.value) (kind_is ∙ plain))
@@ -80,7 +89,8 @@ module _ (N : ℕ) (m : LogMap) (s : State) (is : IsMapOf N m s) (headers : (n :
       formed = λ head there. directory_formed N m s is d dir head there (header_there head there);
       small = λ head there. (
           let many = size_of_directory N m s is d dir head there (header_there head there) in
-          let few = (is.log.sound.limits d (Dir head.form (names_in s.tree d)) (directory_node N m s is d dir head there ∙ ap (λ (ms : Names). Some (Dir head.form ms)) (sym (names_in_directory N m s is d dir head there)))).1 in
+          let few = (is.log.sound.limits d (Dir head.form (names_in s.tree d)) (directory_node N m s is d dir head there
+          ∙ ap (λ (ms : Names). Some (Dir head.form ms)) (sym (names_in_directory N m s is d dir head there)))).1 in
           few_slots head.form (length (names_in s.tree d)) head.size many few);
       linked = λ head there. (
           let are : head.links ≡ links s.tree d = is.log.links d (as_header head) there ∙ ap (λ (t : Tree). links t d) (sym is.log.is) in
@@ -93,8 +103,12 @@ module _ (N : ℕ) (m : LogMap) (s : State) (is : IsMapOf N m s) (headers : (n :
           record { first = range.0; last = range.1; there = λ none. node_there (no_header_none N m s is.log n none) });
     }
 
-    pub may_name : AreBytes p → (no_last p || last_dots p) ≡ false → ((head : Header) → m.header d ≡ Some (as_header head) → name_limit s.tree d ≡ name_len head.form) → MayName m d (name p)
-    may_name bytes named limit = record { looks = may_look; is_name = λ head there short. last_is_name N s is.log.sound p d (name_len head.form) (limit head there) bytes walk named short }
+    pub may_name : AreBytes p → (no_last p || last_dots p) ≡ false
+        → ((head : Header) → m.header d ≡ Some (as_header head) → name_limit s.tree d ≡ name_len head.form) → MayName m d (name p)
+    may_name bytes named limit = record {
+      looks = may_look;
+      is_name = λ head there short. last_is_name N s is.log.sound p d (name_len head.form) (limit head there) bytes walk named short;
+    }
 
     -- what is found in it
     module _ (head : Header) (found : Option Object) (looks : LooksAt m d (name p) head found) where

@@ -1,6 +1,7 @@
 -- What the steps of a rename draft, as one change of the log map: that of the state after the
 -- call.
-use Rattle.std.proofs.Common.{◌≡◌, ◌≢◌, ◌⊎◌, ◌+◌, ◌-◌, ◌&&◌, not, ℕ, Bool, true, false, List, Option, Some, None, refl, sym, ◌∙◌, ap, subst, inl, inr, ⊎_elim}
+use Rattle.std.proofs.Common.{◌≡◌, ◌≢◌, ◌⊎◌, ◌+◌, ◌-◌, ◌&&◌, not, ℕ, Bool, true, false, List, Option, Some, None, refl, sym, ◌∙◌, ap, subst}
+use Rattle.std.proofs.Common.{inl, inr, ⊎_elim}
 use Rattle.std.specs.Prelude.{if◌then◌else◌, is_none}
 use Rattle.lfs_model.specs.declared.Kind.{Kind}
 use Rattle.lfs_model.specs.declared.Kind.TheVariants as kinds
@@ -22,7 +23,8 @@ use Rattle.lfs_fs.specs.declared.moving.Object.{Object}
 use Rattle.lfs_fs.specs.declared.moving.Source.{Source}
 use Rattle.lfs_fs.specs.declared.moving.Target.{Target}
 use Rattle.lfs_fs.specs.Handles.{handles_of}
-use Rattle.lfs_fs.specs.Renaming.{NamesFound, DropsFound, DropsObject, RelinksWhere, fewer_links, gains_directory, is_directory, loses_directory, more_links, DraftsTake, second_holder, DraftsMove, DraftsLinks}
+use Rattle.lfs_fs.specs.Renaming.{NamesFound, DropsFound, DropsObject, RelinksWhere, fewer_links, gains_directory, is_directory}
+use Rattle.lfs_fs.specs.Renaming.{loses_directory, more_links, DraftsTake, second_holder, DraftsMove, DraftsLinks}
 use Rattle.lfs_fs.specs.Unlinking.{LosesLink}
 use Rattle.lfs_fs.proofs.Files.{IsShaped}
 use Rattle.lfs_fs.proofs.MovedDrafts.{all_lost, links_left, links_set, link_lost, link_totals}
@@ -30,7 +32,8 @@ use Rattle.lfs_fs.proofs.KeptMaps.{HasHolder}
 use Rattle.lfs_fs.proofs.MovedMaps as moves
 use Rattle.lfs_fs.proofs.MovedMaps.{IsMoving}
 use Rattle.lfs_fs.proofs.LostNames.{LosesName, KeepsLink, LosesAll}
-use Rattle.lfs_fs.proofs.RenamedFiles.{lost_shape, lost_a, lost_b, holder_a, holder_b, IsMoved, IsRename, apart_first, apart_second, free_moved, looks_o, over_moved, shaped}
+use Rattle.lfs_fs.proofs.RenamedFiles.{lost_shape, lost_a, lost_b, holder_a, holder_b, IsMoved, IsRename, apart_first, apart_second}
+use Rattle.lfs_fs.proofs.RenamedFiles.{free_moved, looks_o, over_moved, shaped}
 use Rattle.lfs_fs.specs.Volume.{IsIn, IsStill, Mounted, segments_of}
 use Rattle.lfs_model.specs.Encodes.{IsLogMap}
 use Rattle.std.proofs.lemmas.Bool.{cases_eq, eq-eqb}

@@ -6,7 +6,8 @@
 -- first name goes (`MovedMaps.DraftsMove`). The second then gives the object (`DraftsName`, or
 -- `DraftsOver` where it gave another). `free_moved` and `over_moved` say that m5 is the log map of
 -- the state after the call, whether there is room for it or not.
-use Rattle.std.proofs.Common.{length, ◌≡◌, ◌≢◌, ◌≤◌, ◌+◌, ◌-◌, ◌&&◌, not, ℕ, Bool, true, false, List, [], Option, Some, None, refl, sym, ◌∙◌, ap, arith, ◌∷◌, ◌<◌, subst, ◌||◌, ◌*◌}
+use Rattle.std.proofs.Common.{length, ◌≡◌, ◌≢◌, ◌≤◌, ◌+◌, ◌-◌, ◌&&◌, not, ℕ, Bool, true, false, List, [], Option, Some, None, refl, sym}
+use Rattle.std.proofs.Common.{◌∙◌, ap, arith, ◌∷◌, ◌<◌, subst, ◌||◌, ◌*◌}
 use Rattle.std.specs.Prelude.{nat_lt, T, ◌==◌, if◌then◌else◌, is_some, unwrap_or, is_none}
 use Rattle.std.proofs.lemmas.Bool.{eq-eqb}
 use Rattle.std.proofs.lemmas.Bool.Decides.{nat_tests}
@@ -16,7 +17,8 @@ use Rattle.lfs_model.specs.Entry as entry
 use Rattle.lfs_model.specs.Objects.{one_if, IsHeaderOf}
 use Rattle.lfs_model.specs.Stands.{LogMap}
 use Rattle.lfs_model.specs.Step.{Step, is_there, let_go, name, target, with_tree}
-use Rattle.lfs_model.specs.Tree.{Dir, Names, State, Tree, byte_cmp, entry as entry_in, form_of, is_dir, links, names, names_in, node, slot_len, with_name, without_name}
+use Rattle.lfs_model.specs.Tree.{Dir, Names, State, Tree, byte_cmp, entry as entry_in, form_of, is_dir, links, names, names_in, node}
+use Rattle.lfs_model.specs.Tree.{slot_len, with_name, without_name}
 use Rattle.lfs_model.specs.TreeOf.{tree_in}
 use Rattle.lfs_model.specs.Walk.{At, Parent}
 use Rattle.lfs_model.proofs.KeepsNames.{rename_keeps}
@@ -26,7 +28,8 @@ use Rattle.lfs_files.specs.declared.header.Header.{Header}
 use Rattle.lfs_files.specs.Headers.{as_header}
 use Rattle.lfs_fs.proofs.Files.{IsMapOf, IsShaped, shape_of}
 use Rattle.lfs_fs.proofs.KeptMaps.{HasHolder, map_by}
-use Rattle.lfs_fs.proofs.MovedMaps.{DraftsMove, DraftsName, DraftsOver, IsMoving, IsNamed, named_kept, named_new, named_over, named_shifts, named_tree, named_version, second_after}
+use Rattle.lfs_fs.proofs.MovedMaps.{DraftsMove, DraftsName, DraftsOver, IsMoving, IsNamed, named_kept, named_new, named_over, named_shifts}
+use Rattle.lfs_fs.proofs.MovedMaps.{named_tree, named_version, second_after}
 use Rattle.lfs_fs.proofs.MovedNames as trees
 use Rattle.lfs_fs.proofs.MovedNames.{nothing_at, only_at}
 use Rattle.lfs_fs.specs.Renaming.{FitsFound, FitsReplaced, GivesName, FitsTarget, LooksAt, fewer_links, is_directory, more_links}

@@ -1,5 +1,6 @@
 -- An empty directory that was drafted out of the volume, as a step of the model.
-use Rattle.std.proofs.Common.{◌≡◌, ◌≢◌, ◌≤◌, ◌-◌, ◌*◌, ℕ, true, false, List, Option, Some, Result, refl, sym, ◌∙◌, ap, subst, ⊎_elim, arith, inl, inr, ◌+◌}
+use Rattle.std.proofs.Common.{◌≡◌, ◌≢◌, ◌≤◌, ◌-◌, ◌*◌, ℕ, true, false, List, Option, Some, Result, refl, sym, ◌∙◌, ap, subst, ⊎_elim, arith}
+use Rattle.std.proofs.Common.{inl, inr, ◌+◌}
 use Rattle.std.specs.Prelude.{IfErr, OnOk}
 use Rattle.std.specs.FinMap.{find}
 use Rattle.lfs_model.specs.declared.Kind.TheVariants as kind

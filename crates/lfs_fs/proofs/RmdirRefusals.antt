@@ -1,5 +1,6 @@
 -- The refusals of rmdir: those of the rule of a directory that is to go.
-use Rattle.std.proofs.Common.{◌≡◌, ◌≢◌, ◌<◌, ◌≤◌, ◌*◌, ℕ, Bool, true, false, List, [], length, Option, Some, None, refl, sym, ◌∙◌, ap, subst, ⊎_elim, nat_lt, arith}
+use Rattle.std.proofs.Common.{◌≡◌, ◌≢◌, ◌<◌, ◌≤◌, ◌*◌, ℕ, Bool, true, false, List, [], length, Option, Some, None, refl, sym, ◌∙◌, ap}
+use Rattle.std.proofs.Common.{subst, ⊎_elim, nat_lt, arith}
 use Rattle.lfs_model.specs.declared.Kind.{Kind}
 use Rattle.lfs_model.specs.declared.Kind.TheVariants as kind
 use Rattle.lfs_model.specs.Call.{Done, Refuse, Rmdir}
@@ -33,7 +34,9 @@ use Rattle.lfs_fs.proofs.Checks.{below, not_below}
 use Rattle.lfs_fs.proofs.Holding.{headers_of_volume, shape_of_volume, map_of_volume}
 use Rattle.lfs_fs.proofs.InDirectories.{size_of_directory}
 use Rattle.lfs_fs.proofs.NameLooks.{only_none}
-use Rattle.lfs_fs.proofs.OldEntries.{entry_is, found_there, gives_directory, gives_plain, head_is, is_directory, is_missing, long_is, looked, never, object_node, object_there, rises, says, short_is, still, target_is, there_d, volume, IsRefused, walk_refuses, walk_zero, small}
+use Rattle.lfs_fs.proofs.OldEntries.{entry_is, found_there, gives_directory, gives_plain, head_is, is_directory, is_missing, long_is}
+use Rattle.lfs_fs.proofs.OldEntries.{looked, never, object_node, object_there, rises, says, short_is, still, target_is, there_d, volume}
+use Rattle.lfs_fs.proofs.OldEntries.{IsRefused, walk_refuses, walk_zero, small}
 use Rattle.lfs_fs.proofs.ReadingEnds.{failed_serves}
 use Rattle.lfs_fs.proofs.Slots.{no_slots, some_names}
 use Rattle.lfs_fs.proofs.RmdirSteps.{removed, rmdir_done, rmdir_dots, rmdir_full, rmdir_long, rmdir_missing, rmdir_plain, rmdir_root}
@@ -164,7 +167,8 @@ module _ {D : Type 0} (state : D → DeviceState) (lawful : (d : D) → IsLawful
             (short_there head (Some n) has.sees.looks has.short) (there head n object has.sees)
             (gives head n object has.sees has.dir)
             (target_has head n object has.sees has.dir false
-            (not_below 0 (length (names_in s.tree n)) (let none = no_slots object.form (length (names_in s.tree n)) object.size size has.empty in omega (arith, none))))
+            (not_below 0 (length (names_in s.tree n))
+            (let none = no_slots object.form (length (names_in s.tree n)) object.size size has.empty in omega (arith, none))))
 
         pub placed : IsEntry (segments_of v) m s path d n head (as_header object)
         placed = record {

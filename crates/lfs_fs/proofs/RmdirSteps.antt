@@ -3,7 +3,8 @@ use Rattle.std.proofs.Common.{◌≡◌, ℕ, Bool, true, false, List, [], ◌�
 use Rattle.std.specs.Prelude.{not}
 use Rattle.lfs_model.specs.Call.{Answer, Done, Refuse, Rmdir}
 use Rattle.lfs_model.specs.Refusal.{Busy, Inval, NameTooLong, NoEntry, NotDir, NotEmpty, Refusal}
-use Rattle.lfs_model.specs.Step.{Step, checked, gives_dir, is_long, is_there, last_dots, let_go, name, no_last, removes_dir, target, when, with_tree}
+use Rattle.lfs_model.specs.Step.{Step, checked, gives_dir, is_long, is_there, last_dots, let_go, name, no_last, removes_dir, target, when}
+use Rattle.lfs_model.specs.Step.{with_tree}
 use Rattle.lfs_model.specs.Tree.{State, names_in, without_name}
 use Rattle.lfs_model.specs.Walk.{At, Parent, Refused}
 use Rattle.lfs_fs.proofs.Checks.{passes, refuses}

@@ -19,7 +19,8 @@ use Rattle.lfs_fs.specs.Reading.{row_at}
 use Rattle.lfs_fs.proofs.Files.{IsMapOf, node_by_header, stat_is, the_node_by_header}
 
 -- the first bytes, as many as there are
-pub head_clipped : (m : LogMap) (n : ℕ) (h : entry.Header) (count : ℕ) → part (object m n h) 0 (min count h.size) ≡ part (object m n h) 0 count
+pub head_clipped : (m : LogMap) (n : ℕ) (h : entry.Header) (count : ℕ)
+    → part (object m n h) 0 (min count h.size) ≡ part (object m n h) 0 count
 head_clipped m n h count = ap (λ (l : ℕ). part (object m n h) 0 (min count l)) (sym (object_length m n h)) ∙ take_min count (object m n h)
 
 -- all of them
@@ -32,8 +33,10 @@ ShowsHead m n h kind.File out = out ≡ part (object m n h) 0 16
 ShowsHead m n h kind.Directory out = out ≡ []
 ShowsHead m n h kind.Link out = out ≡ part (object m n h) 0 1023
 
-module _ (N : ℕ) (m : LogMap) (s : State) (is : IsMapOf N m s) (n : ℕ) (h : Header) (there : m.header n ≡ Some (as_header h)) (fits : IsHeaderOf n (as_header h)) where
-  head_by : (k : Kind) → node s.tree n ≡ Some (node_by m k n (as_header h)) → (out : List ℕ) → ShowsHead m n (as_header h) k out → head_of (node_by m k n (as_header h)) ≡ out
+module _ (N : ℕ) (m : LogMap) (s : State) (is : IsMapOf N m s) (n : ℕ) (h : Header) (there : m.header n ≡ Some (as_header h))
+    (fits : IsHeaderOf n (as_header h)) where
+  head_by : (k : Kind) → node s.tree n ≡ Some (node_by m k n (as_header h)) → (out : List ℕ) → ShowsHead m n (as_header h) k out
+      → head_of (node_by m k n (as_header h)) ≡ out
   head_by kind.File at out shows = sym shows
   head_by kind.Directory at out shows = sym shows
   head_by kind.Link at out shows =
@@ -46,5 +49,6 @@ module _ (N : ℕ) (m : LogMap) (s : State) (is : IsMapOf N m s) (n : ℕ) (h : 
       ∙ head_by h.kind (node_by_header N m s is.log n (as_header h) fits.number there) out shows
 
   module _ (d : ℕ) (nm out : List ℕ) (shows : ShowsHead m n (as_header h) h.kind out) where
-    pub row_by : row_at s.tree d (nm, n) ≡ record { directory = d; name = nm; stat = record { number = n; kind = h.kind; links = h.links; size = h.size }; head = out }
+    pub row_by : row_at s.tree d (nm, n)
+        ≡ record { directory = d; name = nm; stat = record { number = n; kind = h.kind; links = h.links; size = h.size }; head = out }
     row_by = λ i. record { directory = d; name = nm; stat = stat_is N m s is.log n (as_header h) there fits i; head = head_is out shows i }

@@ -24,26 +24,44 @@ use Rattle.lfs_fs.proofs.WritingEnds.{halts_serves}
 pub not_halted : {D : Type 0} (f : Fs D) → f.store.log.halted ≡ false → f.store.log.halted ≡ true → ⊥
 not_halted f was halted = cc
 
-module _ {D : Type 0} (state : D → DeviceState) (lawful : (d : D) → IsLawful (state d)) (old : Fs D) (store : Store D) (was : old.store.log.halted ≡ false) (totals : store.log.totals ≡ old.store.log.totals)
+module _ {D : Type 0} (state : D → DeviceState) (lawful : (d : D) → IsLawful (state d)) (old : Fs D) (store : Store D)
+    (was : old.store.log.halted ≡ false) (totals : store.log.totals ≡ old.store.log.totals)
     (tells : TellsAtMost state old.store.log store.log commit_orders) where
   abbrev new : Fs D
   new = record { alloc = old.alloc; store = store; handles = old.handles }
 
-  pub sync_done_serves : Commits state old.store.log old.store.saved store.log → store.saved ≡ true → Serves state (seen old) (seen new) Sync Done
+  pub sync_done_serves : Commits state old.store.log old.store.saved store.log → store.saved ≡ true
+      → Serves state (seen old) (seen new) Sync Done
   sync_done_serves done saved = sync_serves state (seen old) (seen new) (lawful old.store.log.device) (lawful store.log.device)
-      (record { blocks = ap (λ (t : BlockTotals). t.data_blocks) totals; others = ap (λ (t : BlockTotals). t.meta_blocks) totals; table = refl }) done saved tells
+      (record {
+        blocks = ap (λ (t : BlockTotals). t.data_blocks) totals;
+        others = ap (λ (t : BlockTotals). t.meta_blocks) totals;
+        table = refl;
+      }) done saved tells
 
   module _ (kept : store.saved ≡ old.store.saved) where
     same_seen : store.log ≡ old.store.log → seen new ≡ seen old
-    same_seen same = λ i. record { log = same i; saved = kept i; blocks = (totals i).data_blocks; others = (totals i).meta_blocks; table = old.handles.numbers.items }
+    same_seen same = λ i. record {
+      log = same i;
+      saved = kept i;
+      blocks = (totals i).data_blocks;
+      others = (totals i).meta_blocks;
+      table = old.handles.numbers.items;
+    }
 
-    sync_fault : (fault : LogFault) → (fault ≡ log.Full → (store.log ≡ old.store.log) × IsFull old.store.log) → (fault ≡ log.Full → old.store.saved ≡ false) → (fault ≡ log.Halted → Halts state old.store.log store.log) → (fault ≡ log.Device → ⊥)
+    sync_fault : (fault : LogFault) → (fault ≡ log.Full → (store.log ≡ old.store.log) × IsFull old.store.log) → (fault ≡ log.Full
+        → old.store.saved ≡ false) → (fault ≡ log.Halted → Halts state old.store.log store.log) → (fault ≡ log.Device → ⊥)
         → Serves state (seen old) (seen new) Sync (Refuse (refusal_of (error_of_log fault)))
     sync_fault log.Full full unsaved halted device =
-        subst (λ (v : Mounted D). Serves state (seen old) v Sync (Refuse (refusal_of (error_of_log log.Full)))) (sym (same_seen (full refl).0)) (full_serves state (seen old) (lawful old.store.log.device) was (unsaved refl) (full refl).1)
-    sync_fault log.Halted full unsaved halted device = halts_serves state lawful (seen old) (seen new) Sync was refl refl 0 (omega arith) (λ few. sync_bounded state (seen old) (seen new) few tells) (halts_at_once state old.store.log store.log (halted refl))
+        subst (λ (v : Mounted D). Serves state (seen old) v Sync (Refuse (refusal_of (error_of_log log.Full))))
+        (sym (same_seen (full refl).0)) (full_serves state (seen old) (lawful old.store.log.device) was (unsaved refl) (full refl).1)
+    sync_fault log.Halted full unsaved halted device = halts_serves state lawful (seen old) (seen new) Sync was refl refl 0 (omega arith)
+        (λ few. sync_bounded state (seen old) (seen new) few tells) (halts_at_once state old.store.log store.log (halted refl))
     sync_fault log.Device full unsaved halted device = absurd (device refl)
 
-    pub sync_fails : (fault : LogFault) (e : FsError) → e ≡ error_of_log fault → (fault ≡ log.Full → (store.log ≡ old.store.log) × IsFull old.store.log) → (fault ≡ log.Full → old.store.saved ≡ false) → (fault ≡ log.Halted → Halts state old.store.log store.log) → (fault ≡ log.Device → ⊥)
+    pub sync_fails : (fault : LogFault) (e : FsError) → e ≡ error_of_log fault
+        → (fault ≡ log.Full → (store.log ≡ old.store.log) × IsFull old.store.log) → (fault ≡ log.Full → old.store.saved ≡ false)
+        → (fault ≡ log.Halted → Halts state old.store.log store.log) → (fault ≡ log.Device → ⊥)
         → Serves state (seen old) (seen new) Sync (Refuse (refusal_of e))
-    sync_fails fault e is full unsaved halted device = subst (λ (x : FsError). Serves state (seen old) (seen new) Sync (Refuse (refusal_of x))) (sym is) (sync_fault fault full unsaved halted device)
+    sync_fails fault e is full unsaved halted device = subst (λ (x : FsError).
+        Serves state (seen old) (seen new) Sync (Refuse (refusal_of x))) (sym is) (sync_fault fault full unsaved halted device)

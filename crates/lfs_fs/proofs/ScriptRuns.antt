@@ -1,5 +1,6 @@
 -- Lines of a script on a volume, one after the other: a run of the model, and what a stop in it leaves.
-use Rattle.std.proofs.Common.{◌≡◌, ◌⊎◌, ◌<◌, ℕ, zero, suc, List, [], ◌∷◌, ◌++◌, length, length-append, map, slice_get, slice_index_or, refl, sym, ◌∙◌, ap, subst, inl, inr, ⊎_elim, arith}
+use Rattle.std.proofs.Common.{◌≡◌, ◌⊎◌, ◌<◌, ℕ, zero, suc, List, [], ◌∷◌, ◌++◌, length, length-append, map, slice_get, slice_index_or, refl}
+use Rattle.std.proofs.Common.{sym, ◌∙◌, ap, subst, inl, inr, ⊎_elim, arith}
 use Rattle.std.specs.List.{Contains}
 use Rattle.std.proofs.lemmas.List.{length-map}
 use Rattle.std.proofs.lemmas.List.Elements.{Contains-append_left, Contains-append_right}
@@ -27,10 +28,12 @@ use Rattle.lfs_fs.proofs.LineSteps.{StepsLine, left_none, line_carries, line_run
 -- ---- the points of a run
 
 -- one line more
-run_more : (N : ℕ) (p : Point) (lines : List Line) (answers : List Answer) (points : List Point) (line : Line) (answer : Answer) (next : Point) → LineRun N p lines answers points
+run_more : (N : ℕ) (p : Point) (lines : List Line) (answers : List Answer) (points : List Point) (line : Line) (answer : Answer)
+    (next : Point) → LineRun N p lines answers points
     → LineAnswers N line (final p points) answer next → LineRun N p (lines ++ line ∷ []) (answers ++ answer ∷ []) (points ++ next ∷ [])
 run_more N p [] [] [] line answer next run more = (more, tt)
-run_more N p (l ∷ lines) (a ∷ answers) (q ∷ points) line answer next run more = (run.0, run_more N q lines answers points line answer next run.1 more)
+run_more N p (l ∷ lines) (a ∷ answers) (q ∷ points) line answer next run more =
+    (run.0, run_more N q lines answers points line answer next run.1 more)
 run_more N p [] [] (q ∷ points) line answer next run more = absurd run
 run_more N p [] (a ∷ answers) points line answer next run more = absurd run
 run_more N p (l ∷ lines) [] points line answer next run more = absurd run
@@ -40,13 +43,15 @@ run_more N p (l ∷ lines) (a ∷ answers) [] line answer next run more = absurd
 line_lengths : (N : ℕ) (p : Point) (lines : List Line) (answers : List Answer) (points : List Point) → LineRun N p lines answers points
     → (length (map call_of lines) ≡ length points) × (length answers ≡ length points)
 line_lengths N p [] [] [] run = (refl, refl)
-line_lengths N p (l ∷ lines) (a ∷ answers) (q ∷ points) run = let h = line_lengths N q lines answers points run.1 in (omega (arith, h.0), omega (arith, h.1))
+line_lengths N p (l ∷ lines) (a ∷ answers) (q ∷ points) run = let h = line_lengths N q lines answers points run.1 in
+    (omega (arith, h.0), omega (arith, h.1))
 line_lengths N p [] [] (q ∷ points) run = absurd run
 line_lengths N p [] (a ∷ answers) points run = absurd run
 line_lengths N p (l ∷ lines) [] points run = absurd run
 line_lengths N p (l ∷ lines) (a ∷ answers) [] run = absurd run
 
-so_far : (N : ℕ) (p : Point) (lines : List Line) (answers : List Answer) (points : List Point) → LineRun N p lines answers points → IsRunSoFar (p ∷ points) (map call_of lines) answers (final p points)
+so_far : (N : ℕ) (p : Point) (lines : List Line) (answers : List Answer) (points : List Point) → LineRun N p lines answers points
+    → IsRunSoFar (p ∷ points) (map call_of lines) answers (final p points)
 so_far N p lines answers points run =
     let h = line_lengths N p lines answers points run in record {
       points_length = omega (arith, h.0);
@@ -72,8 +77,10 @@ final_state : (p : Point) (points : List Point) → Contains (left_states (p ∷
 final_state p [] = (0, omega arith, refl)
 final_state p (q ∷ points) = let one = final_state q points in (suc one.0, (let low = one.1 in omega arith), one.2)
 
-was_state : (points : List Point) (next : Point) (s : State) → Contains (left_states points) s → Contains (left_states (points ++ next ∷ [])) s
-was_state points next s one = subst (λ (ss : List State). Contains ss s) (sym (states_more points next)) (Contains-append_left (left_states points) (drop_nameless next.state ∷ []) s one)
+was_state : (points : List Point) (next : Point) (s : State) → Contains (left_states points) s
+    → Contains (left_states (points ++ next ∷ [])) s
+was_state points next s one = subst (λ (ss : List State). Contains ss s) (sym (states_more points next))
+    (Contains-append_left (left_states points) (drop_nameless next.state ∷ []) s one)
 
 next_state : (points : List Point) (next : Point) → Contains (left_states (points ++ next ∷ [])) (drop_nameless next.state)
 next_state points next = subst (λ (ss : List State). Contains ss (drop_nameless next.state)) (sym (states_more points next))
@@ -85,8 +92,10 @@ abbrev OneOf : DeviceState → List State → Content → Type 0
 OneOf d ss c = (s : State) × Stands c s × (Left d s ⊎ Contains ss s)
 
 -- where a stop at the start left one state alone, the states of the points are all
-moments_from : (a b : DeviceState) (p : Point) (points : List Point) → LeavesStates a b (left_states (p ∷ points)) → LeavesOne a (drop_nameless p.state) → LeavesOnly a b (StandsForSome (p ∷ points))
-moments_from a b p points leaves one = weaker a b (OneOf a (left_states (p ∷ points))) (StandsForSome (p ∷ points)) (λ c is. (is.0, each is.0 is.2, is.1)) leaves
+moments_from : (a b : DeviceState) (p : Point) (points : List Point) → LeavesStates a b (left_states (p ∷ points))
+    → LeavesOne a (drop_nameless p.state) → LeavesOnly a b (StandsForSome (p ∷ points))
+moments_from a b p points leaves one =
+    weaker a b (OneOf a (left_states (p ∷ points))) (StandsForSome (p ∷ points)) (λ c is. (is.0, each is.0 is.2, is.1)) leaves
   where
     each : (s : State) → Left a s ⊎ Contains (left_states (p ∷ points)) s → Contains (left_states (p ∷ points)) s
     each s (inl left) = (0, omega arith, sym (left_only a (drop_nameless p.state) s one left))
@@ -108,7 +117,8 @@ module _ (a b c : DeviceState) (p : Point) (points : List Point) (next : Point) 
   more s (inr of) = inr (was_state (p ∷ points) next s of)
 
   at_index : (s : State) (k : ℕ) → k < 2 → slice_index_or pair k s ≡ s → Contains all s
-  at_index s zero lt is = subst (Contains all) is (was_state (p ∷ points) next (drop_nameless (final p points).state) (final_state p points))
+  at_index s zero lt is =
+      subst (Contains all) is (was_state (p ∷ points) next (drop_nameless (final p points).state) (final_state p points))
   at_index s (suc zero) lt is = subst (Contains all) is (next_state (p ∷ points) next)
   at_index s (suc (suc k)) lt is = absurd (omega arith)
 
@@ -121,7 +131,8 @@ module _ (a b c : DeviceState) (p : Point) (points : List Point) (next : Point) 
   then_one one s (inr of) = inr (at_index s of.0 of.1 of.2)
 
   leaves_step : LeavesStates a b so_far_states → LeavesStates b c pair → LeavesStates a c all
-  leaves_step one two = joined a b c (OneOf a so_far_states) (OneOf b pair) (OneOf a all) one two (λ x is. (is.0, is.1, more is.0 is.2)) (λ x is. (is.0, is.1, then_one one is.0 is.2))
+  leaves_step one two = joined a b c (OneOf a so_far_states) (OneOf b pair) (OneOf a all) one two (λ x is. (is.0, is.1, more is.0 is.2))
+      (λ x is. (is.0, is.1, then_one one is.0 is.2))
 
 -- ---- the laws
 
@@ -129,7 +140,8 @@ module _ {D : Type 0} (state : D → DeviceState) (lawful : (d : D) → IsLawful
   none_at : (v : Mounted D) (p : Point) → IsAt state v p → RanAt state v v [] [] p
   none_at v p at =
       let d : _ = state v.log.device in
-      let leaves : LeavesStates d d (left_states (p ∷ [])) = left_none state d (left_states (p ∷ [])) (lawful v.log.device) at.leaves in record {
+      let leaves : LeavesStates d d (left_states (p ∷ [])) = left_none state d (left_states (p ∷ [])) (lawful v.log.device) at.leaves in
+      record {
         points = [];
         run = tt;
         at = at;
@@ -145,15 +157,18 @@ module _ {D : Type 0} (state : D → DeviceState) (lawful : (d : D) → IsLawful
       (λ refused. absurd (let no = refused.1 in cc))
       serves
 
-  unstuck_more : (answers : List Answer) (answer : Answer) → AreUnstuck answers → (answer ≡ Refuse Stuck → ⊥) → AreUnstuck (answers ++ answer ∷ [])
+  unstuck_more : (answers : List Answer) (answer : Answer) → AreUnstuck answers → (answer ≡ Refuse Stuck → ⊥)
+      → AreUnstuck (answers ++ answer ∷ [])
   unstuck_more [] answer those one = (one, tt)
   unstuck_more (first ∷ answers) answer those one = (those.0, unstuck_more answers answer those.1 one)
 
   -- a line more, on the volume as the others left it
-  serves_more : (old mid new : Mounted D) (lines : List Line) (answers : List Answer) (line : Line) (answer : Answer) → ServesLines state old mid lines answers
+  serves_more : (old mid new : Mounted D) (lines : List Line) (answers : List Answer) (line : Line) (answer : Answer)
+      → ServesLines state old mid lines answers
       → ServesLine state mid new line answer → ServesLines state old new (lines ++ line ∷ []) (answers ++ answer ∷ [])
   serves_more old mid new [] [] line answer same more = (new, subst (λ (v : Mounted D). ServesLine state v new line answer) same more, refl)
-  serves_more old mid new (l ∷ lines) (a ∷ answers) line answer those more = (those.0, those.1, serves_more those.0 mid new lines answers line answer those.2 more)
+  serves_more old mid new (l ∷ lines) (a ∷ answers) line answer those more =
+      (those.0, those.1, serves_more those.0 mid new lines answers line answer those.2 more)
   serves_more old mid new [] (a ∷ answers) line answer those more = absurd those
   serves_more old mid new (l ∷ lines) [] line answer those more = absurd those
 
@@ -168,31 +183,39 @@ module _ {D : Type 0} (state : D → DeviceState) (lawful : (d : D) → IsLawful
   }
 
   module _ (old mid new : Mounted D) (lines : List Line) (answers : List Answer) (line : Line) (answer : Answer) where
-    more_at : (p : Point) (ran : RanAt state old mid lines answers p) → StepsLine state (segments_of old) mid new line answer (final p ran.points)
+    more_at : (p : Point) (ran : RanAt state old mid lines answers p)
+        → StepsLine state (segments_of old) mid new line answer (final p ran.points)
         → RanAt state old new (lines ++ line ∷ []) (answers ++ answer ∷ []) p
     more_at p ran step =
-        let leaves = leaves_step (state old.log.device) (state mid.log.device) (state new.log.device) p ran.points step.next (lawful mid.log.device) ran.leaves step.leaves in record {
+        let leaves = leaves_step (state old.log.device) (state mid.log.device) (state new.log.device) p ran.points step.next
+        (lawful mid.log.device) ran.leaves step.leaves in record {
           points = ran.points ++ step.next ∷ [];
           run = run_more (segments_of old) p lines answers ran.points line answer step.next ran.run step.does;
           at = subst (IsAt state new) (sym (final_more p ran.points step.next)) step.at;
           leaves = leaves;
           moments = moments_from (state old.log.device) (state new.log.device) p (ran.points ++ step.next ∷ []) leaves;
-          pending = λ one. subst (λ (calls : List Call). LeavesPrefix (state new.log.device) (p ∷ (ran.points ++ step.next ∷ [])) calls (answers ++ answer ∷ [])) (sym (calls_more lines line))
-              (leaves_more (state mid.log.device) (state new.log.device) (p ∷ ran.points) (map call_of lines) answers (final p ran.points) step.next (call_of line) answer
-              (so_far (segments_of old) p lines answers ran.points ran.run) (lawful new.log.device) (ran.pending one) step.leaves step.saves);
+          pending = λ one. subst (λ (calls : List Call). LeavesPrefix (state new.log.device) (p ∷ (ran.points ++ step.next ∷ [])) calls
+              (answers ++ answer ∷ [])) (sym (calls_more lines line))
+              (leaves_more (state mid.log.device) (state new.log.device) (p ∷ ran.points) (map call_of lines) answers
+              (final p ran.points) step.next (call_of line) answer
+              (so_far (segments_of old) p lines answers ran.points ran.run) (lawful new.log.device)
+              (ran.pending one) step.leaves step.saves);
         }
 
     -- one line more
-    pub ran_more : RunsLines state old mid lines answers → ServesLine state mid new line answer → RunsLines state old new (lines ++ line ∷ []) (answers ++ answer ∷ [])
+    pub ran_more : RunsLines state old mid lines answers → ServesLine state mid new line answer
+        → RunsLines state old new (lines ++ line ∷ []) (answers ++ answer ∷ [])
     ran_more runs serves =
         let carries = line_carries state lawful mid new line answer serves in record {
           carries = carries_then (state old.log.device) (state mid.log.device) (state new.log.device) runs.carries carries;
-          segments = λ now. line_segments state lawful mid new line answer serves now ∙ runs.segments (line_running state lawful mid new line answer serves now);
+          segments = λ now. line_segments state lawful mid new line answer serves now
+              ∙ runs.segments (line_running state lawful mid new line answer serves now);
           through = serves_more old mid new lines answers line answer runs.through serves;
           unstuck = unstuck_more answers answer runs.unstuck (line_unstuck mid new line answer serves);
           model = λ p keeps at. (
               let ran = runs.model p (carries.kept_before keeps) at in
-              more_at p ran (line_steps state lawful mid new line answer (segments_of old) (final p ran.points) runs.segments keeps ran.at serves));
+              more_at p ran
+              (line_steps state lawful mid new line answer (segments_of old) (final p ran.points) runs.segments keeps ran.at serves));
         }
 
   -- ---- their replies go out
@@ -212,28 +235,36 @@ module _ {D : Type 0} (state : D → DeviceState) (lawful : (d : D) → IsLawful
     d' = state new.log.device
 
     -- one line more, and its reply
-    told_at : length clocks ≡ length lines → (p : Point) (told : ToldAt state old mid lines answers clocks p) → StepsLine state (segments_of old) mid new line answer (final p told.ran.points)
+    told_at : length clocks ≡ length lines → (p : Point) (told : ToldAt state old mid lines answers clocks p)
+        → StepsLine state (segments_of old) mid new line answer (final p told.ran.points)
         → ToldAt state old new (lines ++ line ∷ []) (answers ++ answer ∷ []) (clocks ++ d'.moment ∷ []) p
     unfolding more_at
     told_at long p told step =
         let so = so_far (segments_of old) p lines answers told.ran.points told.ran.run in
         let few : length (map call_of lines) ≡ length lines = length-map lines call_of in
-        let pending : (LeavesOne (state old.log.device) (drop_nameless p.state) → LeavesPrefix d' (p ∷ (told.ran.points ++ step.next ∷ [])) (map call_of lines ++ call_of line ∷ []) (answers ++ answer ∷ [])) =
-        λ one. leaves_more (state mid.log.device) d' (p ∷ told.ran.points) (map call_of lines) answers (final p told.ran.points) step.next (call_of line) answer so (lawful new.log.device) (told.ran.pending one) step.leaves step.saves in record {
+        let pending : (LeavesOne (state old.log.device) (drop_nameless p.state)
+        → LeavesPrefix d' (p ∷ (told.ran.points ++ step.next ∷ [])) (map call_of lines ++ call_of line ∷ []) (answers ++ answer ∷ [])) =
+        λ one. leaves_more (state mid.log.device) d' (p ∷ told.ran.points) (map call_of lines) answers (final p told.ran.points) step.next
+        (call_of line) answer so (lawful new.log.device) (told.ran.pending one) step.leaves step.saves in record {
           ran = more_at old mid new lines answers line answer p told.ran step;
-          kept = λ one. subst (λ (calls : List Call). AreKeptSince d' (p ∷ (told.ran.points ++ step.next ∷ [])) calls (answers ++ answer ∷ []) (clocks ++ d'.moment ∷ [])) (sym (calls_more lines line))
-              (kept_told d' (p ∷ (told.ran.points ++ step.next ∷ [])) (map call_of lines ++ call_of line ∷ []) (answers ++ answer ∷ []) clocks (lawful new.log.device)
+          kept = λ one. subst (λ (calls : List Call). AreKeptSince d' (p ∷ (told.ran.points ++ step.next ∷ [])) calls
+              (answers ++ answer ∷ []) (clocks ++ d'.moment ∷ [])) (sym (calls_more lines line))
+              (kept_told d' (p ∷ (told.ran.points ++ step.next ∷ [])) (map call_of lines ++ call_of line ∷ [])
+              (answers ++ answer ∷ []) clocks (lawful new.log.device)
               (omega (arith, length-append answers (answer ∷ []), length-append (map call_of lines) (call_of line ∷ []), so.answers_length))
               (omega (arith, length-append (map call_of lines) (call_of line ∷ []), few, long))
               (pending one)
-              (kept_more (state mid.log.device) d' (p ∷ told.ran.points) (map call_of lines) answers (final p told.ran.points) step.next (call_of line) answer clocks so (lawful mid.log.device) (omega (arith, few, long)) (told.kept one) step.leaves));
+              (kept_more (state mid.log.device) d' (p ∷ told.ran.points) (map call_of lines) answers (final p told.ran.points) step.next
+              (call_of line) answer clocks so (lawful mid.log.device) (omega (arith, few, long)) (told.kept one) step.leaves));
         }
 
-    pub tells_more : TellsLines state old mid lines answers clocks → ServesLine state mid new line answer → TellsLines state old new (lines ++ line ∷ []) (answers ++ answer ∷ []) (clocks ++ d'.moment ∷ [])
+    pub tells_more : TellsLines state old mid lines answers clocks → ServesLine state mid new line answer
+        → TellsLines state old new (lines ++ line ∷ []) (answers ++ answer ∷ []) (clocks ++ d'.moment ∷ [])
     tells_more tells serves = record {
       runs = ran_more old mid new lines answers line answer tells.runs serves;
       one_each = (let long = tells.one_each in omega (arith, length-append clocks (d'.moment ∷ []), length-append lines (line ∷ []), long));
       told = λ p keeps at. (
           let told = tells.told p ((line_carries state lawful mid new line answer serves).kept_before keeps) at in
-          told_at tells.one_each p told (line_steps state lawful mid new line answer (segments_of old) (final p told.ran.points) tells.runs.segments keeps told.ran.at serves));
+          told_at tells.one_each p told (line_steps state lawful mid new line answer (segments_of old)
+          (final p told.ran.points) tells.runs.segments keeps told.ran.at serves));
     }

@@ -34,13 +34,15 @@ stands_as c s t same is = record {
 }
 
 -- while no commit failed, what a stop leaves has the number of the acknowledged checkpoint
-numbered : {D : Type 0} (state : D → DeviceState) (v : Mounted D) (p : Point) → IsAt state v p → p.halted ≡ false → AllLeft (state v.log.device) (IsNumbered p.number)
+numbered : {D : Type 0} (state : D → DeviceState) (v : Mounted D) (p : Point) → IsAt state v p → p.halted ≡ false
+    → AllLeft (state v.log.device) (IsNumbered p.number)
 numbered state v p at on c left =
     let r : Runs state v p.state = at.running (sym at.halted ∙ on) in
     let holds = r.is.stores.holds in
     (r.checkpoint, (holds.log.running.settled.each c left).newest, at.number ∙ sym holds.number)
 
-module _ {D : Type 0} (state : D → DeviceState) (d : D) (lawful : IsLawful (state d)) (v : Fs D) (new : Mounted D) (lines : List Line) (answers : List Answer)
+module _ {D : Type 0} (state : D → DeviceState) (d : D) (lawful : IsLawful (state d)) (v : Fs D) (new : Mounted D) (lines : List Line)
+    (answers : List Answer)
     (finds : FindsState state d v)
     (durable : (state v.store.log.device).keeps_model → Only (state d).content (state v.store.log.device))
     (untouched : IsUntouched (state d) (state v.store.log.device))
@@ -83,7 +85,8 @@ module _ {D : Type 0} (state : D → DeviceState) (d : D) (lawful : IsLawful (st
 
   -- what a stop meanwhile leaves, by what one before might have left
   moments_by : (P : Content → Type 0) → AllLeft (state d) P → LeavesOnly (state d) (state new.log.device) (λ c. P c ⊎ Leaves c)
-  moments_by P was = joined (state d) (state v.store.log.device) (state new.log.device) (state d).may_leave Leaves (λ c. P c ⊎ Leaves c) moment (ran.moments alone)
+  moments_by P was = joined (state d) (state v.store.log.device) (state new.log.device) (state d).may_leave Leaves
+      (λ c. P c ⊎ Leaves c) moment (ran.moments alone)
       (λ c left. inl (was c left)) (λ c some. inr some)
 
   -- where that was pending in an earlier run, so is the state at the beginning
@@ -116,20 +119,26 @@ module _ {D : Type 0} (state : D → DeviceState) (d : D) (lawful : IsLawful (st
     continues = goes_on_from;
   }
 
-module _ {D : Type 0} (state : D → DeviceState) (d : D) (lawful : IsLawful (state d)) (v : Fs D) (new : Mounted D) (lines : List Line) (answers : List Answer)
+module _ {D : Type 0} (state : D → DeviceState) (d : D) (lawful : IsLawful (state d)) (v : Fs D) (new : Mounted D) (lines : List Line)
+    (answers : List Answer)
     (finds : FindsState state d v)
     (durable : (state v.store.log.device).keeps_model → Only (state d).content (state v.store.log.device))
     (untouched : IsUntouched (state d) (state v.store.log.device))
     (carries : Carries (state d) (state v.store.log.device)) (moment : LeavesOnly (state d) (state v.store.log.device) (state d).may_leave)
     (no_failure : (state v.store.log.device).failures ≡ (state d).failures) where
-  pub uses_volume : RunsLines state (seen v) new lines answers → (state new.log.device).keeps_model → UsesVolume (state d) (state new.log.device) lines answers
-  uses_volume runs keeps = uses_by state d lawful v new lines answers finds durable untouched carries moment no_failure runs keeps (λ p is. runs.model p keeps is)
+  pub uses_volume : RunsLines state (seen v) new lines answers → (state new.log.device).keeps_model
+      → UsesVolume (state d) (state new.log.device) lines answers
+  uses_volume runs keeps = uses_by state d lawful v new lines answers finds durable untouched carries moment no_failure runs keeps
+      (λ p is. runs.model p keeps is)
 
-  pub uses_told : (clocks : List ℕ) → TellsLines state (seen v) new lines answers clocks → (state new.log.device).keeps_model → UsesTold (state d) (state new.log.device) lines answers clocks
+  pub uses_told : (clocks : List ℕ) → TellsLines state (seen v) new lines answers clocks → (state new.log.device).keeps_model
+      → UsesTold (state d) (state new.log.device) lines answers clocks
   unfolding uses_by
   uses_told clocks tells keeps =
       let rans : ((p : Point) → IsAt state (seen v) p → RanAt state (seen v) new lines answers p) = λ p is. (tells.told p keeps is).ran in
-      let mounted = at state d lawful v new lines answers finds durable untouched carries moment no_failure tells.runs keeps rans in record {
+      let mounted = at state d lawful v new lines answers finds durable untouched carries moment no_failure tells.runs keeps rans in
+      record {
         uses = uses_by state d lawful v new lines answers finds durable untouched carries moment no_failure tells.runs keeps rans;
-        since = (tells.told mounted.point keeps mounted.at).kept (alone state d lawful v new lines answers finds durable untouched carries moment no_failure tells.runs keeps rans);
+        since = (tells.told mounted.point keeps mounted.at).kept
+            (alone state d lawful v new lines answers finds durable untouched carries moment no_failure tells.runs keeps rans);
       }

@@ -28,7 +28,8 @@ use Rattle.lfs_fs.proofs.Files.{IsMapOf, IsFileOf, IsShaped, opened_file}
 use Rattle.lfs_fs.proofs.Changed.{changed_map, not_directory, shape_kept}
 use Rattle.lfs_fs.proofs.HandleSteps.{file_is, shortened}
 
-module _ (N : ℕ) (m m' : LogMap) (s : State) (h n : ℕ) (is : IsMapOf N m s) (opens : find nat_cmp h s.handles ≡ Some n) (head : Header) (there : m.header n ≡ Some (as_header head))
+module _ (N : ℕ) (m m' : LogMap) (s : State) (h n : ℕ) (is : IsMapOf N m s) (opens : find nat_cmp h s.handles ≡ Some n) (head : Header)
+    (there : m.header n ≡ Some (as_header head))
     (len : ℕ) (sizes : SizesFile m m' n head (resized head len) len) where
   was : IsFileOf m s.tree n
   was = opened_file N m s is.log h n opens
@@ -88,7 +89,8 @@ module _ (N : ℕ) (m m' : LogMap) (s : State) (h n : ℕ) (is : IsMapOf N m s) 
     shortened_log = object_kept m m' n head' is.map sizes.only sizes.header fits
 
     pub shortened_shape : IsShaped m → IsShaped m'
-    shortened_shape shaped = shape_kept m m' n sizes.only shaped shortened_log fits.whole.long (λ g here dir. absurd (not_directory m' n head' sizes.header is_file g here dir))
+    shortened_shape shaped = shape_kept m m' n sizes.only shaped shortened_log fits.whole.long
+        (λ g here dir. absurd (not_directory m' n head' sizes.header is_file g here dir))
 
     good : IsWithinLimits (File after)
     good =
@@ -99,4 +101,5 @@ module _ (N : ℕ) (m m' : LogMap) (s : State) (h n : ℕ) (is : IsMapOf N m s) 
     -- and the volume's
     pub shortened_map : IsMapOf N m' (with_tree s (shortened N s h len))
     shortened_map = subst (λ (t : Tree). IsMapOf N m' (with_tree s t)) (sym shortened_is)
-        (changed_map N m m' s is n was head' sizes.only sizes.header is_file (sym (ap (λ (x : entry.Header). x.links) head_is)) fits after tree_after good room_after)
+        (changed_map N m m' s is n was head' sizes.only sizes.header is_file (sym (ap (λ (x : entry.Header). x.links) head_is)) fits after
+        tree_after good room_after)

@@ -41,11 +41,14 @@ totals_of t = record { data_blocks = t.data_blocks; meta_blocks = t.meta_blocks 
 
 module _ {D : Type 0} (state : D → DeviceState) (a b : Store D) where
   -- what is told of files is told of each log map, with the draft
-  pub each_drafted : (P : LogMap → Type 0) → ((m m' : LogMap) → (files_of state b).device.keeps_model → (files_of state a).has m m' → P m') → EachDrafted state a.log b.log a.draft.changes P
-  each_drafted P all k m0 m keeps holds = all m (staged a.draft.changes m) keeps record { checkpoint = k; acknowledged = m0; holds = holds; draft = refl }
+  pub each_drafted : (P : LogMap → Type 0) → ((m m' : LogMap) → (files_of state b).device.keeps_model → (files_of state a).has m m' → P m')
+      → EachDrafted state a.log b.log a.draft.changes P
+  each_drafted P all k m0 m keeps holds =
+      all m (staged a.draft.changes m) keeps record { checkpoint = k; acknowledged = m0; holds = holds; draft = refl }
 
   pub store_failed : files.IsFault (files_of state a) (files_of state b) → IsReadFault state a.log b.log
-  store_failed failed k m0 m keeps holds = failed m (staged a.draft.changes m) keeps record { checkpoint = k; acknowledged = m0; holds = holds; draft = refl }
+  store_failed failed k m0 m keeps holds =
+      failed m (staged a.draft.changes m) keeps record { checkpoint = k; acknowledged = m0; holds = holds; draft = refl }
 
   -- ---- calls that only read
   module _ (reads : files.Reads (files_of state a) (files_of state b)) where
@@ -67,13 +70,16 @@ module _ {D : Type 0} (state : D → DeviceState) (a b : Store D) where
     same_drafted = ap totals_of reads.drafted
 
   -- ---- walks of a path
-  pub ends_refused : (W : Tree → End → Type 0) (fault : WalkFault) → TellsRefusal (files_of state a) (files_of state b) HasTree W fault → EndsRefused state a.log b.log a.draft.changes W fault
+  pub ends_refused : (W : Tree → End → Type 0) (fault : WalkFault) → TellsRefusal (files_of state a) (files_of state b) HasTree W fault
+      → EndsRefused state a.log b.log a.draft.changes W fault
   ends_refused W = by
     where
-      each : (P : LogMap → Type 0) → ((m m' : LogMap) → (files_of state b).device.keeps_model → (files_of state a).has m m' → HasTree m' → P m') → EachDrafted state a.log b.log a.draft.changes (λ m. HasTree m → P m)
+      each : (P : LogMap → Type 0) → ((m m' : LogMap) → (files_of state b).device.keeps_model → (files_of state a).has m m' → HasTree m'
+          → P m') → EachDrafted state a.log b.log a.draft.changes (λ m. HasTree m → P m)
       each P all = each_drafted (λ m. HasTree m → P m) all
 
-      by : (fault : WalkFault) → TellsRefusal (files_of state a) (files_of state b) HasTree W fault → EndsRefused state a.log b.log a.draft.changes W fault
+      by : (fault : WalkFault) → TellsRefusal (files_of state a) (files_of state b) HasTree W fault
+          → EndsRefused state a.log b.log a.draft.changes W fault
       by walk.NoEntry ends = each (λ m. W (tree_in m) (Refused model.NoEntry)) ends
       by walk.NotDir ends = each (λ m. W (tree_in m) (Refused model.NotDir)) ends
       by walk.NameTooLong ends = each (λ m. W (tree_in m) (Refused model.NameTooLong)) ends
@@ -82,8 +88,10 @@ module _ {D : Type 0} (state : D → DeviceState) (a b : Store D) where
       by walk.NoMemory ends = tt
       by (walk.Log fault) ends = each (λ m. (state a.log.device).failures < (state b.log.device).failures) ends
 
-  pub ends_parent : (path chain : List ℕ) (d : ℕ) → d ≡ here chain → Tells (files_of state a) (files_of state b) HasTree (IsParent path chain) → WalksTo state a.log b.log a.draft.changes (EndsParent path) (At d)
-  ends_parent path chain d same tells k m0 m keeps holds tree = subst (λ (n : ℕ). EndsParent path (tree_in (staged a.draft.changes m)) (At n)) (sym same)
+  pub ends_parent : (path chain : List ℕ) (d : ℕ) → d ≡ here chain → Tells (files_of state a) (files_of state b) HasTree
+      (IsParent path chain) → WalksTo state a.log b.log a.draft.changes (EndsParent path) (At d)
+  ends_parent path chain d same tells k m0 m keeps holds tree =
+      subst (λ (n : ℕ). EndsParent path (tree_in (staged a.draft.changes m)) (At n)) (sym same)
       (tells m (staged a.draft.changes m) keeps record { checkpoint = k; acknowledged = m0; holds = holds; draft = refl } tree).ends
 
   -- ---- calls that change the draft
@@ -99,7 +107,8 @@ module _ {D : Type 0} (state : D → DeviceState) (a b : Store D) where
       totals = ap totals_of redrafts.totals;
     }
 
-    pub log_counts : files.Counts (files_of state a) (files_of state b) → Counts state a.log b.log a.draft.changes b.draft.changes a.drafted b.drafted
+    pub log_counts : files.Counts (files_of state a) (files_of state b)
+        → Counts state a.log b.log a.draft.changes b.draft.changes a.drafted b.drafted
     log_counts counts k m0 m keeps holds =
         counts m (staged a.draft.changes m) (staged b.draft.changes m) keeps
         record { checkpoint = k; acknowledged = m0; holds = holds; draft = refl }
@@ -108,23 +117,27 @@ module _ {D : Type 0} (state : D → DeviceState) (a b : Store D) where
   pub log_adds : (d : ℕ) (head : Header) (n : ℕ) (name : List ℕ) → adding.Adds (files_of state a) (files_of state b) d head n name
       → Adds state a.log b.log a.draft.changes b.draft.changes d head n name
   log_adds d head n name adds = record {
-    fits = λ k m0 m holds fits takes. adds.writes.fits m (staged a.draft.changes m) record { checkpoint = k; acknowledged = m0; holds = holds; draft = refl } fits record {
-      there = takes.there;
-      apart = record { inode = takes.apart.inode; above = takes.apart.above };
-      within = takes.within;
-      header = takes.header;
-    };
+    fits = λ k m0 m holds fits takes. adds.writes.fits m
+        (staged a.draft.changes m) record { checkpoint = k; acknowledged = m0; holds = holds; draft = refl } fits record {
+          there = takes.there;
+          apart = record { inode = takes.apart.inode; above = takes.apart.above };
+          within = takes.within;
+          header = takes.header;
+        };
     file = λ k m0 m keeps holds.
         let f = adds.has m (staged a.draft.changes m) keeps record { checkpoint = k; acknowledged = m0; holds = holds; draft = refl } in
-        subst (λ (x : LogMap). WritesFile (staged a.draft.changes m) x d head (grown head) head.size (slot_for head.form n name)) f.has.draft f.file;
+        subst (λ (x : LogMap). WritesFile (staged a.draft.changes m) x d head (grown head) head.size (slot_for head.form n name))
+        f.has.draft f.file;
     more = λ k m0 m keeps holds.
         let f = adds.has m (staged a.draft.changes m) keeps record { checkpoint = k; acknowledged = m0; holds = holds; draft = refl } in
-        subst (λ (x : LogMap). IsDirectory (staged a.draft.changes m) d (as_header head) → find byte_cmp name (names_at (staged a.draft.changes m) d head) ≡ None → AddsName (staged a.draft.changes m) x d head n name) f.has.draft f.more;
+        subst (λ (x : LogMap). IsDirectory (staged a.draft.changes m) d (as_header head) → find byte_cmp name
+        (names_at (staged a.draft.changes m) d head) ≡ None → AddsName (staged a.draft.changes m) x d head n name) f.has.draft f.more;
   }
 
 -- a volume whose store was changed no more than its draft, from where it has the same log and totals
 pub still_drafted : {D : Type 0} (state : D → DeviceState) (old : Fs D) (a b : Store D) → a.log ≡ old.store.log → a.saved ≡ old.store.saved
-    → files.Redrafts (files_of state a) (files_of state b) → IsStill state (seen old) (seen record { alloc = old.alloc; store = b; handles = old.handles })
+    → files.Redrafts (files_of state a) (files_of state b)
+    → IsStill state (seen old) (seen record { alloc = old.alloc; store = b; handles = old.handles })
 still_drafted {D} state old a b log saved redrafts = record {
   reads = subst (λ (h : Held D). Reads state h b.log) log (log_redrafts state a b redrafts);
   saved = redrafts.saved ∙ saved;
@@ -135,11 +148,14 @@ still_drafted {D} state old a b log saved redrafts = record {
 
 -- the same of a volume whose handles are those before
 pub still_with : {D : Type 0} (state : D → DeviceState) (old mid : Fs D) (b : Store D) → mid.handles ≡ old.handles
-    → IsStill state (seen old) (seen record { alloc = old.alloc; store = b; handles = old.handles }) → IsStill state (seen old) (seen record { alloc = mid.alloc; store = b; handles = mid.handles })
-still_with state old mid b handles still = subst (λ (h : Handles). IsStill state (seen old) (seen record { alloc = old.alloc; store = b; handles = h })) (sym handles) still
+    → IsStill state (seen old) (seen record { alloc = old.alloc; store = b; handles = old.handles })
+    → IsStill state (seen old) (seen record { alloc = mid.alloc; store = b; handles = mid.handles })
+still_with state old mid b handles still =
+    subst (λ (h : Handles). IsStill state (seen old) (seen record { alloc = old.alloc; store = b; handles = h })) (sym handles) still
 
 -- a volume whose log is as it was
-pub still_logged : {D : Type 0} (state : D → DeviceState) (old new : Fs D) → new.store.log ≡ old.store.log → new.store.saved ≡ old.store.saved → new.handles ≡ old.handles → IsStill state (seen old) (seen new)
+pub still_logged : {D : Type 0} (state : D → DeviceState) (old new : Fs D) → new.store.log ≡ old.store.log
+    → new.store.saved ≡ old.store.saved → new.handles ≡ old.handles → IsStill state (seen old) (seen new)
 still_logged {D} state old new log saved handles = record {
   reads = subst (λ (h : Held D). Reads state old.store.log h) (sym log) (reads_none state old.store.log);
   saved = saved;
@@ -151,7 +167,8 @@ still_logged {D} state old new log saved handles = record {
 -- ---- what is told from a log that was read before
 
 module _ {D : Type 0} (state : D → DeviceState) (h h' h'' : Held D) (reads : Reads state h h') where
-  pub adds_after : (c c' : Changes) (d : ℕ) (head : Header) (n : ℕ) (name : List ℕ) → Adds state h' h'' c c' d head n name → Adds state h h'' c c' d head n name
+  pub adds_after : (c c' : Changes) (d : ℕ) (head : Header) (n : ℕ) (name : List ℕ) → Adds state h' h'' c c' d head n name
+      → Adds state h h'' c c' d head n name
   adds_after c c' d head n name adds = record {
     fits = λ k m0 m holds. adds.fits k m0 m (held_still state h h' k m0 m reads holds);
     file = λ k m0 m keeps holds. adds.file k m0 m keeps (held_still state h h' k m0 m reads holds);

@@ -13,7 +13,8 @@ use Rattle.lfs_fs.specs.Volume.{Mounted, Runs, Serves}
 use Rattle.lfs_store.specs.log.Saving.{commit_orders}
 use Rattle.lfs_fs.proofs.Behaving.{sync_bounded, tells_none, write_behaves}
 
-module _ {D : Type 0} (state : D → DeviceState) (v : Mounted D) (lawful : IsLawful (state v.log.device)) (was : v.log.halted ≡ false) (unsaved : v.saved ≡ false) (full : IsFull v.log) where
+module _ {D : Type 0} (state : D → DeviceState) (v : Mounted D) (lawful : IsLawful (state v.log.device)) (was : v.log.halted ≡ false)
+    (unsaved : v.saved ≡ false) (full : IsFull v.log) where
   never_full : (s : State) → Runs state v s → ⊥
   never_full s r =
       let settled = r.is.stores.holds.log.running.settled in
@@ -36,6 +37,7 @@ module _ {D : Type 0} (state : D → DeviceState) (v : Mounted D) (lawful : IsLa
     segments = λ e. refl;
     orderly = λ e. absurd (cc);
     halts = λ e. absurd (cc);
-    behaves = write_behaves state v v Sync (Refuse Device) refl refl (λ e. cc) (λ takes e. absurd (cc)) (sync_bounded state v v (omega arith) (tells_none state v.log v.log commit_orders refl));
+    behaves = write_behaves state v v Sync (Refuse Device) refl refl (λ e. cc) (λ takes e. absurd (cc))
+        (sync_bounded state v v (omega arith) (tells_none state v.log v.log commit_orders refl));
     model = λ p keeps at. absurd (never_full p.state (at.running was));
   }

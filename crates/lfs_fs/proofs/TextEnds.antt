@@ -30,16 +30,20 @@ no_link_by m kinds.File n h other = refl
 no_link_by m kinds.Directory n h other = refl
 no_link_by m kinds.Link n h other = absurd (other refl)
 
-module _ {D : Type 0} (state : D → DeviceState) (old mid : Fs D) (first : OnlyReads state old mid) (n : ℕ) (stat : Stat) (told : TellsStat state old mid n stat) where
+module _ {D : Type 0} (state : D → DeviceState) (old mid : Fs D) (first : OnlyReads state old mid) (n : ℕ) (stat : Stat)
+    (told : TellsStat state old mid n stat) where
   -- it is a link, and its text was read
-  pub text_tells : (new : Fs D) → OnlyReads state mid new → stat.kind ≡ kinds.Link → (text : List ℕ) → ReadsFile state mid new n 0 1023 text → TellsText state old new n text
+  pub text_tells : (new : Fs D) → OnlyReads state mid new → stat.kind ≡ kinds.Link → (text : List ℕ) → ReadsFile state mid new n 0 1023 text
+      → TellsText state old new n text
   text_tells new next link text read empty k m0 m s keeps is =
       let head : ReadsHead state mid new n stat.kind text = subst (λ (x : Kind). ReadsHead state mid new n x text) (sym link) read in
       let there = told_there state old mid new first next n stat text told head empty k m0 m s keeps is in
       let fits = told_fits state old mid new first next n stat text told head empty k m0 m s keeps is in
       let map = map_of_volume state (seen old) k m0 m s is in (
-        ap is_link (the_node_by_header (segments_of (seen old)) m s is.log n (as_header told.head) fits.number there) ∙ link_by m told.head.kind n (as_header told.head) (sym told.kind ∙ link),
-        head_is (segments_of (seen old)) m s map n told.head there fits text (shown state old mid new first next n stat text told head empty k m0 m s keeps is),
+        ap is_link (the_node_by_header (segments_of (seen old)) m s is.log n (as_header told.head) fits.number there)
+            ∙ link_by m told.head.kind n (as_header told.head) (sym told.kind ∙ link),
+        head_is (segments_of (seen old)) m s map n told.head there fits text
+            (shown state old mid new first next n stat text told head empty k m0 m s keeps is),
       )
 
   -- it is none
@@ -47,9 +51,11 @@ module _ {D : Type 0} (state : D → DeviceState) (old mid : Fs D) (first : Only
   no_text other fault is = inl (
     is,
     λ empty k m0 m s keeps at. (
-        let there : m.header n ≡ Some (as_header told.head) = ap (λ (x : LogMap). x.header n) (sym (no_change old.store.draft.changes m empty)) ∙ told.there k m0 m keeps at.stores.holds in
+        let there : m.header n ≡ Some (as_header told.head) =
+        ap (λ (x : LogMap). x.header n) (sym (no_change old.store.draft.changes m empty)) ∙ told.there k m0 m keeps at.stores.holds in
         let fits = headers_of_volume state (seen old) k m0 m s at n (as_header told.head) there in
-        ap is_link (the_node_by_header (segments_of (seen old)) m s at.log n (as_header told.head) fits.number there) ∙ no_link_by m told.head.kind n (as_header told.head) (λ e. other (told.kind ∙ e))),
+        ap is_link (the_node_by_header (segments_of (seen old)) m s at.log n (as_header told.head) fits.number there)
+        ∙ no_link_by m told.head.kind n (as_header told.head) (λ e. other (told.kind ∙ e))),
   )
 
   -- its text isn't read

@@ -15,7 +15,8 @@ use Rattle.lfs_fs.proofs.Serving.{served_by, served_still}
 
 -- ---- faults
 
-module _ {D : Type 0} (state : D → DeviceState) (old new : Mounted D) (call : Call) (lawful : IsLawful (state old.log.device)) (still : IsStill state old new) (was : old.log.halted ≡ false) where
+module _ {D : Type 0} (state : D → DeviceState) (old new : Mounted D) (call : Call) (lawful : IsLawful (state old.log.device))
+    (still : IsStill state old new) (was : old.log.halted ≡ false) where
   -- a call of the device failed
   pub fault_serves : never_for_device call ≡ false → IsReadFault state old.log new.log → Serves state old new call (Refuse Device)
   fault_serves free fault = served_still state old new call (Refuse Device) lawful still was tt (λ p keeps here k m0 m is. (
@@ -25,18 +26,22 @@ module _ {D : Type 0} (state : D → DeviceState) (old new : Mounted D) (call : 
 
   -- memory was refused
   pub memory_serves : takes_no_memory call ≡ false → Serves state old new call (Refuse NoMemory)
-  memory_serves takes = served_by state old new call (Refuse NoMemory) lawful still was (λ e. absurd (cc)) (memory_behaves state old new call still takes)
+  memory_serves takes =
+      served_by state old new call (Refuse NoMemory) lawful still was (λ e. absurd (cc)) (memory_behaves state old new call still takes)
       (λ p keeps here k m0 m is. inr (NoMemory, refl, takes, refl)) (not_acknowledged call NoMemory)
 
   -- a refusal of the model's, where nothing has changed
-  pub refused_serves : (r : Refusal) → IsOrdinary (Refuse r) → cleans call ≡ false → InEach state old (λ m s. Step (segments_of old) s call (Refuse r) s) → Serves state old new call (Refuse r)
-  refused_serves r ordinary unclean steps = served_still state old new call (Refuse r) lawful still was ordinary (λ p keeps here k m0 m is. (
+  pub refused_serves : (r : Refusal) → IsOrdinary (Refuse r) → cleans call ≡ false
+      → InEach state old (λ m s. Step (segments_of old) s call (Refuse r) s) → Serves state old new call (Refuse r)
+  refused_serves r ordinary unclean steps =
+      served_still state old new call (Refuse r) lawful still was ordinary (λ p keeps here k m0 m is. (
       let step = steps k m0 m p.state (still.reads.looks.carries.kept_before keeps) is in
       inl (step, refused_not_worn (segments_of old) call p r p.state step unclean)))
       (not_acknowledged call r)
 
   -- an answer of the model's to a call that changes nothing, and commits nothing
-  pub told_serves : (a : Answer) → IsOrdinary a → changes call ≡ false → cleans call ≡ false → commits call ≡ false → InEach state old (λ m s. Step (segments_of old) s call a s) → Serves state old new call a
+  pub told_serves : (a : Answer) → IsOrdinary a → changes call ≡ false → cleans call ≡ false → commits call ≡ false
+      → InEach state old (λ m s. Step (segments_of old) s call a s) → Serves state old new call a
   told_serves a ordinary leaves unclean free steps = served_still state old new call a lawful still was ordinary (λ p keeps here k m0 m is.
       inl (steps k m0 m p.state (still.reads.looks.carries.kept_before keeps) is, never_worn (segments_of old) call p leaves unclean))
       (λ e. (let no = free in absurd (none (commits call) free e)))
@@ -47,7 +52,11 @@ module _ {D : Type 0} (state : D → DeviceState) (old new : Mounted D) (call : 
 
 -- ---- space
 
-module _ {D : Type 0} (state : D → DeviceState) (old new : Mounted D) (lawful : IsLawful (state old.log.device)) (still : IsStill state old new) (was : old.log.halted ≡ false) where
-  pub space_serves : TotalsOfTree → Serves state old new Space (Room old.blocks old.others (old.blocks + 7 * old.others + 720) (47 * segments_of old))
-  space_serves totals = told_serves state old new Space lawful still was (Room old.blocks old.others (old.blocks + 7 * old.others + 720) (47 * segments_of old)) tt refl refl refl (λ k m0 m s keeps is.
-      space_step (segments_of old) m s (map_of_volume state old k m0 m s is) totals (headers_of_volume state old k m0 m s is) old.blocks old.others is.counted)
+module _ {D : Type 0} (state : D → DeviceState) (old new : Mounted D) (lawful : IsLawful (state old.log.device))
+    (still : IsStill state old new) (was : old.log.halted ≡ false) where
+  pub space_serves : TotalsOfTree
+      → Serves state old new Space (Room old.blocks old.others (old.blocks + 7 * old.others + 720) (47 * segments_of old))
+  space_serves totals = told_serves state old new Space lawful still was
+      (Room old.blocks old.others (old.blocks + 7 * old.others + 720) (47 * segments_of old)) tt refl refl refl (λ k m0 m s keeps is.
+      space_step (segments_of old) m s (map_of_volume state old k m0 m s is) totals (headers_of_volume state old k m0 m s is) old.blocks
+      old.others is.counted)

@@ -1,5 +1,6 @@
 -- The rows of directories, and the ends of the call that lists the tree.
-use Rattle.std.proofs.Common.{◌≡◌, ◌≢◌, ◌++◌, ℕ, true, false, List, [], ◌∷◌, map, Option, Some, None, Result, Ok, Err, Vec, Global, refl, sym, ◌∙◌, ap, subst, inl, inr, ⊎_elim, arith}
+use Rattle.std.proofs.Common.{◌≡◌, ◌≢◌, ◌++◌, ℕ, true, false, List, [], ◌∷◌, map, Option, Some, None, Result, Ok, Err, Vec, Global, refl}
+use Rattle.std.proofs.Common.{sym, ◌∙◌, ap, subst, inl, inr, ⊎_elim, arith}
 use Rattle.std.specs.Prelude.{IfErr, IfOk, OnOk, T, unwrap_or}
 use Rattle.std.specs.Cmp.Lexicographic.{nat_list_cmp_total}
 use Rattle.std.specs.FinMap.{find, is_sorted}
@@ -35,7 +36,8 @@ use Rattle.lfs_fs.specs.declared.fs.Fs.{Fs}
 use Rattle.lfs_fs.specs.declared.rows.TreeRow.{TreeRow}
 use Rattle.lfs_fs.specs.Answers.{row_of}
 use Rattle.lfs_fs.specs.Faults.{error_of_log, error_of_store}
-use Rattle.lfs_fs.specs.Reading.{AreNames, HasDirectory, LacksDirectory, LacksNames, LacksRows, LacksWhere, TellsDirectory, TellsNames, TellsRows, TellsTree, row_at, rows_at}
+use Rattle.lfs_fs.specs.Reading.{AreNames, HasDirectory, LacksDirectory, LacksNames, LacksRows, LacksWhere, TellsDirectory, TellsNames}
+use Rattle.lfs_fs.specs.Reading.{TellsRows, TellsTree, row_at, rows_at}
 use Rattle.lfs_fs.specs.Refusals.{refusal_of}
 use Rattle.lfs_fs.specs.Seen.{FindsHeader, LacksAnswer, OnlyReads, answer_by, seen}
 use Rattle.lfs_fs.specs.Volume.{IsIn, Serves, segments_of}
@@ -53,11 +55,13 @@ answer_then (Ok x) P Q go p = go x p
 answer_then (Err e) P Q go p = tt
 
 -- entries of names in order are found among them
-are_names : (t : Tree) (d : ℕ) (es : List Entry) → ((name : List ℕ) (n : ℕ) → find byte_cmp name (pairs es) ≡ Some n → entry_in t d name ≡ Some n) → T (is_sorted byte_cmp (pairs es)) → AreNames t d es
+are_names : (t : Tree) (d : ℕ) (es : List Entry) → ((name : List ℕ) (n : ℕ) → find byte_cmp name (pairs es) ≡ Some n
+    → entry_in t d name ≡ Some n) → T (is_sorted byte_cmp (pairs es)) → AreNames t d es
 are_names t d [] gives order = tt
 are_names t d (e ∷ es) gives order = (
   gives e.name.items e.number.value (find_first nat_list_cmp_total (λ x. 0) (pair e) (pairs es)),
-  are_names t d es (λ name n found. gives name n (find_after nat_list_cmp_total (λ x. 0) name (pair e) (pairs es) n order found)) (T_right (below_all byte_cmp e.name.items (pairs es)) (is_sorted byte_cmp (pairs es)) order),
+  are_names t d es (λ name n found. gives name n (find_after nat_list_cmp_total (λ x. 0) name (pair e) (pairs es) n order found))
+      (T_right (below_all byte_cmp e.name.items (pairs es)) (is_sorted byte_cmp (pairs es)) order),
 )
 
 -- what is no directory has no names
@@ -76,7 +80,8 @@ leaf_rows t d leaf = by (node t d) leaf
 module _ {D : Type 0} (state : D → DeviceState) where
   -- why nothing is told after one read is why nothing is told from before it
   pub lacks_after : (old mid new : Fs D) → OnlyReads state old mid → (P Q : LogMap → State → Type 0) → (fault : FsError)
-      → (IsNoChange old.store.draft.changes → (k : CheckpointValue) (m0 m : LogMap) (s : State) → (state new.store.log.device).keeps_model → IsIn state (seen old) k m0 m s → Q m s → P m s)
+      → (IsNoChange old.store.draft.changes → (k : CheckpointValue) (m0 m : LogMap) (s : State) → (state new.store.log.device).keeps_model
+      → IsIn state (seen old) k m0 m s → Q m s → P m s)
       → LacksWhere state mid new P fault → LacksWhere state old new Q fault
   lacks_after old mid new first P Q fault goes lacks = ⊎_elim
       (λ memory. inl memory)
@@ -85,7 +90,8 @@ module _ {D : Type 0} (state : D → DeviceState) where
       (λ failed. inr (inr (
         failed.0,
         λ empty k m0 m s keeps is q. (
-            let rose = failed.1 (subst (λ d. IsNoChange d.changes) (sym first.draft) empty) k m0 m s keeps (still_in state (seen old) (seen mid) k m0 m s first.still is) (goes empty k m0 m s keeps is q) in
+            let rose = failed.1 (subst (λ d. IsNoChange d.changes) (sym first.draft) empty) k m0 m s keeps
+            (still_in state (seen old) (seen mid) k m0 m s first.still is) (goes empty k m0 m s keeps is q) in
             let before = first.still.reads.looks.carries.failures in
             omega (arith, rose, before)),
       )))
@@ -98,47 +104,58 @@ module _ {D : Type 0} (state : D → DeviceState) where
     -- in one state that the volume may be in
     module _ (k : CheckpointValue) (m0 m : LogMap) (s : State) (is : IsIn state (seen old) k m0 m s) (has : HasDirectory m d head) where
       dir : is_dir (node s.tree d) ≡ true
-      dir = ap is_dir (node_by_header (segments_of (seen old)) m s is.log d (as_header head) (headers_of_volume state (seen old) k m0 m s is d (as_header head) has.0).number has.0)
+      dir = ap is_dir (node_by_header (segments_of (seen old)) m s is.log d (as_header head)
+          (headers_of_volume state (seen old) k m0 m s is d (as_header head) has.0).number has.0)
           ∙ ap (λ (k : Kind). is_dir (Some (node_by m k d (as_header head)))) has.1
 
       formed : IsDirectory m d (as_header head)
-      formed = directory_formed (segments_of (seen old)) m s (map_of_volume state (seen old) k m0 m s is) d dir head has.0 (headers_of_volume state (seen old) k m0 m s is d (as_header head) has.0)
+      formed = directory_formed (segments_of (seen old)) m s (map_of_volume state (seen old) k m0 m s is) d dir head has.0
+          (headers_of_volume state (seen old) k m0 m s is d (as_header head) has.0)
 
     -- it isn't listed
-    pub list_lacks : (fault : StoreFault) (e : FsError) → e ≡ error_of_store fault → ((fault ≡ store.NoMemory → ⊥) → IsDirectoryFault state old.store.log listed.store.log old.store.draft.changes d head)
-        → (fault ≡ store.Log log.Halted → old.store.log.halted ≡ true) → (fault ≡ store.Log log.Full → ⊥) → LacksDirectory state old listed d head e
+    pub list_lacks : (fault : StoreFault) (e : FsError) → e ≡ error_of_store fault
+        → ((fault ≡ store.NoMemory → ⊥) → IsDirectoryFault state old.store.log listed.store.log old.store.draft.changes d head)
+        → (fault ≡ store.Log log.Halted → old.store.log.halted ≡ true) → (fault ≡ store.Log log.Full → ⊥)
+        → LacksDirectory state old listed d head e
     list_lacks store.NoMemory e is failed halted other = inl is
     list_lacks (store.Log log.Device) e is failed halted other = inr (inr (
       is,
       λ empty k m0 m s keeps at has.
-          failed (λ memory. cc) k m0 m keeps at.stores.holds (subst (λ (x : LogMap). IsDirectory x d (as_header head)) (sym (no_change old.store.draft.changes m empty)) (formed k m0 m s at has)),
+          failed (λ memory. cc) k m0 m keeps at.stores.holds (subst (λ (x : LogMap). IsDirectory x d (as_header head))
+          (sym (no_change old.store.draft.changes m empty)) (formed k m0 m s at has)),
     ))
     list_lacks (store.Log log.Halted) e is failed halted other = inr (inl (is, halted refl))
     list_lacks (store.Log log.Full) e is failed halted other = absurd (other refl)
 
-    module _ (es : List Entry) (lists : Lists state old.store.log listed.store.log old.store.draft.changes d head es) (new : Fs D) (next : OnlyReads state listed new) where
+    module _ (es : List Entry) (lists : Lists state old.store.log listed.store.log old.store.draft.changes d head es) (new : Fs D)
+        (next : OnlyReads state listed new) where
       empty_listed : IsNoChange old.store.draft.changes → IsNoChange listed.store.draft.changes
       empty_listed empty = subst (λ d. IsNoChange d.changes) (sym first.draft) empty
 
-      module _ (empty : IsNoChange old.store.draft.changes) (k : CheckpointValue) (m0 m : LogMap) (s : State) (keeps : (state new.store.log.device).keeps_model) (is : IsIn state (seen old) k m0 m s) (has : HasDirectory m d head) where
+      module _ (empty : IsNoChange old.store.draft.changes) (k : CheckpointValue) (m0 m : LogMap) (s : State)
+          (keeps : (state new.store.log.device).keeps_model) (is : IsIn state (seen old) k m0 m s) (has : HasDirectory m d head) where
         names_are : pairs es ≡ names_at m d head
         names_are =
             lists k m0 m (next.still.reads.looks.carries.kept_before keeps) is.stores.holds
             ∙ ap (λ (x : LogMap). names_at x d head) (no_change old.store.draft.changes m empty)
 
         pub in_directory : names_in s.tree d ≡ pairs es
-        in_directory = names_in_directory (segments_of (seen old)) m s (map_of_volume state (seen old) k m0 m s is) d (dir k m0 m s is has) head has.0 ∙ sym names_are
+        in_directory = names_in_directory (segments_of (seen old)) m s (map_of_volume state (seen old) k m0 m s is) d
+            (dir k m0 m s is has) head has.0 ∙ sym names_are
 
         pub names : AreNames s.tree d es
-        names = are_names s.tree d es (λ name n found. ap (find byte_cmp name) in_directory ∙ found) (subst (λ ms. T (is_sorted byte_cmp ms)) (sym names_are) (sorted_names head.form (slots_at m d head)))
+        names = are_names s.tree d es (λ name n found. ap (find byte_cmp name) in_directory ∙ found)
+            (subst (λ ms. T (is_sorted byte_cmp ms)) (sym names_are) (sorted_names head.form (slots_at m d head)))
 
       pub directory_tells : (rows : List TreeRow) → TellsRows state listed new d es rows → TellsDirectory state old new d head rows
       directory_tells rows told empty k m0 m s keeps is has =
-          told (empty_listed empty) k m0 m s keeps (still_in state (seen old) (seen listed) k m0 m s first.still is) (names empty k m0 m s keeps is has)
+          told (empty_listed empty) k m0 m s keeps (still_in state (seen old) (seen listed) k m0 m s first.still is)
+          (names empty k m0 m s keeps is has)
           ∙ ap (map (row_at s.tree d)) (sym (in_directory empty k m0 m s keeps is has))
 
       pub directory_lacks : (fault : FsError) → LacksRows state listed new d es fault → LacksDirectory state old new d head fault
-      directory_lacks fault lacks = lacks_after old listed new first (λ m s. AreNames s.tree d es) (λ m s. HasDirectory m d head) fault names lacks
+      directory_lacks fault lacks =
+          lacks_after old listed new first (λ m s. AreNames s.tree d es) (λ m s. HasDirectory m d head) fault names lacks
 
   -- ---- what stands at a number
 
@@ -149,15 +166,18 @@ module _ {D : Type 0} (state : D → DeviceState) where
       (λ failed. inr (inr (failed.0, λ empty k m0 m s keeps is any. failed.1 k m0 m keeps is.stores.holds)))
       lacks
 
-  pub log_lacks : (old new : Fs D) (fault : LogFault) (e : FsError) → e ≡ error_of_log fault → (fault ≡ log.Halted → old.store.log.halted ≡ true) → (fault ≡ log.Full → ⊥) → IsReadFault state old.store.log new.store.log → LacksAnswer state old new e
+  pub log_lacks : (old new : Fs D) (fault : LogFault) (e : FsError) → e ≡ error_of_log fault → (fault ≡ log.Halted
+      → old.store.log.halted ≡ true) → (fault ≡ log.Full → ⊥) → IsReadFault state old.store.log new.store.log → LacksAnswer state old new e
   log_lacks old new log.Device e is halted other failed = inr (is, failed)
   log_lacks old new log.Halted e is halted other failed = inl (is, halted refl)
   log_lacks old new log.Full e is halted other failed = absurd (other refl)
 
   module _ (old mid : Fs D) (n : ℕ) (found : Option Header) (finds : FindsHeader state old mid n found) where
     -- in one state that the volume may be in
-    answer_is : IsNoChange old.store.draft.changes → (k : CheckpointValue) (m0 m : LogMap) (s : State) → (state mid.store.log.device).keeps_model → IsIn state (seen old) k m0 m s → HeaderAnswer m n found
-    answer_is empty k m0 m s keeps is = subst (λ (x : LogMap). HeaderAnswer x n found) (no_change old.store.draft.changes m empty) (finds k m0 m keeps is.stores.holds)
+    answer_is : IsNoChange old.store.draft.changes → (k : CheckpointValue) (m0 m : LogMap) (s : State)
+        → (state mid.store.log.device).keeps_model → IsIn state (seen old) k m0 m s → HeaderAnswer m n found
+    answer_is empty k m0 m s keeps is =
+        subst (λ (x : LogMap). HeaderAnswer x n found) (no_change old.store.draft.changes m empty) (finds k m0 m keeps is.stores.holds)
 
     pub nothing_tells : found ≡ None → TellsNames state old mid n []
     nothing_tells none empty k m0 m s keeps is =
@@ -165,19 +185,22 @@ module _ {D : Type 0} (state : D → DeviceState) where
         sym (leaf_rows s.tree n (ap is_dir (no_header_none (segments_of (seen old)) m s is.log n gone)))
 
     module _ (head : Header) (some : found ≡ Some head) where
-      header_is : IsNoChange old.store.draft.changes → (k : CheckpointValue) (m0 m : LogMap) (s : State) → (state mid.store.log.device).keeps_model → IsIn state (seen old) k m0 m s → m.header n ≡ Some (as_header head)
+      header_is : IsNoChange old.store.draft.changes → (k : CheckpointValue) (m0 m : LogMap) (s : State)
+          → (state mid.store.log.device).keeps_model → IsIn state (seen old) k m0 m s → m.header n ≡ Some (as_header head)
       header_is empty k m0 m s keeps is = subst (λ (o : Option Header). HeaderAnswer m n o) some (answer_is empty k m0 m s keeps is)
 
       pub leaf_tells : head.kind ≢ kinds.Directory → TellsNames state old mid n []
       leaf_tells other empty k m0 m s keeps is =
           let there = header_is empty k m0 m s keeps is in
-          let at = node_by_header (segments_of (seen old)) m s is.log n (as_header head) (headers_of_volume state (seen old) k m0 m s is n (as_header head) there).number there in
+          let at = node_by_header (segments_of (seen old)) m s is.log n (as_header head)
+          (headers_of_volume state (seen old) k m0 m s is n (as_header head) there).number there in
           sym (leaf_rows s.tree n (ap is_dir at ∙ no_dir_by m head.kind n (as_header head) other))
 
       module _ (dir : head.kind ≡ kinds.Directory) (first : OnlyReads state old mid) (new : Fs D) (next : OnlyReads state mid new) where
         pub names_tell : (rows : List TreeRow) → TellsDirectory state mid new n head rows → TellsNames state old new n rows
         names_tell rows told empty k m0 m s keeps is =
-            told (subst (λ d. IsNoChange d.changes) (sym first.draft) empty) k m0 m s keeps (still_in state (seen old) (seen mid) k m0 m s first.still is)
+            told (subst (λ d. IsNoChange d.changes) (sym first.draft) empty) k m0 m s keeps
+            (still_in state (seen old) (seen mid) k m0 m s first.still is)
             (header_is empty k m0 m s (next.still.reads.looks.carries.kept_before keeps) is, dir)
 
         pub names_lack : (fault : FsError) → LacksDirectory state mid new n head fault → LacksNames state old new fault
@@ -185,25 +208,33 @@ module _ {D : Type 0} (state : D → DeviceState) where
             (λ empty k m0 m s keeps is any. (header_is empty k m0 m s (next.still.reads.looks.carries.kept_before keeps) is, dir)) lacks
 
   -- ---- put behind others
-  pub put_names : (old new : Fs D) (n : ℕ) (more was now : List TreeRow) (r : Result (Unit {0}) FsError) → OnOk r (now ≡ was ++ more) → TellsNames state old new n more
+  pub put_names : (old new : Fs D) (n : ℕ) (more was now : List TreeRow) (r : Result (Unit {0}) FsError) → OnOk r (now ≡ was ++ more)
+      → TellsNames state old new n more
       → OnOk r ((x : List TreeRow) × (now ≡ was ++ x) × TellsNames state old new n x)
   put_names old new n more was now (Ok u) put tells = (more, put, tells)
   put_names old new n more was now (Err f) put tells = tt
 
-  pub put_names_lack : (old new : Fs D) (r : Result (Unit {0}) FsError) → IfErr r (λ fault. fault ≡ error.NoMemory) → IfErr r (λ fault. LacksNames state old new fault)
+  pub put_names_lack : (old new : Fs D) (r : Result (Unit {0}) FsError) → IfErr r (λ fault. fault ≡ error.NoMemory)
+      → IfErr r (λ fault. LacksNames state old new fault)
   put_names_lack old new (Ok u) fault = tt
   put_names_lack old new (Err f) fault = inl fault
 
   -- ---- the call
-  pub tree_ends : (old new : Fs D) → IsLawful (state old.store.log.device) → old.store.log.halted ≡ false → IsNoChange old.store.draft.changes → OnlyReads state old new → (r : Result (Vec TreeRow Global) FsError)
-      → IfOk r (λ rows. TellsTree state old new rows.items) → IfErr r (λ fault. LacksNames state old new fault) → Serves state (seen old) (seen new) ListTree (answer_by (λ rows. Rows (map row_of rows.items)) r)
-  tree_ends old new lawful was empty reads (Ok rows) told missing = step_serves state (seen old) (seen new) ListTree lawful reads.still was (Rows (map row_of rows.items)) tt refl refl refl (λ k m0 m s keeps is.
-      subst (λ (x : List ModelRow). Step (segments_of (seen old)) s ListTree (Rows x) s) (sym (told empty k m0 m s keeps is)) (tree_done (segments_of (seen old)) s))
+  pub tree_ends : (old new : Fs D) → IsLawful (state old.store.log.device) → old.store.log.halted ≡ false
+      → IsNoChange old.store.draft.changes → OnlyReads state old new → (r : Result (Vec TreeRow Global) FsError)
+      → IfOk r (λ rows. TellsTree state old new rows.items) → IfErr r (λ fault. LacksNames state old new fault)
+      → Serves state (seen old) (seen new) ListTree (answer_by (λ rows. Rows (map row_of rows.items)) r)
+  tree_ends old new lawful was empty reads (Ok rows) told missing = step_serves state (seen old) (seen new) ListTree lawful reads.still was
+      (Rows (map row_of rows.items)) tt refl refl refl (λ k m0 m s keeps is.
+      subst (λ (x : List ModelRow). Step (segments_of (seen old)) s ListTree (Rows x) s) (sym (told empty k m0 m s keeps is))
+      (tree_done (segments_of (seen old)) s))
   tree_ends old new lawful was empty reads (Err fault) told missing = ⊎_elim
-      (λ (e : fault ≡ error.NoMemory). subst (λ (f : FsError). Serves state (seen old) (seen new) ListTree (Refuse (refusal_of f))) (sym e) (memory_serves state (seen old) (seen new) ListTree lawful reads.still was refl))
+      (λ (e : fault ≡ error.NoMemory). subst (λ (f : FsError). Serves state (seen old) (seen new) ListTree (Refuse (refusal_of f))) (sym e)
+      (memory_serves state (seen old) (seen new) ListTree lawful reads.still was refl))
       (λ other. ⊎_elim
       (λ halted. absurd (let off = was in let on = halted.1 in cc))
-      (λ failed. subst (λ (f : FsError). Serves state (seen old) (seen new) ListTree (Refuse (refusal_of f))) (sym failed.0) (failed_serves state (seen old) (seen new) ListTree lawful reads.still was refl
+      (λ failed. subst (λ (f : FsError). Serves state (seen old) (seen new) ListTree (Refuse (refusal_of f))) (sym failed.0)
+      (failed_serves state (seen old) (seen new) ListTree lawful reads.still was refl
       (λ k m0 m s keeps is. failed.1 empty k m0 m s keeps is tt)))
       other)
       missing

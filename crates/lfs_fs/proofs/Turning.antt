@@ -21,18 +21,22 @@ use Rattle.lfs_fs.proofs.Ending.{runs_on}
 use Rattle.lfs_fs.proofs.Files.{IsMapOf}
 use Rattle.lfs_fs.proofs.Serving.{point_of, still_in}
 
-module _ {D : Type 0} (state : D → DeviceState) (old new : Mounted D) (lawful : IsLawful (state old.log.device)) (after : IsLawful (state new.log.device)) (was : old.log.halted ≡ false) where
+module _ {D : Type 0} (state : D → DeviceState) (old new : Mounted D) (lawful : IsLawful (state old.log.device))
+    (after : IsLawful (state new.log.device)) (was : old.log.halted ≡ false) where
   -- what a stop leaves while nothing is written is what is saved
-  pub quiet : Looks (state old.log.device) (state new.log.device) → (k : CheckpointValue) (m0 m : LogMap) (s : State) → IsIn state old k m0 m s → LeavesOnly (state old.log.device) (state new.log.device) (StandsForOn k.segments m0 (dropped m))
+  pub quiet : Looks (state old.log.device) (state new.log.device) → (k : CheckpointValue) (m0 m : LogMap) (s : State)
+      → IsIn state old k m0 m s → LeavesOnly (state old.log.device) (state new.log.device) (StandsForOn k.segments m0 (dropped m))
   quiet looks k m0 m s is =
-      goes_on (state old.log.device) (state old.log.device) (state new.log.device) (StandsForOn k.segments m0 (dropped m)) (started (state old.log.device) (StandsForOn k.segments m0 (dropped m)) lawful here)
+      goes_on (state old.log.device) (state old.log.device) (state new.log.device) (StandsForOn k.segments m0 (dropped m))
+      (started (state old.log.device) (StandsForOn k.segments m0 (dropped m)) lawful here)
       looks.carries looks.time (λ c left. here c (looks.untouched.crash c left))
     where
       here : AllLeft (state old.log.device) (StandsForOn k.segments m0 (dropped m))
       here c left = inl (settled_stands (state old.log.device) k m0 is.stores.holds.log.running.settled c left)
 
   -- ---- the table alone
-  module _ (call : Call) (a : Answer) (reads : Reads state old.log new.log) (saved : new.saved ≡ old.saved) (blocks : new.blocks ≡ old.blocks) (others : new.others ≡ old.others) where
+  module _ (call : Call) (a : Answer) (reads : Reads state old.log new.log) (saved : new.saved ≡ old.saved)
+      (blocks : new.blocks ≡ old.blocks) (others : new.others ≡ old.others) where
     abbrev mid : Mounted D
     mid = record new { table = old.table }
 
@@ -50,8 +54,11 @@ module _ {D : Type 0} (state : D → DeviceState) (old new : Mounted D) (lawful 
       pub steps : StepsOr (segments_of old) call p a (point_of state new next)
 
     pub table_serves : changes_handles call ≡ true → is_ok a ≡ true → (acknowledges call a ≡ true → ⊥)
-        → ((p : Point) → (state new.log.device).keeps_model → IsAt state old p → (k : CheckpointValue) (m0 m : LogMap) → IsIn state old k m0 m p.state → Turns p m) → Serves state old new call a
-    table_serves moves ok none each = runs_on state old new call lawful after reads.looks.carries segments_same was (let same = reads.number in omega (arith, same)) a (ok_refuses_none a Halted ok) (opens_behaves state old new call a moves ok reads) (reads.halted ∙ was) (λ p keeps here k m0 m is. (
+        → ((p : Point) → (state new.log.device).keeps_model → IsAt state old p → (k : CheckpointValue) (m0 m : LogMap)
+        → IsIn state old k m0 m p.state → Turns p m) → Serves state old new call a
+    table_serves moves ok none each =
+        runs_on state old new call lawful after reads.looks.carries segments_same was (let same = reads.number in omega (arith, same)) a
+        (ok_refuses_none a Halted ok) (opens_behaves state old new call a moves ok reads) (reads.halted ∙ was) (λ p keeps here k m0 m is. (
         let turns = each p keeps here k m0 m is in
         let now = still_in state old mid k m0 m p.state still_mid is in
         record {

@@ -46,9 +46,15 @@ module _ {D : Type 0} (state : D → DeviceState) (a b : Store D) (redrafts : fi
   has_a k m0 m holds = record { checkpoint = k; acknowledged = m0; holds = holds; draft = refl }
 
   has_b : (k : CheckpointValue) (m0 m : LogMap) → Holds state a.log k m0 m → HasMap state b.log b.draft.changes m (staged b.draft.changes m)
-  has_b k m0 m holds = record { checkpoint = k; acknowledged = m0; holds = held_still state a.log b.log k m0 m (log_redrafts state a b redrafts) holds; draft = refl }
+  has_b k m0 m holds = record {
+    checkpoint = k;
+    acknowledged = m0;
+    holds = held_still state a.log b.log k m0 m (log_redrafts state a b redrafts) holds;
+    draft = refl;
+  }
 
-  pub log_takes : (d : ℕ) (head : Header) (name : List ℕ) → taking.Takes (files_of state a) (files_of state b) d head name → taking.CountsDropped (files_of state a) (files_of state b) d head
+  pub log_takes : (d : ℕ) (head : Header) (name : List ℕ) → taking.Takes (files_of state a) (files_of state b) d head name
+      → taking.CountsDropped (files_of state a) (files_of state b) d head
       → TakesOut state a.log b.log a.draft.changes b.draft.changes d head name a.drafted b.drafted
   log_takes d head name takes counts = record {
     fits = λ k m0 m keeps holds fit some there header apart. takes.drops.fits m (staged a.draft.changes m) keeps (has_a k m0 m holds) fit
@@ -63,35 +69,46 @@ module _ {D : Type 0} (state : D → DeviceState) (a b : Store D) (redrafts : fi
         counts m (staged a.draft.changes m) (staged b.draft.changes m) keeps (has_a k m0 m holds) (has_b k m0 m holds) there long map are;
   }
 
-module _ {D : Type 0} (state : D → DeviceState) (old mid new : Fs D) (n : ℕ) (object : Header) (empty : IsNoChange old.store.draft.changes) (loses : LosesLink state old mid n object) (reads : Reads state old.store.log mid.store.log) where
+module _ {D : Type 0} (state : D → DeviceState) (old mid new : Fs D) (n : ℕ) (object : Header) (empty : IsNoChange old.store.draft.changes)
+    (loses : LosesLink state old mid n object) (reads : Reads state old.store.log mid.store.log) where
   -- no other object's blocks change with the link
   same_blocks : (m : LogMap) (d : ℕ) → n ≢ d → (i : ℕ) → (staged mid.store.draft.changes m).block d i ≡ m.block d i
   same_blocks m d other i = ⊎_elim
-      (λ (r : Relinks state old mid n object). ap (λ (x : LogMap). x.block d i) (r.sets.map m) ∙ ap (λ (x : LogMap). x.block d i) (no_change old.store.draft.changes m empty))
-      (λ (g : GoesWhole state old mid n object). ap (λ (x : LogMap). x.block d i) (g.removes.map m) ∙ (is_without m n).blocks d i (λ e. other (sym e)))
+      (λ (r : Relinks state old mid n object). ap (λ (x : LogMap). x.block d i) (r.sets.map m)
+      ∙ ap (λ (x : LogMap). x.block d i) (no_change old.store.draft.changes m empty))
+      (λ (g : GoesWhole state old mid n object). ap (λ (x : LogMap). x.block d i) (g.removes.map m)
+      ∙ (is_without m n).blocks d i (λ e. other (sym e)))
       loses
 
   kept_directory : (m : LogMap) (d : ℕ) (head : Header) → n ≢ d → IsDirectory m d (as_header head)
-      → IsDirectory (staged mid.store.draft.changes m) d (as_header head) × (names_at (staged mid.store.draft.changes m) d head ≡ names_at m d head)
+      → IsDirectory (staged mid.store.draft.changes m) d (as_header head)
+      × (names_at (staged mid.store.draft.changes m) d head ≡ names_at m d head)
   kept_directory m d head other dir = directory_stays m (staged mid.store.draft.changes m) d head head (same_blocks m d other) refl refl dir
 
-  has_mid : (k : CheckpointValue) (m0 m : LogMap) → Holds state old.store.log k m0 m → HasMap state mid.store.log mid.store.draft.changes m (staged mid.store.draft.changes m)
-  has_mid k m0 m holds = record { checkpoint = k; acknowledged = m0; holds = held_still state old.store.log mid.store.log k m0 m reads holds; draft = refl }
+  has_mid : (k : CheckpointValue) (m0 m : LogMap) → Holds state old.store.log k m0 m
+      → HasMap state mid.store.log mid.store.draft.changes m (staged mid.store.draft.changes m)
+  has_mid k m0 m holds =
+      record { checkpoint = k; acknowledged = m0; holds = held_still state old.store.log mid.store.log k m0 m reads holds; draft = refl }
 
   -- the name that is to go is there
-  pub never_lacks : (d : ℕ) (head : Header) (name : List ℕ) → Lacks (files_of state mid.store) (files_of state new.store) d head name → FailsDrop state old new d head n name
+  pub never_lacks : (d : ℕ) (head : Header) (name : List ℕ) → Lacks (files_of state mid.store) (files_of state new.store) d head name
+      → FailsDrop state old new d head n name
   never_lacks d head name lacks k m0 m keeps holds dir some other =
-      absurd (some (ap (find byte_cmp name) (sym (kept_directory m d head other dir).1) ∙ lacks m (staged mid.store.draft.changes m) keeps (has_mid k m0 m holds)))
+      absurd (some (ap (find byte_cmp name) (sym (kept_directory m d head other dir).1)
+      ∙ lacks m (staged mid.store.draft.changes m) keeps (has_mid k m0 m holds)))
 
   -- a directory's fault is that of a device
-  pub drop_fails : (d : ℕ) (head : Header) (name : List ℕ) → IsDirectoryFault (files_of state mid.store) (files_of state new.store) d head → FailsDrop state old new d head n name
+  pub drop_fails : (d : ℕ) (head : Header) (name : List ℕ) → IsDirectoryFault (files_of state mid.store) (files_of state new.store) d head
+      → FailsDrop state old new d head n name
   drop_fails d head name failed k m0 m keeps holds dir some other =
       let rose = failed m (staged mid.store.draft.changes m) keeps (has_mid k m0 m holds) (kept_directory m d head other dir).0 in
       let before = reads.looks.carries.failures in
       omega (arith, rose, before)
 
-  pub fails_unlink : (d : ℕ) (head : Header) (name : List ℕ) (fault : StoreFault) → mid.store.log.halted ≡ false → ((fault ≡ store.NoMemory → ⊥) → IsDirectoryFault (files_of state mid.store) (files_of state new.store) d head)
-      → (fault ≡ store.Log log.Halted → mid.store.log.halted ≡ true) → (fault ≡ store.Log log.Full → ⊥) → (e : FsError) → e ≡ error_of_store fault → FailsUnlink state old new d head n name e
+  pub fails_unlink : (d : ℕ) (head : Header) (name : List ℕ) (fault : StoreFault) → mid.store.log.halted ≡ false
+      → ((fault ≡ store.NoMemory → ⊥) → IsDirectoryFault (files_of state mid.store) (files_of state new.store) d head)
+      → (fault ≡ store.Log log.Halted → mid.store.log.halted ≡ true) → (fault ≡ store.Log log.Full → ⊥) → (e : FsError)
+      → e ≡ error_of_store fault → FailsUnlink state old new d head n name e
   fails_unlink d head name store.NoMemory was failed halted full e is = inl is
   fails_unlink d head name (store.Log log.Device) was failed halted full e is = inr (is, drop_fails d head name (failed (λ same. cc)))
   fails_unlink d head name (store.Log log.Halted) was failed halted full e is = absurd (let on = halted refl in cc)
@@ -116,7 +133,8 @@ unlinked_open state old new n object empty few open_is (Ok u) sets counts drafte
 unlinked_open state old new n object empty few open_is (Err e) sets counts drafted = tt
 
 -- what is taken out behind calls that read is taken out behind none
-pub takes_behind : {D : Type 0} (state : D → DeviceState) (h a h' : Held D) (c c' : Changes) (d : ℕ) (head : Header) (name : List ℕ) (t t' : BlockTotals) → Reads state h a → TakesOut state a h' c c' d head name t t' → TakesOut state h h' c c' d head name t t'
+pub takes_behind : {D : Type 0} (state : D → DeviceState) (h a h' : Held D) (c c' : Changes) (d : ℕ) (head : Header) (name : List ℕ)
+    (t t' : BlockTotals) → Reads state h a → TakesOut state a h' c c' d head name t t' → TakesOut state h h' c c' d head name t t'
 takes_behind state h a h' c c' d head name t t' reads takes = record {
   fits = λ k m0 m keeps holds. takes.fits k m0 m keeps (held_still state h a k m0 m reads holds);
   cut = λ k m0 m keeps holds. takes.cut k m0 m keeps (held_still state h a k m0 m reads holds);
@@ -125,7 +143,8 @@ takes_behind state h a h' c c' d head name t t' reads takes = record {
 }
 
 -- a link that isn't drafted
-pub none_lost : {D : Type 0} (state : D → DeviceState) (old new : Fs D) (d : ℕ) (head : Header) (n : ℕ) (name : List ℕ) (fault : FsError) → DraftsNone state old new fault → FailsUnlink state old new d head n name fault
+pub none_lost : {D : Type 0} (state : D → DeviceState) (old new : Fs D) (d : ℕ) (head : Header) (n : ℕ) (name : List ℕ) (fault : FsError)
+    → DraftsNone state old new fault → FailsUnlink state old new d head n name fault
 none_lost state old new d head n name fault none = ⊎_elim
     (λ memory. inl memory)
     (λ failed. inr (failed.0, λ k m0 m keeps holds dir some other. failed.1 k m0 m keeps holds))

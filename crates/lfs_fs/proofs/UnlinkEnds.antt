@@ -38,7 +38,8 @@ use Rattle.lfs_fs.proofs.Files.{IsMapOf, IsShaped, room_shaped}
 use Rattle.lfs_fs.proofs.Headers.{directory_shrinks}
 use Rattle.lfs_fs.proofs.Holding.{headers_of_volume, map_of_volume, shape_of_volume}
 use Rattle.lfs_fs.proofs.InDirectories.{slot_in_directory}
-use Rattle.lfs_fs.proofs.OldEntries.{dir, dots_are, entry_is, found_d as name_found, found_there, gives_plain, has_last, is_plain, object_there, says, short_is, small, there_d as head_there}
+use Rattle.lfs_fs.proofs.OldEntries.{dir, dots_are, entry_is, found_d as name_found, found_there, gives_plain, has_last, is_plain}
+use Rattle.lfs_fs.proofs.OldEntries.{object_there, says, short_is, small, there_d as head_there}
 use Rattle.lfs_fs.proofs.UnlinkSteps.{unlink_done, unlinked}
 use Rattle.lfs_fs.proofs.WritingEnds.{still_more, draft_ends, totals_read}
 use Rattle.lfs_fs.proofs.RemovedEntries.{IsEntry, apart, holder_is, names_plain, shape_2, holder_2, removed_map, removed_shape}
@@ -50,9 +51,12 @@ use Rattle.lfs_model.proofs.Keeps.{unlink_keeps}
 use Rattle.lfs_model.proofs.Shrinking.{named_counts}
 use Rattle.lfs_fs.proofs.RenameViews.{none_in}
 
-module _ {D : Type 0} (state : D → DeviceState) (lawful : (d : D) → IsLawful (state d)) (v : Mounted D) (old mid ready : Fs D) (path : List ℕ) (d : ℕ) (piece : Option Last) (reached : Reaches state v old path d piece)
-    (running : old.store.log.halted ≡ false) (last : Last) (is_last : piece ≡ Some last) (only : OnlyReads state old mid) (head : Header) (n : ℕ) (object : Header)
-    (has : HasEntry state old mid d last.name.now last.slash head n object) (still : IsStill state (seen mid) (seen ready)) (drafts : DraftsUnlink state mid ready d head n object last.name.now) where
+module _ {D : Type 0} (state : D → DeviceState) (lawful : (d : D) → IsLawful (state d)) (v : Mounted D) (old mid ready : Fs D)
+    (path : List ℕ) (d : ℕ) (piece : Option Last) (reached : Reaches state v old path d piece)
+    (running : old.store.log.halted ≡ false) (last : Last) (is_last : piece ≡ Some last) (only : OnlyReads state old mid) (head : Header)
+    (n : ℕ) (object : Header)
+    (has : HasEntry state old mid d last.name.now last.slash head n object) (still : IsStill state (seen mid) (seen ready))
+    (drafts : DraftsUnlink state mid ready d head n object last.name.now) where
   abbrev c : Changes
   c = ready.store.draft.changes
 
@@ -76,7 +80,8 @@ module _ {D : Type 0} (state : D → DeviceState) (lawful : (d : D) → IsLawful
   same_mid m = (draft_empty mid.store.draft.changes m none_drafted).0
 
   -- ---- where the device keeps the model to the end, and the volume is in a state
-  module _ (keeps : (state ready.store.log.device).keeps_model) (k : CheckpointValue) (m0 m : LogMap) (s : State) (is : IsIn state v k m0 m s) where
+  module _ (keeps : (state ready.store.log.device).keeps_model) (k : CheckpointValue) (m0 m : LogMap) (s : State)
+      (is : IsIn state v k m0 m s) where
     kept_mid : (state mid.store.log.device).keeps_model
     kept_mid = still.reads.looks.carries.kept_before keeps
 
@@ -109,10 +114,12 @@ module _ {D : Type 0} (state : D → DeviceState) (lawful : (d : D) → IsLawful
     few = small state lawful v old path d piece reached last is_last mid only k m0 m s is walk kept_mid head n has.sees.looks
 
     there_n : m.header n ≡ Some (as_header object)
-    there_n = object_there state lawful v old path d piece reached last is_last mid only k m0 m s is walk kept_mid head n has.sees.looks object has.sees.there
+    there_n = object_there state lawful v old path d piece reached last is_last mid only k m0 m s is walk kept_mid head n has.sees.looks
+        object has.sees.there
 
     plain : is_dir (node s.tree n) ≡ false
-    plain = is_plain state lawful v old path d piece reached last is_last mid only k m0 m s is walk kept_mid head n has.sees.looks object has.sees.there has.other
+    plain = is_plain state lawful v old path d piece reached last is_last mid only k m0 m s is walk kept_mid head n has.sees.looks object
+        has.sees.there has.other
 
     fits_d : IsHeaderOf d (as_header head)
     fits_d = headers_of_volume state v k m0 m s is d (as_header head) there_d
@@ -134,7 +141,8 @@ module _ {D : Type 0} (state : D → DeviceState) (lawful : (d : D) → IsLawful
         (short_is state lawful v old path d piece reached last is_last mid only k m0 m s is walk head there_d has.short)
         (found_there state lawful v old path d piece reached last is_last mid only k m0 m s is walk kept_mid head n has.sees.looks)
         ((has_last state lawful v old path d piece reached last is_last mid only).1 ∙ has.plain)
-        (gives_plain state lawful v old path d piece reached last is_last mid only k m0 m s is walk kept_mid head n has.sees.looks object has.sees.there has.other)
+        (gives_plain state lawful v old path d piece reached last is_last mid only k m0 m s is walk kept_mid head n has.sees.looks object
+        has.sees.there has.other)
 
     placed : IsEntry (segments_of v) m s path d n head (as_header object)
     placed = record {

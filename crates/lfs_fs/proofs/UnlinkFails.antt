@@ -52,7 +52,8 @@ module _ {D : Type 0} (state : D → DeviceState) (lawful : (d : D) → IsLawful
     has_dir = dir state lawful v old path d piece reached l is_last mid only k m0 m s is walk
 
     plain : is_dir (node s.tree n) ≡ false
-    plain = is_plain state lawful v old path d piece reached l is_last mid only k m0 m s is walk kept_mid head n has.sees.looks object has.sees.there has.other
+    plain = is_plain state lawful v old path d piece reached l is_last mid only k m0 m s is walk kept_mid head n has.sees.looks object
+        has.sees.there has.other
 
     other : n ≢ d
     other e =
@@ -62,7 +63,8 @@ module _ {D : Type 0} (state : D → DeviceState) (lawful : (d : D) → IsLawful
 
     some : find byte_cmp l.name.now (names_at m d head) ≢ None
     some none =
-        let at : find byte_cmp (name path) (names_at m d head) ≡ Some n = found_d state lawful v old path d piece reached l is_last mid only k m0 m s is walk kept_mid head n has.sees.looks in
+        let at : find byte_cmp (name path) (names_at m d head) ≡ Some n =
+        found_d state lawful v old path d piece reached l is_last mid only k m0 m s is walk kept_mid head n has.sees.looks in
         let is_name : name path ≡ l.name.now = (says state lawful v old path d piece reached l is_last mid only).1 in
         let both : None ≡ Some n = sym none ∙ ap (λ (x : List ℕ). find byte_cmp x (names_at m d head)) (sym is_name) ∙ at in
         cc
@@ -73,7 +75,8 @@ module _ {D : Type 0} (state : D → DeviceState) (lawful : (d : D) → IsLawful
     drop_rises fails =
         let at = there_d state lawful v old path d piece reached l is_last mid only k m0 m s is walk kept_mid head n has.sees.looks in
         let right = fits state lawful v old path d piece reached l is_last mid only k m0 m s is walk head at in
-        let formed = directory_formed (segments_of v) m s (volume state lawful v old path d piece reached l is_last mid only k m0 m s is walk) d has_dir head at right in
+        let formed = directory_formed (segments_of v) m s
+        (volume state lawful v old path d piece reached l is_last mid only k m0 m s is walk) d has_dir head at right in
         let rose : (state mid.store.log.device).failures < (state failed.store.log.device).failures =
         fails k m0 m keeps (held_still state v.log mid.store.log k m0 m still_mid.reads is.stores.holds) formed some other in
         let before = still_mid.reads.looks.carries.failures in

@@ -1,5 +1,6 @@
 -- The exits of upgrade, and of changes that find nothing to do, as steps of the model.
-use Rattle.std.proofs.Common.{◌≡◌, ◌<◌, ◌≤◌, ◌+◌, ◌*◌, ◌^◌, ⊎_elim, inl, inr, ℕ, Bool, true, false, List, length, Some, refl, sym, ◌∙◌, ap, subst, arith}
+use Rattle.std.proofs.Common.{◌≡◌, ◌<◌, ◌≤◌, ◌+◌, ◌*◌, ◌^◌, ⊎_elim, inl, inr, ℕ, Bool, true, false, List, length, Some, refl, sym, ◌∙◌, ap}
+use Rattle.std.proofs.Common.{subst, arith}
 use Rattle.std.specs.Prelude.{Result, Ok, Err, OnOk, OnErr, IfErr}
 use Rattle.std.specs.List.{AllByRecursion}
 use Rattle.lfs_model.specs.Call.{Answer, Call, Done, Refuse, Upgrade, changes, cleans}
@@ -40,34 +41,44 @@ use Rattle.lfs_fs.proofs.WideSteps.{upgrade_step, upgraded}
 use Rattle.lfs_fs.proofs.WritingEnds.{draft_ends}
 
 -- ---- a change that is refused by a step of the model
-pub refused_after : {D : Type 0} (state : D → DeviceState) (lawful : (d : D) → IsLawful (state d)) (v new : Mounted D) → IsStill state v new → v.log.halted ≡ false → (call : Call) → cleans call ≡ false
-    → (r : Refusal) → IsOrdinary (Refuse r) → ((k : CheckpointValue) (m0 m : LogMap) (s : State) → (state new.log.device).keeps_model → IsIn state v k m0 m s → Step (segments_of v) s call (Refuse r) s)
+pub refused_after : {D : Type 0} (state : D → DeviceState) (lawful : (d : D) → IsLawful (state d)) (v new : Mounted D) → IsStill state v new
+    → v.log.halted ≡ false → (call : Call) → cleans call ≡ false
+    → (r : Refusal) → IsOrdinary (Refuse r) → ((k : CheckpointValue) (m0 m : LogMap) (s : State) → (state new.log.device).keeps_model
+    → IsIn state v k m0 m s → Step (segments_of v) s call (Refuse r) s)
     → Serves state v new call (Refuse r)
-refused_after state lawful v new still was call unclean r ordinary steps = served_still state v new call (Refuse r) (lawful v.log.device) still was ordinary
-    (λ p keeps at k m0 m is. let step = steps k m0 m p.state keeps is in inl (step, refused_not_worn (segments_of v) call p r p.state step unclean)) (not_acknowledged call r)
+refused_after state lawful v new still was call unclean r ordinary steps =
+    served_still state v new call (Refuse r) (lawful v.log.device) still was ordinary
+    (λ p keeps at k m0 m is. let step = steps k m0 m p.state keeps is in
+    inl (step, refused_not_worn (segments_of v) call p r p.state step unclean)) (not_acknowledged call r)
 
 -- ---- a change that finds nothing to do
 
-module _ {D : Type 0} (state : D → DeviceState) (lawful : (d : D) → IsLawful (state d)) (v new : Mounted D) (still : IsStill state v new) (was : v.log.halted ≡ false)
+module _ {D : Type 0} (state : D → DeviceState) (lawful : (d : D) → IsLawful (state d)) (v new : Mounted D) (still : IsStill state v new)
+    (was : v.log.halted ≡ false)
     (call : Call) (change : changes call ≡ true) (none : acknowledges call Done ≡ true → ⊥)
-    (step : (k : CheckpointValue) (m0 m : LogMap) (s : State) → (state new.log.device).keeps_model → IsIn state v k m0 m s → Step (segments_of v) s call Done s) where
+    (step : (k : CheckpointValue) (m0 m : LogMap) (s : State) → (state new.log.device).keeps_model → IsIn state v k m0 m s
+    → Step (segments_of v) s call Done s) where
   nothing_done : v.log.number < 2 ^ 62 → Serves state v new call Done
   nothing_done low = served_still state v new call Done (lawful v.log.device) still was tt
-      (λ p keeps at k m0 m is. inl (step k m0 m p.state keeps is, not_worn (segments_of v) call p (let number = at.number in omega (arith, number, low)))) none
+      (λ p keeps at k m0 m is.
+      inl (step k m0 m p.state keeps is, not_worn (segments_of v) call p (let number = at.number in omega (arith, number, low)))) none
 
   nothing_worn : 2 ^ 62 ≤ v.log.number → Serves state v new call (Refuse Worn)
   nothing_worn high = served_still state v new call (Refuse Worn) (lawful v.log.device) still was tt
       (λ p keeps at k m0 m is. inr (
         Worn,
         refl,
-        worn (segments_of v) call p (point_of state new p.state) (let number = at.number in omega (arith, number, high)) change Done p.state (step k m0 m p.state keeps is) refl,
+        worn (segments_of v) call p (point_of state new p.state) (let number = at.number in omega (arith, number, high)) change Done p.state
+            (step k m0 m p.state keeps is) refl,
         refl,
       ))
       (not_acknowledged call Worn)
 
-  pub nothing_ends : {X : Type 0} (r : Result X FsError) → OnOk r (v.log.number < 2 ^ 62) → OnErr r (2 ^ 62 ≤ v.log.number) → IfErr r (λ fault. fault ≡ error.Worn) → Serves state v new call (answer_by (λ _. Done) r)
+  pub nothing_ends : {X : Type 0} (r : Result X FsError) → OnOk r (v.log.number < 2 ^ 62) → OnErr r (2 ^ 62 ≤ v.log.number)
+      → IfErr r (λ fault. fault ≡ error.Worn) → Serves state v new call (answer_by (λ _. Done) r)
   nothing_ends (Ok x) young old is = nothing_done young
-  nothing_ends (Err fault) young old is = subst (λ (e : FsError). Serves state v new call (Refuse (refusal_of e))) (sym is) (nothing_worn old)
+  nothing_ends (Err fault) young old is =
+      subst (λ (e : FsError). Serves state v new call (Refuse (refusal_of e))) (sym is) (nothing_worn old)
 
 -- ---- the version is raised
 
@@ -89,7 +100,8 @@ raised_map N m s is = record {
 }
   where
     low : m.version ≤ 2
-    low = let same = is.log.version in ⊎_elim (λ (one : s.version ≡ 1). omega (arith, same, one)) (λ (two : s.version ≡ 2). omega (arith, same, two)) is.log.sound.version
+    low = let same = is.log.version in
+        ⊎_elim (λ (one : s.version ≡ 1). omega (arith, same, one)) (λ (two : s.version ≡ 2). omega (arith, same, two)) is.log.sound.version
 
 -- ---- upgrade
 
@@ -101,12 +113,16 @@ module _ {D : Type 0} (state : D → DeviceState) (lawful : (d : D) → IsLawful
   same_state s two = ap (λ (n : ℕ). record { tree = s.tree; handles = s.handles; version = n }) (sym two)
 
   -- the volume has version 2
-  pub upgrade_nothing : mid.store.log.version ≡ 2 → {X : Type 0} (r : Result X FsError) → OnOk r (mid.store.log.number < 2 ^ 62) → OnErr r (2 ^ 62 ≤ mid.store.log.number) → IfErr r (λ fault. fault ≡ error.Worn)
+  pub upgrade_nothing : mid.store.log.version ≡ 2 → {X : Type 0} (r : Result X FsError) → OnOk r (mid.store.log.number < 2 ^ 62)
+      → OnErr r (2 ^ 62 ≤ mid.store.log.number) → IfErr r (λ fault. fault ≡ error.Worn)
       → Serves state (seen mid) (seen mid) Upgrade (answer_by (λ _. Done) r)
-  upgrade_nothing two = nothing_ends state lawful (seen mid) (seen mid) (still_logged state mid mid refl refl refl) running Upgrade refl (λ e. cc)
-      (λ k m0 m s keeps is. subst (λ (x : State). Step (segments_of (seen mid)) s Upgrade Done x) (same_state s (version_of_volume state (seen mid) k m0 m s is ∙ two)) (upgrade_step (segments_of (seen mid)) s))
+  upgrade_nothing two =
+      nothing_ends state lawful (seen mid) (seen mid) (still_logged state mid mid refl refl refl) running Upgrade refl (λ e. cc)
+      (λ k m0 m s keeps is. subst (λ (x : State). Step (segments_of (seen mid)) s Upgrade Done x)
+      (same_state s (version_of_volume state (seen mid) k m0 m s is ∙ two)) (upgrade_step (segments_of (seen mid)) s))
 
-  module _ (b : Store D) (same_log : b.log ≡ mid.store.log) (same_saved : b.saved ≡ mid.store.saved) (same_drafted : b.drafted ≡ mid.store.drafted)
+  module _ (b : Store D) (same_log : b.log ≡ mid.store.log) (same_saved : b.saved ≡ mid.store.saved)
+      (same_drafted : b.drafted ≡ mid.store.drafted)
       (drafts : DraftsUpgrade b.draft.changes) (counts : CountsUpgraded b.draft.changes) where
     abbrev ready : Fs D
     ready = record { alloc = mid.alloc; store = b; handles = mid.handles }
@@ -116,28 +132,33 @@ module _ {D : Type 0} (state : D → DeviceState) (lawful : (d : D) → IsLawful
 
     module _ (k : CheckpointValue) (m0 m : LogMap) (s : State) (is : IsIn state (seen mid) k m0 m s) where
       after : IsMapOf (segments_of (seen mid)) (staged b.draft.changes m) (upgraded s)
-      after = subst (λ (x : LogMap). IsMapOf (segments_of (seen mid)) x (upgraded s)) (sym (drafts.map m)) (raised_map (segments_of (seen mid)) m s (map_of_volume state (seen mid) k m0 m s is))
+      after = subst (λ (x : LogMap). IsMapOf (segments_of (seen mid)) x (upgraded s)) (sym (drafts.map m))
+          (raised_map (segments_of (seen mid)) m s (map_of_volume state (seen mid) k m0 m s is))
 
       totals : AreTotals (staged b.draft.changes m) b.drafted
-      totals = subst (λ (t : BlockTotals). AreTotals (staged b.draft.changes m) t) (sym (same_drafted ∙ begun.drafted)) (counts m mid.store.log.totals record { stored = is.counted.stored; above = is.counted.above })
+      totals = subst (λ (t : BlockTotals). AreTotals (staged b.draft.changes m) t) (sym (same_drafted ∙ begun.drafted))
+          (counts m mid.store.log.totals record { stored = is.counted.stored; above = is.counted.above })
 
       headers : (n : ℕ) (h : Header) → (staged b.draft.changes m).header n ≡ Some h → m.header n ≡ Some h
       headers n h there = ap (λ (x : LogMap). x.header n) (sym (drafts.map m)) ∙ there
 
       room : b.drafted.data_blocks + 7 * b.drafted.meta_blocks + 720 ≤ 47 * segments_of (seen mid)
       room = room_shaped totals_of_tree (segments_of (seen mid)) (staged b.draft.changes m) (upgraded s) after
-          (shape_of (segments_of (seen mid)) (staged b.draft.changes m) (upgraded s) after (λ n h there. headers_of_volume state (seen mid) k m0 m s is n h (headers n h there)))
+          (shape_of (segments_of (seen mid)) (staged b.draft.changes m) (upgraded s) after
+          (λ n h there. headers_of_volume state (seen mid) k m0 m s is n h (headers n h there)))
           b.drafted.data_blocks b.drafted.meta_blocks totals
 
-    pub upgrade_ends : (new : Fs D) → new.handles ≡ ready.handles → {X : Type 0} (r : Result X FsError) → OnOk r (StagesDraft state ready new) → IfErr r (TurnsDown state ready new)
+    pub upgrade_ends : (new : Fs D) → new.handles ≡ ready.handles → {X : Type 0} (r : Result X FsError)
+        → OnOk r (StagesDraft state ready new) → IfErr r (TurnsDown state ready new)
         → Serves state (seen mid) (seen new) Upgrade (answer_by (λ _. Done) r)
-    upgrade_ends new rest r done down = draft_ends state lawful (seen mid) ready new Upgrade Done still running rest refl refl refl refl (λ keeps k m0 m s is. record {
-      next = upgraded s;
-      answer = Done;
-      ok = refl;
-      fits = drafts.fits m;
-      counted = totals k m0 m s is;
-      map = λ has_room. after k m0 m s is;
-      done = λ has_room. upgrade_step (segments_of (seen mid)) s;
-      lacks = λ more. absurd (let most = room k m0 m s is in omega (arith, most, more));
-    }) refl (λ keeps k m0 m s is. (refl, is.handles)) r done down
+    upgrade_ends new rest r done down =
+        draft_ends state lawful (seen mid) ready new Upgrade Done still running rest refl refl refl refl (λ keeps k m0 m s is. record {
+          next = upgraded s;
+          answer = Done;
+          ok = refl;
+          fits = drafts.fits m;
+          counted = totals k m0 m s is;
+          map = λ has_room. after k m0 m s is;
+          done = λ has_room. upgrade_step (segments_of (seen mid)) s;
+          lacks = λ more. absurd (let most = room k m0 m s is in omega (arith, most, more));
+        }) refl (λ keeps k m0 m s is. (refl, is.handles)) r done down

@@ -29,7 +29,8 @@ use Rattle.lfs_fs.proofs.Holding.{headers_of_volume}
 use Rattle.lfs_fs.proofs.Serving.{served_still}
 use Rattle.lfs_fs.proofs.Told.{memory_serves}
 
-module _ {D : Type 0} (state : D → DeviceState) (v : Mounted D) (k : CheckpointValue) (m0 m : LogMap) (s : State) (is : IsIn state v k m0 m s) where
+module _ {D : Type 0} (state : D → DeviceState) (v : Mounted D) (k : CheckpointValue) (m0 m : LogMap) (s : State)
+    (is : IsIn state v k m0 m s) where
   -- a volume's log map is one that is walked
   pub tree_of_volume : HasTree m
   tree_of_volume = tree_maps.sound (segments_of v) s m is.log.sound is.log.is (headers_of_volume state v k m0 m s is) is.log.formed
@@ -41,23 +42,28 @@ module _ {D : Type 0} (state : D → DeviceState) (v : Mounted D) (k : Checkpoin
   pub tree_drafted : (c : Changes) → IsNoChange c → tree_in (staged c m) ≡ s.tree
   tree_drafted c none = ap (λ (x : LogMap). tree_in x) (draft_empty c m none).0 ∙ sym is.log.is
 
-module _ {D : Type 0} (state : D → DeviceState) (old new : Mounted D) (lawful : IsLawful (state old.log.device)) (still : IsStill state old new) (was : old.log.halted ≡ false)
+module _ {D : Type 0} (state : D → DeviceState) (old new : Mounted D) (lawful : IsLawful (state old.log.device))
+    (still : IsStill state old new) (was : old.log.halted ≡ false)
     (c : Changes) (none : IsNoChange c) (W : Tree → End → Type 0) where
   -- a walk of the log map is one of the state
-  pub walked : (e : End) → WalksTo state old.log new.log c W e → (k : CheckpointValue) (m0 m : LogMap) (s : State) → (state new.log.device).keeps_model → IsIn state old k m0 m s → W s.tree e
-  walked e walks k m0 m s keeps is = subst (λ (t : Tree). W t e) (tree_drafted state old k m0 m s is c none) (walks k m0 m keeps is.stores.holds (walked_drafted state old k m0 m s is c none))
+  pub walked : (e : End) → WalksTo state old.log new.log c W e → (k : CheckpointValue) (m0 m : LogMap) (s : State)
+      → (state new.log.device).keeps_model → IsIn state old k m0 m s → W s.tree e
+  walked e walks k m0 m s keeps is = subst (λ (t : Tree). W t e) (tree_drafted state old k m0 m s is c none)
+      (walks k m0 m keeps is.stores.holds (walked_drafted state old k m0 m s is c none))
 
   -- a walk without an end refuses the call
   module _ (call : Call) (free : never_for_device call ≡ false) (unclean : cleans call ≡ false) (memory : takes_no_memory call ≡ false)
       (steps : (k : CheckpointValue) (m0 m : LogMap) (s : State) → (state new.log.device).keeps_model → IsIn state old k m0 m s
       → (r : Refusal) → W s.tree (Refused r) → Step (segments_of old) s call (Refuse r) s) where
-    walk_refused : (r : Refusal) → IsOrdinary (Refuse r) → WalksTo state old.log new.log c W (Refused r) → Serves state old new call (Refuse r)
+    walk_refused : (r : Refusal) → IsOrdinary (Refuse r) → WalksTo state old.log new.log c W (Refused r)
+        → Serves state old new call (Refuse r)
     walk_refused r ordinary walks = served_still state old new call (Refuse r) lawful still was ordinary (λ p keeps here k m0 m is. (
         let step = steps k m0 m p.state keeps is r (walked (Refused r) walks k m0 m p.state keeps is) in
         inl (step, refused_not_worn (segments_of old) call p r p.state step unclean)))
         (not_acknowledged call r)
 
-    pub walk_ends : (fault : WalkFault) → (fault ≡ walk.Log log.Halted → old.log.halted ≡ true) → (fault ≡ walk.Log log.Full → ⊥) → EndsRefused state old.log new.log c W fault
+    pub walk_ends : (fault : WalkFault) → (fault ≡ walk.Log log.Halted → old.log.halted ≡ true) → (fault ≡ walk.Log log.Full → ⊥)
+        → EndsRefused state old.log new.log c W fault
         → Serves state old new call (Refuse (refusal_of (error_of_walk fault)))
     walk_ends walk.NoEntry halted other ends = walk_refused refusals.NoEntry tt ends
     walk_ends walk.NotDir halted other ends = walk_refused refusals.NotDir tt ends
@@ -67,7 +73,8 @@ module _ {D : Type 0} (state : D → DeviceState) (old new : Mounted D) (lawful 
     walk_ends walk.NoMemory halted other ends = memory_serves state old new call lawful still was memory
     walk_ends (walk.Log log.Halted) halted other ends = absurd (let a = halted refl in let b = was in cc)
     walk_ends (walk.Log log.Full) halted other ends = absurd (other refl)
-    walk_ends (walk.Log log.Device) halted other ends = served_still state old new call (Refuse Device) lawful still was tt (λ p keeps here k m0 m is. (
+    walk_ends (walk.Log log.Device) halted other ends =
+        served_still state old new call (Refuse Device) lawful still was tt (λ p keeps here k m0 m is. (
         let rose = ends k m0 m keeps is.stores.holds (walked_drafted state old k m0 m p.state is c none) in
         inr (Device, refl, (free, (let f = here.failures in omega (arith, f, rose))), refl)))
         (not_acknowledged call Device)

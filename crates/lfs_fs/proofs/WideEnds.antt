@@ -1,5 +1,6 @@
 -- The exits of widen behind its walk, from what is drafted to the call as a step of the model.
-use Rattle.std.proofs.Common.{◌≡◌, ◌≢◌, ◌<◌, ◌≤◌, ◌+◌, ◌*◌, ◌/◌, ◌%◌, ◌^◌, ◌==◌, ⊎_elim, ℕ, zero, suc, Bool, true, false, List, length, Some, None, refl, sym, ◌∙◌, ap, subst, arith, eq-eqb}
+use Rattle.std.proofs.Common.{◌≡◌, ◌≢◌, ◌<◌, ◌≤◌, ◌+◌, ◌*◌, ◌/◌, ◌%◌, ◌^◌, ◌==◌, ⊎_elim, ℕ, zero, suc, Bool, true, false, List, length}
+use Rattle.std.proofs.Common.{Some, None, refl, sym, ◌∙◌, ap, subst, arith, eq-eqb}
 use Rattle.std.specs.Prelude.{Result, Ok, Err, OnOk, OnErr, IfErr}
 use Rattle.std.proofs.lemmas.Bool.{cases_eq, ne_eqb}
 use Rattle.lfs_model.specs.declared.Kind.{Kind}
@@ -66,7 +67,8 @@ use Rattle.lfs_fs.proofs.WideSteps.{widen_done, widen_no_directory, widen_no_spa
 use Rattle.lfs_fs.proofs.WritingEnds.{draft_ends, still_more}
 
 -- a directory of form 1 fits as many slots
-wide_fits : (d : ℕ) (head : Header) → IsHeaderOf d (as_header head) → head.kind ≡ kind.Directory → FitsHeader head.kind 1 head.links (slot_len 1 * slot_count head)
+wide_fits : (d : ℕ) (head : Header) → IsHeaderOf d (as_header head) → head.kind ≡ kind.Directory
+    → FitsHeader head.kind 1 head.links (slot_len 1 * slot_count head)
 unfolding IsSize
 wide_fits d head fits dir =
     let sized : IsSize head.form kind.Directory head.size = subst (λ (k : Kind). IsSize head.form k head.size) dir fits.size in
@@ -79,9 +81,11 @@ wide_fits d head fits dir =
 
 directory_few : (d : ℕ) (head : Header) → IsHeaderOf d (as_header head) → head.kind ≡ kind.Directory → head.size ≤ 1024 * slot_len head.form
 unfolding IsSize
-directory_few d head fits dir = let sized : IsSize head.form kind.Directory head.size = subst (λ (k : Kind). IsSize head.form k head.size) dir fits.size in sized.1
+directory_few d head fits dir =
+    let sized : IsSize head.form kind.Directory head.size = subst (λ (k : Kind). IsSize head.form k head.size) dir fits.size in sized.1
 
-is_directory_by : (m : LogMap) (k : Kind) (n : ℕ) (h : entry.Header) → k ≡ kind.Directory → node_by m k n h ≡ Dir h.form (map_of h.form (slots m n h))
+is_directory_by : (m : LogMap) (k : Kind) (n : ℕ) (h : entry.Header) → k ≡ kind.Directory
+    → node_by m k n h ≡ Dir h.form (map_of h.form (slots m n h))
 is_directory_by m k n h dir = ap (λ (x : Kind). node_by m x n h) dir
 
 other_kind : (m : LogMap) (k : Kind) (n : ℕ) (h : entry.Header) → k ≢ kind.Directory → is_dir (Some (node_by m k n h)) ≡ false
@@ -101,7 +105,8 @@ pub old_before : {X E : Type 0} {a b : ℕ} → b ≡ a → (r : Result X E) →
 old_before same (Ok x) old = tt
 old_before same (Err e) old = omega (arith, same, old)
 
-module _ {D : Type 0} (state : D → DeviceState) (lawful : (d : D) → IsLawful (state d)) (v : Mounted D) (was : v.log.halted ≡ false) (path : List ℕ) (n : ℕ) where
+module _ {D : Type 0} (state : D → DeviceState) (lawful : (d : D) → IsLawful (state d)) (v : Mounted D) (was : v.log.halted ≡ false)
+    (path : List ℕ) (n : ℕ) where
   -- ---- its header is read
   module _ (old mid : Fs D) (reached : ReachesWhole state v old path n) (only : OnlyReads state old mid) where
     pub whole_later : ReachesWhole state v mid path n
@@ -112,26 +117,33 @@ module _ {D : Type 0} (state : D → DeviceState) (lawful : (d : D) → IsLawful
       walk = λ k m0 m s keeps is. reached.walk k m0 m s (only.still.reads.looks.carries.kept_before keeps) is;
     }
 
-    pub header_in : (head : Header) → HasHeader state old mid n head → (k : CheckpointValue) (m0 m : LogMap) (s : State) → (state mid.store.log.device).keeps_model → IsIn state v k m0 m s → m.header n ≡ Some (as_header head)
+    pub header_in : (head : Header) → HasHeader state old mid n head → (k : CheckpointValue) (m0 m : LogMap) (s : State)
+        → (state mid.store.log.device).keeps_model → IsIn state v k m0 m s → m.header n ≡ Some (as_header head)
     header_in head has k m0 m s keeps is =
-        ap (λ (x : LogMap). x.header n) (sym (draft_empty old.store.draft.changes m reached.empty).0) ∙ has k m0 m keeps (held_still state v.log old.store.log k m0 m reached.still.reads is.stores.holds)
+        ap (λ (x : LogMap). x.header n) (sym (draft_empty old.store.draft.changes m reached.empty).0)
+        ∙ has k m0 m keeps (held_still state v.log old.store.log k m0 m reached.still.reads is.stores.holds)
 
     -- an object that is there has one, unless a call of the device failed
-    pub headerless : (fault : FsError) → LacksHeader state old mid n fault → Serves state v (seen mid) (Widen path) (Refuse (refusal_of fault))
+    pub headerless : (fault : FsError) → LacksHeader state old mid n fault
+        → Serves state v (seen mid) (Widen path) (Refuse (refusal_of fault))
     headerless fault lacks = ⊎_elim
         (λ halted. absurd (let on = sym reached.still.reads.halted ∙ halted.1 in let off = was in cc))
         (λ failed. subst (λ (e : FsError). Serves state v (seen mid) (Widen path) (Refuse (refusal_of e))) (sym failed.0)
         (failed_serves state v (seen mid) (Widen path) (lawful v.log.device) whole_later.still was refl (λ k m0 m s keeps is. ⊎_elim
-        (λ (rose : (state old.store.log.device).failures < (state mid.store.log.device).failures). (let before = reached.still.reads.looks.carries.failures in omega (arith, before, rose)))
+        (λ (rose : (state old.store.log.device).failures < (state mid.store.log.device).failures).
+        (let before = reached.still.reads.looks.carries.failures in omega (arith, before, rose)))
         (λ none. absurd (resolved_there (segments_of v) s is.log.sound path true n (whole_later.walk k m0 m s keeps is)
-        (no_header_none (segments_of v) m s is.log n (ap (λ (x : LogMap). x.header n) (sym (draft_empty old.store.draft.changes m reached.empty).0) ∙ none))))
+        (no_header_none (segments_of v) m s is.log n
+        (ap (λ (x : LogMap). x.header n) (sym (draft_empty old.store.draft.changes m reached.empty).0) ∙ none))))
         (failed.1 k m0 m keeps (held_still state v.log old.store.log k m0 m reached.still.reads is.stores.holds)))))
         lacks
 
   -- ---- what the header says
   module _ (old : Fs D) (reached : ReachesWhole state v old path n) (head : Header)
-      (there : (k : CheckpointValue) (m0 m : LogMap) (s : State) → (state old.store.log.device).keeps_model → IsIn state v k m0 m s → m.header n ≡ Some (as_header head)) where
-    module _ (k : CheckpointValue) (m0 m : LogMap) (s : State) (keeps : (state old.store.log.device).keeps_model) (is : IsIn state v k m0 m s) where
+      (there : (k : CheckpointValue) (m0 m : LogMap) (s : State) → (state old.store.log.device).keeps_model → IsIn state v k m0 m s
+      → m.header n ≡ Some (as_header head)) where
+    module _ (k : CheckpointValue) (m0 m : LogMap) (s : State) (keeps : (state old.store.log.device).keeps_model)
+        (is : IsIn state v k m0 m s) where
       fits_header : IsHeaderOf n (as_header head)
       fits_header = headers_of_volume state v k m0 m s is n (as_header head) (there k m0 m s keeps is)
 
@@ -150,19 +162,24 @@ module _ {D : Type 0} (state : D → DeviceState) (lawful : (d : D) → IsLawful
 
     pub no_directory : head.kind ≢ kind.Directory → Serves state v (seen old) (Widen path) (Refuse refusal.NotDir)
     no_directory other = refused_after state lawful v (seen old) reached.still was (Widen path) refl refusal.NotDir tt (λ k m0 m s keeps is.
-        widen_no_directory (segments_of v) s path n (reached.walk k m0 m s keeps is) (ap is_dir (node_is k m0 m s keeps is) ∙ other_kind m head.kind n (as_header head) other))
+        widen_no_directory (segments_of v) s path n (reached.walk k m0 m s keeps is)
+        (ap is_dir (node_is k m0 m s keeps is) ∙ other_kind m head.kind n (as_header head) other))
 
     pub old_volume : head.kind ≡ kind.Directory → v.log.version ≡ 1 → Serves state v (seen old) (Widen path) (Refuse refusal.Inval)
     old_volume dir one = refused_after state lawful v (seen old) reached.still was (Widen path) refl refusal.Inval tt (λ k m0 m s keeps is.
-        widen_old_volume (segments_of v) s path n (reached.walk k m0 m s keeps is) (is_dir_here k m0 m s keeps is dir) (eq-eqb s.version 1 (version_of_volume state v k m0 m s is ∙ one)))
+        widen_old_volume (segments_of v) s path n (reached.walk k m0 m s keeps is) (is_dir_here k m0 m s keeps is dir)
+        (eq-eqb s.version 1 (version_of_volume state v k m0 m s is ∙ one)))
 
     -- it has form 1 already
-    pub wide_already : head.kind ≡ kind.Directory → (v.log.version ≡ 1 → ⊥) → head.form ≢ 0 → {X : Type 0} (r : Result X FsError) → OnOk r (v.log.number < 2 ^ 62) → OnErr r (2 ^ 62 ≤ v.log.number)
+    pub wide_already : head.kind ≡ kind.Directory → (v.log.version ≡ 1 → ⊥) → head.form ≢ 0 → {X : Type 0} (r : Result X FsError)
+        → OnOk r (v.log.number < 2 ^ 62) → OnErr r (2 ^ 62 ≤ v.log.number)
         → IfErr r (λ fault. fault ≡ error.Worn) → Serves state v (seen old) (Widen path) (answer_by (λ _. Done) r)
-    wide_already dir two wide_is = nothing_ends state lawful v (seen old) reached.still was (Widen path) refl (λ e. cc) (λ k m0 m s keeps is.
+    wide_already dir two wide_is =
+        nothing_ends state lawful v (seen old) reached.still was (Widen path) refl (λ e. cc) (λ k m0 m s keeps is.
         widen_nothing (segments_of v) s path n (reached.walk k m0 m s keeps is) (is_dir_here k m0 m s keeps is dir)
         (not_version s.version (λ e. two (sym (version_of_volume state v k m0 m s is) ∙ e)))
-        (eq-eqb (form_of (node s.tree n)) 1 (form_here k m0 m s keeps is dir ∙ form_one head.kind head.form dir (fits_header k m0 m s keeps is).form wide_is)))
+        (eq-eqb (form_of (node s.tree n)) 1
+        (form_here k m0 m s keeps is dir ∙ form_one head.kind head.form dir (fits_header k m0 m s keeps is).form wide_is)))
       where
         form_one : (k : Kind) (form : ℕ) → k ≡ kind.Directory → IsForm 2 k form → form ≢ 0 → form ≡ 1
         form_one k form dir known ne = directory_form form (subst (λ (x : Kind). IsForm 2 x form) dir known) ne
@@ -172,12 +189,16 @@ module _ {D : Type 0} (state : D → DeviceState) (lawful : (d : D) → IsLawful
             directory_form (suc form) known ne = omega (arith, known)
 
   -- no volume has a directory of more entries
-  pub too_large : (a : Fs D) (head : Header) → ReachesNarrow state v a path n head → 1024 * slot_len head.form < head.size → Serves state v (seen a) (Widen path) (Refuse refusal.Device)
-  too_large a head narrow large = failed_serves state v (seen a) (Widen path) (lawful v.log.device) narrow.whole.still was refl (λ k m0 m s keeps is. absurd (
-      let few = directory_few n head (headers_of_volume state v k m0 m s is n (as_header head) (narrow.there k m0 m s keeps is)) narrow.directory in omega (arith, few, large)))
+  pub too_large : (a : Fs D) (head : Header) → ReachesNarrow state v a path n head → 1024 * slot_len head.form < head.size
+      → Serves state v (seen a) (Widen path) (Refuse refusal.Device)
+  too_large a head narrow large =
+      failed_serves state v (seen a) (Widen path) (lawful v.log.device) narrow.whole.still was refl (λ k m0 m s keeps is. absurd (
+      let few = directory_few n head (headers_of_volume state v k m0 m s is n (as_header head) (narrow.there k m0 m s keeps is))
+      narrow.directory in omega (arith, few, large)))
 
   -- it isn't drafted: memory was refused, or a call of the device failed
-  module _ (a : Fs D) (head : Header) (narrow : ReachesNarrow state v a path n head) (tried gone : Store D) (redrafts : files.Redrafts (files_of state a.store) (files_of state tried))
+  module _ (a : Fs D) (head : Header) (narrow : ReachesNarrow state v a path n head) (tried gone : Store D)
+      (redrafts : files.Redrafts (files_of state a.store) (files_of state tried))
       (same_log : gone.log ≡ tried.log) (same_saved : gone.saved ≡ tried.saved) where
     abbrev left : Fs D
     left = record { alloc = a.alloc; store = gone; handles = a.handles }
@@ -190,12 +211,16 @@ module _ {D : Type 0} (state : D → DeviceState) (lawful : (d : D) → IsLawful
         (still_more state lawful v (seen a) (seen mid) narrow.whole.still (still_drafted state a a.store tried refl refl redrafts))
         (still_logged state mid left same_log same_saved refl)
 
-    undrafted : (fault : StoreFault) → ((fault ≡ store.NoMemory → ⊥) → IsDirectoryFault (files_of state a.store) (files_of state tried) n head) → (fault ≡ store.Log log.Halted → a.store.log.halted ≡ true)
+    undrafted : (fault : StoreFault)
+        → ((fault ≡ store.NoMemory → ⊥) → IsDirectoryFault (files_of state a.store) (files_of state tried) n head)
+        → (fault ≡ store.Log log.Halted → a.store.log.halted ≡ true)
         → (fault ≡ store.Log log.Full → ⊥) → Serves state v (seen left) (Widen path) (Refuse (refusal_of (error_of_store fault)))
     undrafted store.NoMemory failed halted other = memory_serves state v (seen left) (Widen path) (lawful v.log.device) still_left was refl
-    undrafted (store.Log log.Halted) failed halted other = absurd (let on = sym narrow.whole.still.reads.halted ∙ halted refl in let off = was in cc)
+    undrafted (store.Log log.Halted) failed halted other =
+        absurd (let on = sym narrow.whole.still.reads.halted ∙ halted refl in let off = was in cc)
     undrafted (store.Log log.Full) failed halted other = absurd (other refl)
-    undrafted (store.Log log.Device) failed halted other = failed_serves state v (seen left) (Widen path) (lawful v.log.device) still_left was refl (λ k m0 m s keeps is.
+    undrafted (store.Log log.Device) failed halted other =
+        failed_serves state v (seen left) (Widen path) (lawful v.log.device) still_left was refl (λ k m0 m s keeps is.
         let keeps_tried : (state tried.log.device).keeps_model = subst (λ (h : Held D). (state h.device).keeps_model) same_log keeps in
         let before = redrafts.looks.carries.kept_before keeps_tried in
         let there = narrow.there k m0 m s before is in
@@ -210,13 +235,19 @@ module _ {D : Type 0} (state : D → DeviceState) (lawful : (d : D) → IsLawful
         let same = ap (λ (h : Held D). (state h.device).failures) same_log in
         omega (arith, rose, first, same))
 
-    pub widen_given_up : (fault : StoreFault) → ((fault ≡ store.NoMemory → ⊥) → IsDirectoryFault (files_of state a.store) (files_of state tried) n head) → (fault ≡ store.Log log.Halted → a.store.log.halted ≡ true)
-        → (fault ≡ store.Log log.Full → ⊥) → (e : FsError) → e ≡ error_of_store fault → Serves state v (seen left) (Widen path) (Refuse (refusal_of e))
-    widen_given_up fault failed halted other e is = subst (λ (x : FsError). Serves state v (seen left) (Widen path) (Refuse (refusal_of x))) (sym is) (undrafted fault failed halted other)
+    pub widen_given_up : (fault : StoreFault)
+        → ((fault ≡ store.NoMemory → ⊥) → IsDirectoryFault (files_of state a.store) (files_of state tried) n head)
+        → (fault ≡ store.Log log.Halted → a.store.log.halted ≡ true)
+        → (fault ≡ store.Log log.Full → ⊥) → (e : FsError) → e ≡ error_of_store fault
+        → Serves state v (seen left) (Widen path) (Refuse (refusal_of e))
+    widen_given_up fault failed halted other e is = subst (λ (x : FsError). Serves state v (seen left) (Widen path) (Refuse (refusal_of x)))
+        (sym is) (undrafted fault failed halted other)
 
   -- ---- it is widened
-  module _ (a : Fs D) (head : Header) (is_narrow : ReachesNarrow state v a path n head) (b : Store D) (redrafts : files.Redrafts (files_of state a.store) (files_of state b))
-      (widens : Widens (files_of state a.store) (files_of state b) n head) (counts : CountsWidened (files_of state a.store) (files_of state b) n head) where
+  module _ (a : Fs D) (head : Header) (is_narrow : ReachesNarrow state v a path n head) (b : Store D)
+      (redrafts : files.Redrafts (files_of state a.store) (files_of state b))
+      (widens : Widens (files_of state a.store) (files_of state b) n head)
+      (counts : CountsWidened (files_of state a.store) (files_of state b) n head) where
     abbrev ready : Fs D
     ready = record { alloc = a.alloc; store = b; handles = a.handles }
 
@@ -267,10 +298,12 @@ module _ {D : Type 0} (state : D → DeviceState) (lawful : (d : D) → IsLawful
       version_is =
           let same = is.log.version in
           let told = version_of_volume state v k m0 m s is in
-          ⊎_elim (λ (one : s.version ≡ 1). absurd (is_narrow.version (sym told ∙ one))) (λ (two : s.version ≡ 2). sym same ∙ two) is.log.sound.version
+          ⊎_elim (λ (one : s.version ≡ 1). absurd (is_narrow.version (sym told ∙ one)))
+          (λ (two : s.version ≡ 2). sym same ∙ two) is.log.sound.version
 
       known : IsForm m.version head.kind 1
-      known = subst (λ (v : ℕ). IsForm v head.kind 1) (sym version_is) (subst (λ (x : Kind). IsForm 2 x 1) (sym is_narrow.directory) (omega arith))
+      known = subst (λ (v : ℕ). IsForm v head.kind 1) (sym version_is)
+          (subst (λ (x : Kind). IsForm 2 x 1) (sym is_narrow.directory) (omega arith))
 
       was_object : IsObject m n (as_header head)
       was_object = object_fits m n (as_header head) is.map (map_here.long n) there fits.most
@@ -290,7 +323,8 @@ module _ {D : Type 0} (state : D → DeviceState) (lawful : (d : D) → IsLawful
 
       shape : IsShaped m'
       shape = shape_kept m m' n widened_map.file.only shaped kept now_object.whole.long
-          (λ h at dir. subst (IsDirectory m' n) (let both : Some (as_header (wide head)) ≡ Some h = sym widened_map.file.header ∙ at in cc) names.directory)
+          (λ h at dir. subst (IsDirectory m' n) (let both : Some (as_header (wide head)) ≡ Some h = sym widened_map.file.header ∙ at in cc)
+          names.directory)
 
       tree : tree_in m' ≡ widened s.tree n
       tree =
@@ -313,12 +347,15 @@ module _ {D : Type 0} (state : D → DeviceState) (lawful : (d : D) → IsLawful
       -- ---- the totals
       counted : AreTotals (staged b.draft.changes m) b.drafted
       counted =
-          let totals : AreTotals m a.store.log.totals = record { stored = reached.still.blocks ∙ is.counted.stored; above = reached.still.others ∙ is.counted.above } in
+          let totals : AreTotals m a.store.log.totals =
+          record { stored = reached.still.blocks ∙ is.counted.stored; above = reached.still.others ∙ is.counted.above } in
           subst (λ (x : LogMap). AreTotals x b.drafted) widened_map.has.draft
-          (counts m m m' keeps has widened_map.has record { map = is.map; there = there } (map_here.long n) directory known kept (subst (λ (t : BlockTotals). AreTotals m t) (sym reached.drafted) totals))
+          (counts m m m' keeps has widened_map.has record { map = is.map; there = there } (map_here.long n) directory known kept
+          (subst (λ (t : BlockTotals). AreTotals m t) (sym reached.drafted) totals))
 
       needs : need (widened s.tree n) ≡ need_of ready
-      needs = ap need (sym tree) ∙ (need_shaped totals_of_tree m' shape b.drafted.data_blocks b.drafted.meta_blocks (subst (λ (x : LogMap). AreTotals x b.drafted) (sym widened_map.has.draft) counted)).0
+      needs = ap need (sym tree) ∙ (need_shaped totals_of_tree m' shape b.drafted.data_blocks b.drafted.meta_blocks
+          (subst (λ (x : LogMap). AreTotals x b.drafted) (sym widened_map.has.draft) counted)).0
 
       done : need_of ready ≤ 47 * segments_of v → Step (segments_of v) s (Widen path) Done (with_tree s (widened s.tree n))
       done room = widen_done (segments_of v) s path n walk dir two narrow (let same = needs in omega (arith, same, room))
@@ -333,18 +370,23 @@ module _ {D : Type 0} (state : D → DeviceState) (lawful : (d : D) → IsLawful
             (version_two s.version two is.log.sound.version) (let same = needs in omega (arith, same, room))
           where
             version_two : (version : ℕ) → (version == 1) ≡ false → IsVersion version → version ≡ 2
-            version_two version ne known = ⊎_elim (λ (e : version ≡ 1). absurd (let one = ap (λ (x : ℕ). x == 1) e in cc)) (λ (e : version ≡ 2). e) known
+            version_two version ne known =
+                ⊎_elim (λ (e : version ≡ 1). absurd (let one = ap (λ (x : ℕ). x == 1) e in cc)) (λ (e : version ≡ 2). e) known
 
         links_are : (q : ℕ) (g : entry.Header) → m'.header q ≡ Some g → g.links ≡ links (widened s.tree n) q
         links_are q g at = ⊎_elim
             (λ (here : q ≡ n).
-            let same : as_header (wide head) ≡ g = (let both : Some (as_header (wide head)) ≡ Some g = sym widened_map.file.header ∙ ap m'.header (sym here) ∙ at in cc) in
-            sym (ap (λ (h : entry.Header). h.links) same) ∙ is.log.links n (as_header head) there ∙ ap (λ (t : Tree). links t n) (sym is.log.is) ∙ ap (links s.tree) (sym here) ∙ sym (links_now q))
-            (λ (ne : q ≡ n → ⊥). is.log.links q g (sym (widened_map.file.only.headers q ne) ∙ at) ∙ ap (λ (t : Tree). links t q) (sym is.log.is) ∙ sym (links_now q))
+            let same : as_header (wide head) ≡ g =
+            (let both : Some (as_header (wide head)) ≡ Some g = sym widened_map.file.header ∙ ap m'.header (sym here) ∙ at in cc) in
+            sym (ap (λ (h : entry.Header). h.links) same) ∙ is.log.links n (as_header head) there
+            ∙ ap (λ (t : Tree). links t n) (sym is.log.is) ∙ ap (links s.tree) (sym here) ∙ sym (links_now q))
+            (λ (ne : q ≡ n → ⊥). is.log.links q g (sym (widened_map.file.only.headers q ne) ∙ at)
+            ∙ ap (λ (t : Tree). links t q) (sym is.log.is) ∙ sym (links_now q))
             (cases_eq q n)
 
         after : IsMapOf (segments_of v) m' (with_tree s (widened s.tree n))
-        after = map_by shape (widen_keeps (segments_of v) s (with_tree s (widened s.tree n)) path Done is.log.sound (done room)) (is.log.version ∙ sym widened_map.file.only.version) tree links_are
+        after = map_by shape (widen_keeps (segments_of v) s (with_tree s (widened s.tree n)) path Done is.log.sound (done room))
+            (is.log.version ∙ sym widened_map.file.only.version) tree links_are
 
       fits_here : FitsBatch m b.draft.changes
       fits_here = widens.fits m m has (draft_empty a.store.draft.changes m reached.empty).1 record {
@@ -357,21 +399,18 @@ module _ {D : Type 0} (state : D → DeviceState) (lawful : (d : D) → IsLawful
         };
       }
 
-    pub widen_ends : (new : Fs D) → new.handles ≡ ready.handles → {X : Type 0} (r : Result X FsError) → OnOk r (StagesDraft state ready new) → IfErr r (TurnsDown state ready new)
+    pub widen_ends : (new : Fs D) → new.handles ≡ ready.handles → {X : Type 0} (r : Result X FsError) → OnOk r (StagesDraft state ready new)
+        → IfErr r (TurnsDown state ready new)
         → Serves state v (seen new) (Widen path) (answer_by (λ _. Done) r)
-    widen_ends new rest r staged_by down = draft_ends state lawful v ready new (Widen path) Done still was rest refl refl refl refl (λ keeps k m0 m s is. record {
-      next = with_tree s (widened s.tree n);
-      answer = Done;
-      ok = refl;
-      fits = fits_here keeps k m0 m s is;
-      counted = counted keeps k m0 m s is;
-      map = λ room. subst (λ (x : LogMap). IsMapOf (segments_of v) x (with_tree s (widened s.tree n))) (widened_map keeps k m0 m s is).has.draft (after keeps k m0 m s is room);
-      done = done keeps k m0 m s is;
-      lacks = lacks keeps k m0 m s is;
-    }) refl (λ keeps k m0 m s is. (refl, is.handles)) r staged_by down
-
-    -- the draft asks for no more than memory has
-    pub widen_room : room_for b.draft.changes ≤ 456
-    widen_room =
-        let asked = widens.asked (ap length reached.empty.headers) (ap length reached.empty.blocks) in
-        omega (arith, asked)
+    widen_ends new rest r staged_by down =
+        draft_ends state lawful v ready new (Widen path) Done still was rest refl refl refl refl (λ keeps k m0 m s is. record {
+          next = with_tree s (widened s.tree n);
+          answer = Done;
+          ok = refl;
+          fits = fits_here keeps k m0 m s is;
+          counted = counted keeps k m0 m s is;
+          map = λ room. subst (λ (x : LogMap). IsMapOf (segments_of v) x (with_tree s (widened s.tree n)))
+              (widened_map keeps k m0 m s is).has.draft (after keeps k m0 m s is room);
+          done = done keeps k m0 m s is;
+          lacks = lacks keeps k m0 m s is;
+        }) refl (λ keeps k m0 m s is. (refl, is.handles)) r staged_by down

@@ -44,9 +44,11 @@ use Rattle.lfs_model.specs.Step.{with_tree}
 use Rattle.lfs_fs.proofs.Written.{written_log}
 use Rattle.lfs_fs.proofs.CallSteps.{pwrite_ends}
 
-module _ {D : Type 0} (state : D → DeviceState) (lawful : (d : D) → IsLawful (state d)) (old mid ready : Fs D) (h n : ℕ) (opens : find nat_cmp h (handles_of old.handles.numbers.items) ≡ Some n)
+module _ {D : Type 0} (state : D → DeviceState) (lawful : (d : D) → IsLawful (state d)) (old mid ready : Fs D) (h n : ℕ)
+    (opens : find nat_cmp h (handles_of old.handles.numbers.items) ≡ Some n)
     (was : old.store.log.halted ≡ false) (empty : IsNoChange old.store.draft.changes) (even : old.store.drafted ≡ old.store.log.totals)
-    (only : OnlyReads state old mid) (head : Header) (has : HasHeader state old mid n head) (drafts : IsStill state (seen mid) (seen ready)) where
+    (only : OnlyReads state old mid) (head : Header) (has : HasHeader state old mid n head)
+    (drafts : IsStill state (seen mid) (seen ready)) where
   abbrev c : Changes
   c = ready.store.draft.changes
 
@@ -63,7 +65,8 @@ module _ {D : Type 0} (state : D → DeviceState) (lawful : (d : D) → IsLawful
   same_totals = sym even ∙ sym only.drafted
 
   -- ---- where the device keeps the model to the end, and the volume is in a state
-  module _ (keeps : (state ready.store.log.device).keeps_model) (k : CheckpointValue) (m0 m : LogMap) (s : State) (is : IsIn state (seen old) k m0 m s) where
+  module _ (keeps : (state ready.store.log.device).keeps_model) (k : CheckpointValue) (m0 m : LogMap) (s : State)
+      (is : IsIn state (seen old) k m0 m s) where
     kept : (state mid.store.log.device).keeps_model
     kept = drafts.reads.looks.carries.kept_before keeps
 

@@ -1,5 +1,6 @@
 -- Calls that draft a change, from what they read to what becomes of the draft, as steps of the model.
-use Rattle.std.proofs.Common.{◌≡◌, ◌<◌, ◌≤◌, ◌+◌, ◌/◌, ◌^◌, ℕ, Bool, true, false, length, Some, None, Ok, Err, refl, sym, ◌∙◌, ap, subst, inl, inr, ⊎_elim, arith, List, ◌*◌, ◌&&◌}
+use Rattle.std.proofs.Common.{◌≡◌, ◌<◌, ◌≤◌, ◌+◌, ◌/◌, ◌^◌, ℕ, Bool, true, false, length, Some, None, Ok, Err, refl, sym, ◌∙◌, ap, subst}
+use Rattle.std.proofs.Common.{inl, inr, ⊎_elim, arith, List, ◌*◌, ◌&&◌}
 use Rattle.std.specs.Prelude.{IsTrue, Result, OnOk, IfErr}
 use Rattle.std.specs.Ordering.{nat_cmp}
 use Rattle.std.specs.FinMap.{find}
@@ -26,7 +27,8 @@ use Rattle.lfs_store.specs.declared.store.Store.{Store}
 use Rattle.lfs_store.specs.log.verify.declared.totals.BlockTotals.{BlockTotals}
 use Rattle.lfs_model.specs.declared.Order.{Order}
 use Rattle.lfs_store.specs.log.Saving.{commit_orders}
-use Rattle.lfs_store.specs.Accepting.{Accepts, CannotMakeRoom, Declines, HasClean, IsAcceptFault, LeavesEither, SavesFew, Stores, most_written}
+use Rattle.lfs_store.specs.Accepting.{Accepts, CannotMakeRoom, Declines, HasClean, IsAcceptFault, LeavesEither, SavesFew, Stores}
+use Rattle.lfs_store.specs.Accepting.{most_written}
 use Rattle.lfs_store.proofs.Apart.{draft_empty}
 use Rattle.lfs_store.proofs.LogReads.{fault_more, held_still, reads_more, reads_none, stores_still}
 use Rattle.lfs_fs.specs.declared.error.FsError.{FsError}
@@ -39,7 +41,8 @@ use Rattle.lfs_fs.specs.Handles.{handles_of}
 use Rattle.lfs_fs.specs.Refusals.{refusal_of}
 use Rattle.lfs_fs.specs.Seen.{LacksHeader, answer_by, seen, OnlyReads}
 use Rattle.lfs_fs.specs.Volume.{Behaves, CommitsFew, IsIn, IsStill, Mounted, Serves, TellsAtMost, segments_of}
-use Rattle.lfs_fs.proofs.Behaving.{IsBounded, IsOrdinary, change_bounded, change_writes, commits_none, not_both, not_halted, ok_refuses_none, still_behaves, write_behaves}
+use Rattle.lfs_fs.proofs.Behaving.{IsBounded, IsOrdinary, change_bounded, change_writes, commits_none, not_both, not_halted}
+use Rattle.lfs_fs.proofs.Behaving.{ok_refuses_none, still_behaves, write_behaves}
 use Rattle.lfs_fs.proofs.Declined.{accept_fault_serves, no_room_serves}
 use Rattle.lfs_fs.proofs.Ending.{InEach, IsRest, not_acknowledged, accepts_by}
 use Rattle.lfs_fs.proofs.Files.{IsFileOf, opened_file, IsMapOf}
@@ -54,21 +57,26 @@ use Rattle.lfs_fs.proofs.CallSteps.{not_worn, refused_not_worn, worn}
 use Rattle.lfs_store.specs.Recounting.{AreTotals}
 
 -- why a draft isn't staged, by the fault of the store
-pub turned_down : {D : Type 0} (state : D → DeviceState) (old new : Fs D) (fault : StoreFault) (e : FsError) → e ≡ error_of_store fault → old.store.log.halted ≡ false → old.store.log.number < 2 ^ 62 → new.store.log.totals ≡ old.store.log.totals
+pub turned_down : {D : Type 0} (state : D → DeviceState) (old new : Fs D) (fault : StoreFault) (e : FsError) → e ≡ error_of_store fault
+    → old.store.log.halted ≡ false → old.store.log.number < 2 ^ 62 → new.store.log.totals ≡ old.store.log.totals
     → TellsFew state old.store.log new.store.log
     → (fault ≡ store.Log log.Full → Declines state old.store.log old.store.saved new.store.log new.store.saved old.store.draft.changes)
     → (fault ≡ store.Log log.Full → CannotMakeRoom state old.store.log old.store.saved new.store.log)
     → (fault ≡ store.NoMemory → Declines state old.store.log old.store.saved new.store.log new.store.saved old.store.draft.changes)
     → (fault ≡ store.Log log.Device → Declines state old.store.log old.store.saved new.store.log new.store.saved old.store.draft.changes)
     → (fault ≡ store.Log log.Device → IsAcceptFault state old.store.log old.store.saved new.store.log old.store.draft.changes)
-    → (fault ≡ store.Log log.Halted → (old.store.log.halted ≡ true → ⊥) → HaltsLater state old.store.log new.store.log (most_written old.store.log old.store.saved)) → TurnsDown state old new e
+    → (fault ≡ store.Log log.Halted → (old.store.log.halted ≡ true → ⊥)
+    → HaltsLater state old.store.log new.store.log (most_written old.store.log old.store.saved)) → TurnsDown state old new e
 turned_down state old new store.NoMemory e is was young totals tells full lacks memory device failed halted =
     subst (TurnsDown state old new) (sym is) record { declines = memory refl; totals = totals; young = young; tells = tells }
 turned_down state old new (store.Log log.Full) e is was young totals tells full lacks memory device failed halted =
-    subst (TurnsDown state old new) (sym is) (record { declines = full refl; totals = totals; young = young; tells = tells }, inr (lacks refl))
+    subst (TurnsDown state old new) (sym is)
+    (record { declines = full refl; totals = totals; young = young; tells = tells }, inr (lacks refl))
 turned_down state old new (store.Log log.Device) e is was young totals tells full lacks memory device failed halted =
-    subst (TurnsDown state old new) (sym is) (record { declines = device refl; totals = totals; young = young; tells = tells }, inl (failed refl))
-turned_down state old new (store.Log log.Halted) e is was young totals tells full lacks memory device failed halted = subst (TurnsDown state old new) (sym is) (halted refl (λ no. cc), tells)
+    subst (TurnsDown state old new) (sym is)
+    (record { declines = device refl; totals = totals; young = young; tells = tells }, inl (failed refl))
+turned_down state old new (store.Log log.Halted) e is was young totals tells full lacks memory device failed halted =
+    subst (TurnsDown state old new) (sym is) (halted refl (λ no. cc), tells)
 
 module _ {D : Type 0} (state : D → DeviceState) (lawful : (d : D) → IsLawful (state d)) where
   -- ---- reads come before the draft is staged
@@ -77,9 +85,11 @@ module _ {D : Type 0} (state : D → DeviceState) (lawful : (d : D) → IsLawful
     same_segments : length b.memory.usage.segments ≡ length a.memory.usage.segments
     same_segments = ap (λ (v : LogMemory). length v.usage.segments) reads.memory
 
-    quiet_reads : (k : CheckpointValue) (m0 m : LogMap) → Holds state a k m0 m → LeavesOnly (state a.device) (state b.device) (StandsForOn k.segments m0 (dropped m))
+    quiet_reads : (k : CheckpointValue) (m0 m : LogMap) → Holds state a k m0 m
+        → LeavesOnly (state a.device) (state b.device) (StandsForOn k.segments m0 (dropped m))
     quiet_reads k m0 m is =
-        goes_on (state a.device) (state a.device) (state b.device) (StandsForOn k.segments m0 (dropped m)) (started (state a.device) (StandsForOn k.segments m0 (dropped m)) (lawful a.device) here)
+        goes_on (state a.device) (state a.device) (state b.device) (StandsForOn k.segments m0 (dropped m))
+        (started (state a.device) (StandsForOn k.segments m0 (dropped m)) (lawful a.device) here)
         reads.looks.carries reads.looks.time (λ c left. here c (reads.looks.untouched.crash c left))
       where
         here : AllLeft (state a.device) (StandsForOn k.segments m0 (dropped m))
@@ -95,8 +105,10 @@ module _ {D : Type 0} (state : D → DeviceState) (lawful : (d : D) → IsLawful
       -- what is told after the reads is told after what was before them
       pub tells_after : TellsFew state b h → TellsFew state a h
       tells_after tells = record {
-        room = told_before (room_orders (length a.memory.usage.segments)) (subst (λ (n : ℕ). TellsAtMost state b h (room_orders n)) same_segments tells.room);
-        one_commit = λ clean. told_before commit_orders (tells.one_commit (subst (λ (v : LogMemory). length v.usage.segments / 8 + 16 ≤ clean_in v.usage.segments) (sym reads.memory) clean));
+        room = told_before (room_orders (length a.memory.usage.segments))
+            (subst (λ (n : ℕ). TellsAtMost state b h (room_orders n)) same_segments tells.room);
+        one_commit = λ clean. told_before commit_orders (tells.one_commit
+            (subst (λ (v : LogMemory). length v.usage.segments / 8 + 16 ≤ clean_in v.usage.segments) (sym reads.memory) clean));
       }
         where
           told_before : (most : ℕ) → TellsAtMost state b h most → TellsAtMost state a h most
@@ -104,7 +116,8 @@ module _ {D : Type 0} (state : D → DeviceState) (lawful : (d : D) → IsLawful
 
       leaves_after : (saved : Bool) → LeavesEither state b saved h → LeavesEither state a saved h
       leaves_after saved leaves k m0 m keeps stores log =
-          joined (state a.device) (state b.device) (state h.device) (StandsForOn k.segments m0 (dropped m)) (StandsForOn k.segments m0 (dropped m)) (StandsForOn k.segments m0 (dropped m))
+          joined (state a.device) (state b.device) (state h.device) (StandsForOn k.segments m0 (dropped m))
+          (StandsForOn k.segments m0 (dropped m)) (StandsForOn k.segments m0 (dropped m))
           (quiet_reads k m0 m stores.holds) (leaves k m0 m keeps (stores_read saved k m0 m stores) log) (λ c x. x) (λ c x. x)
 
       saves_after : (saved saved' : Bool) → SavesFew b saved h saved' → SavesFew a saved h saved'
@@ -154,7 +167,8 @@ module _ {D : Type 0} (state : D → DeviceState) (lawful : (d : D) → IsLawful
             omega (arith, rose, before));
         left = λ k m0 m keeps is log. halts.left k m0 m keeps (held_still state a b k m0 m reads is) log;
         moment = λ k m0 m keeps is log.
-            joined (state a.device) (state b.device) (state h.device) (StandsForOn k.segments m0 (dropped m)) (StandsForOn k.segments m0 (dropped m)) (StandsForOn k.segments m0 (dropped m))
+            joined (state a.device) (state b.device) (state h.device) (StandsForOn k.segments m0 (dropped m))
+            (StandsForOn k.segments m0 (dropped m)) (StandsForOn k.segments m0 (dropped m))
             (quiet_reads k m0 m is) (halts.moment k m0 m keeps (held_still state a b k m0 m reads is) log) (λ c x. x) (λ c x. x);
       }
 
@@ -176,8 +190,10 @@ module _ {D : Type 0} (state : D → DeviceState) (lawful : (d : D) → IsLawful
 
   module _ (old new : Mounted D) (call : Call) (was : old.log.halted ≡ false) where
     -- what a call does may rest on the state that the volume is in, and on a device that keeps the model to the end
-    pub when_in : (a : Answer) → Carries (state old.log.device) (state new.log.device) → segments_of new ≡ segments_of old → (a ≡ Refuse refusal.Halted → ⊥) → Behaves state old new call a
-        → ((state new.log.device).keeps_model → (k : CheckpointValue) (m0 m : LogMap) (s : State) → IsIn state old k m0 m s → Serves state old new call a) → Serves state old new call a
+    pub when_in : (a : Answer) → Carries (state old.log.device) (state new.log.device) → segments_of new ≡ segments_of old
+        → (a ≡ Refuse refusal.Halted → ⊥) → Behaves state old new call a
+        → ((state new.log.device).keeps_model → (k : CheckpointValue) (m0 m : LogMap) (s : State) → IsIn state old k m0 m s
+        → Serves state old new call a) → Serves state old new call a
     when_in a carries segments fine behaves each = record {
       carries = carries;
       segments = λ e. segments;
@@ -188,7 +204,8 @@ module _ {D : Type 0} (state : D → DeviceState) (lawful : (d : D) → IsLawful
     }
 
     -- a commit failed, or a pass
-    pub halts_serves : IsTrue (may_write call) → new.table ≡ old.table → (most : ℕ) → most ≤ segments_of old / 8 + 1 → (CommitsFew old new → IsBounded state old new call) → HaltsLater state old.log new.log most
+    pub halts_serves : IsTrue (may_write call) → new.table ≡ old.table → (most : ℕ) → most ≤ segments_of old / 8 + 1
+        → (CommitsFew old new → IsBounded state old new call) → HaltsLater state old.log new.log most
         → Serves state old new call (Refuse refusal.Halted)
     halts_serves may table most low bounded halts = record {
       carries = halts.carries;
@@ -198,14 +215,18 @@ module _ {D : Type 0} (state : D → DeviceState) (lawful : (d : D) → IsLawful
       behaves = behaves;
       model = λ p keeps at. (
           let r = at.running was in
-          halts_at state old new keeps (lawful old.log.device) (lawful new.log.device) halts.carries r.checkpoint r.saved r.present p.state r.is call p at refl was halts.halted
+          halts_at state old new keeps (lawful old.log.device) (lawful new.log.device) halts.carries r.checkpoint r.saved r.present p.state
+          r.is call p at refl was halts.halted
           halts.later behaves
-          (halts.cause r.checkpoint r.saved r.present keeps r.is.stores.holds (map_dropped state old new keeps (lawful old.log.device) (lawful new.log.device) halts.carries r.checkpoint r.saved r.present p.state r.is))
-          (halts.moment r.checkpoint r.saved r.present keeps r.is.stores.holds (map_dropped state old new keeps (lawful old.log.device) (lawful new.log.device) halts.carries r.checkpoint r.saved r.present p.state r.is)));
+          (halts.cause r.checkpoint r.saved r.present keeps r.is.stores.holds (map_dropped state old new keeps (lawful old.log.device)
+          (lawful new.log.device) halts.carries r.checkpoint r.saved r.present p.state r.is))
+          (halts.moment r.checkpoint r.saved r.present keeps r.is.stores.holds (map_dropped state old new keeps (lawful old.log.device)
+          (lawful new.log.device) halts.carries r.checkpoint r.saved r.present p.state r.is)));
     }
       where
         behaves : Behaves state old new call (Refuse refusal.Halted)
-        behaves = write_behaves state old new call (Refuse refusal.Halted) may table (λ e. absurd (cc)) (λ takes e. absurd (cc)) (bounded (let few = halts.number in omega (arith, few, low)))
+        behaves = write_behaves state old new call (Refuse refusal.Halted) may table (λ e. absurd (cc)) (λ takes e. absurd (cc))
+            (bounded (let few = halts.number in omega (arith, few, low)))
 
     -- ---- calls of an open file
     module _ (h n : ℕ) (opens : find nat_cmp h (handles_of old.table) ≡ Some n) where
@@ -224,16 +245,21 @@ module _ {D : Type 0} (state : D → DeviceState) (lawful : (d : D) → IsLawful
       subst (λ (t : BlockTotals). AreTotals m t) (sym (only.drafted ∙ drafted)) before
 
   -- no draft is made: memory was refused, or a call of the device failed
-  pub undrafted_serves : (old new : Mounted D) (call : Call) → old.log.halted ≡ false → IsStill state old new → never_for_device call ≡ false → takes_no_memory call ≡ false
-      → (fault : StoreFault) → ((fault ≡ store.NoMemory → ⊥) → IsReadFault state old.log new.log) → (fault ≡ store.Log log.Halted → old.log.halted ≡ true) → (fault ≡ store.Log log.Full → ⊥)
+  pub undrafted_serves : (old new : Mounted D) (call : Call) → old.log.halted ≡ false → IsStill state old new
+      → never_for_device call ≡ false → takes_no_memory call ≡ false
+      → (fault : StoreFault) → ((fault ≡ store.NoMemory → ⊥) → IsReadFault state old.log new.log)
+      → (fault ≡ store.Log log.Halted → old.log.halted ≡ true) → (fault ≡ store.Log log.Full → ⊥)
       → Serves state old new call (Refuse (refusal_of (error_of_store fault)))
-  undrafted_serves old new call was still free takes store.NoMemory failed halted other = memory_serves state old new call (lawful old.log.device) still was takes
-  undrafted_serves old new call was still free takes (store.Log log.Device) failed halted other = fault_serves state old new call (lawful old.log.device) still was free (failed (λ e. cc))
+  undrafted_serves old new call was still free takes store.NoMemory failed halted other =
+      memory_serves state old new call (lawful old.log.device) still was takes
+  undrafted_serves old new call was still free takes (store.Log log.Device) failed halted other =
+      fault_serves state old new call (lawful old.log.device) still was free (failed (λ e. cc))
   undrafted_serves old new call was still free takes (store.Log log.Halted) failed halted other = absurd (let on = halted refl in cc)
   undrafted_serves old new call was still free takes (store.Log log.Full) failed halted other = absurd (other refl)
 
   -- and the draft is given up
-  module _ (old mid : Fs D) (tried gone : Store D) (call : Call) (was : old.store.log.halted ≡ false) (still : IsStill state (seen old) (seen mid)) (reads : Reads state mid.store.log tried.log)
+  module _ (old mid : Fs D) (tried gone : Store D) (call : Call) (was : old.store.log.halted ≡ false)
+      (still : IsStill state (seen old) (seen mid)) (reads : Reads state mid.store.log tried.log)
       (saved : tried.saved ≡ mid.store.saved) (same_log : gone.log ≡ tried.log) (same_saved : gone.saved ≡ tried.saved) where
     still_gone : IsStill state (seen mid) (seen record { alloc = mid.alloc; store = gone; handles = mid.handles })
     still_gone = record {
@@ -244,23 +270,31 @@ module _ {D : Type 0} (state : D → DeviceState) (lawful : (d : D) → IsLawful
       table = refl;
     }
 
-    pub given_up_serves : never_for_device call ≡ false → takes_no_memory call ≡ false → (fault : StoreFault) → ((fault ≡ store.NoMemory → ⊥) → IsReadFault state mid.store.log tried.log)
-        → (fault ≡ store.Log log.Halted → mid.store.log.halted ≡ true) → (fault ≡ store.Log log.Full → ⊥) → (e : FsError) → e ≡ error_of_store fault
+    pub given_up_serves : never_for_device call ≡ false → takes_no_memory call ≡ false → (fault : StoreFault)
+        → ((fault ≡ store.NoMemory → ⊥) → IsReadFault state mid.store.log tried.log)
+        → (fault ≡ store.Log log.Halted → mid.store.log.halted ≡ true) → (fault ≡ store.Log log.Full → ⊥) → (e : FsError)
+        → e ≡ error_of_store fault
         → Serves state (seen old) (seen record { alloc = mid.alloc; store = gone; handles = mid.handles }) call (Refuse (refusal_of e))
     given_up_serves free takes fault failed halted other e is =
-        subst (λ (x : FsError). Serves state (seen old) (seen record { alloc = mid.alloc; store = gone; handles = mid.handles }) call (Refuse (refusal_of x))) (sym is)
+        subst (λ (x : FsError). Serves state (seen old) (seen record { alloc = mid.alloc; store = gone; handles = mid.handles }) call
+        (Refuse (refusal_of x))) (sym is)
         (undrafted_serves (seen old) (seen record { alloc = mid.alloc; store = gone; handles = mid.handles }) call was
-        (still_more (seen old) (seen mid) (seen record { alloc = mid.alloc; store = gone; handles = mid.handles }) still still_gone) free takes fault
-        (λ device. subst (λ (x : Held D). IsReadFault state old.store.log x) (sym same_log) (fault_more state old.store.log mid.store.log tried.log still.reads (failed device)))
+        (still_more (seen old) (seen mid) (seen record { alloc = mid.alloc; store = gone; handles = mid.handles }) still still_gone) free
+        takes fault
+        (λ device. subst (λ (x : Held D). IsReadFault state old.store.log x) (sym same_log)
+        (fault_more state old.store.log mid.store.log tried.log still.reads (failed device)))
         (λ on. sym still.reads.halted ∙ halted on) other)
 
   -- an open file has a header, unless a call of the device failed
-  pub headerless_serves : (old mid : Fs D) (call : Call) (h n : ℕ) → find nat_cmp h (handles_of old.handles.numbers.items) ≡ Some n → old.store.log.halted ≡ false → IsNoChange old.store.draft.changes
-      → IsStill state (seen old) (seen mid) → never_for_device call ≡ false → (fault : FsError) → LacksHeader state old mid n fault → Serves state (seen old) (seen mid) call (Refuse (refusal_of fault))
+  pub headerless_serves : (old mid : Fs D) (call : Call) (h n : ℕ) → find nat_cmp h (handles_of old.handles.numbers.items) ≡ Some n
+      → old.store.log.halted ≡ false → IsNoChange old.store.draft.changes
+      → IsStill state (seen old) (seen mid) → never_for_device call ≡ false → (fault : FsError) → LacksHeader state old mid n fault
+      → Serves state (seen old) (seen mid) call (Refuse (refusal_of fault))
   headerless_serves old mid call h n opens was empty still free fault lacks = ⊎_elim
       (λ halted. absurd (let is = halted.1 in cc))
       (λ failed. subst (λ (e : FsError). Serves state (seen old) (seen mid) call (Refuse (refusal_of e))) (sym failed.0)
-      (served_still state (seen old) (seen mid) call (Refuse refusal.Device) (lawful old.store.log.device) still was tt (λ p keeps here k m0 m is. (
+      (served_still state (seen old) (seen mid) call (Refuse refusal.Device) (lawful old.store.log.device) still was tt
+      (λ p keeps here k m0 m is. (
       let file = opened_in (seen old) (seen mid) call was h n opens k m0 m p.state is in
       inr (
         refusal.Device,
@@ -268,9 +302,11 @@ module _ {D : Type 0} (state : D → DeviceState) (lawful : (d : D) → IsLawful
         (
           free,
           ⊎_elim
-              (λ (rose : (state old.store.log.device).failures < (state mid.store.log.device).failures). (let f = here.failures in omega (arith, f, rose)))
+              (λ (rose : (state old.store.log.device).failures < (state mid.store.log.device).failures).
+              (let f = here.failures in omega (arith, f, rose)))
               (λ none. absurd (
-              let both : None ≡ Some file.head = sym none ∙ ap (λ (x : LogMap). x.header n) (draft_empty old.store.draft.changes m empty).0 ∙ file.there in cc))
+              let both : None ≡ Some file.head = sym none ∙ ap (λ (x : LogMap). x.header n) (draft_empty old.store.draft.changes m empty).0
+              ∙ file.there in cc))
               (failed.1 k m0 m keeps is.stores.holds),
         ),
         refl,
@@ -280,7 +316,8 @@ module _ {D : Type 0} (state : D → DeviceState) (lawful : (d : D) → IsLawful
 
   -- ---- what becomes of a draft
 
-  module _ (v : Mounted D) (ready new : Fs D) (call : Call) (a : Answer) (still : IsStill state v (seen ready)) (was : v.log.halted ≡ false) (rest : new.handles ≡ ready.handles) where
+  module _ (v : Mounted D) (ready new : Fs D) (call : Call) (a : Answer) (still : IsStill state v (seen ready)) (was : v.log.halted ≡ false)
+      (rest : new.handles ≡ ready.handles) where
     abbrev c : Changes
     c = ready.store.draft.changes
 
@@ -325,40 +362,50 @@ module _ {D : Type 0} (state : D → DeviceState) (lawful : (d : D) → IsLawful
     module _ (change : changes call ≡ true) (free : never_for_device call ≡ false) (takes : takes_no_memory call ≡ false)
         (fits : Kept → (k : CheckpointValue) (m0 m : LogMap) (s : State) → IsIn state v k m0 m s → InEach state v (λ m s. FitsBatch m c))
         (lacks_ends : IsStill state v (seen new) → limit_of ready < need_of ready → InState (Refuse refusal.NoSpace))
-        (worn_ends : IsStill state v (seen new) → 2 ^ 62 ≤ v.log.number → need_of ready ≤ limit_of ready → InState (Refuse refusal.Worn)) where
+        (worn_ends : IsStill state v (seen new) → 2 ^ 62 ≤ v.log.number → need_of ready ≤ limit_of ready
+        → InState (Refuse refusal.Worn)) where
       -- nothing has changed
       same_by : (x : Answer) → IsOrdinary x → seen new ≡ seen ready → InState x → Serves state v (seen new) call x
-      same_by x ordinary same each = when_in v (seen new) call was x (still_new same).reads.looks.carries (ap (λ (v : LogMemory). length v.usage.segments) (still_new same).reads.memory)
+      same_by x ordinary same each = when_in v (seen new) call was x (still_new same).reads.looks.carries
+          (ap (λ (v : LogMemory). length v.usage.segments) (still_new same).reads.memory)
           (not_halted x ordinary) (still_behaves state v (seen new) call x (still_new same) ordinary)
           (λ keeps. each (subst (λ (x : Mounted D). (state x.log.device).keeps_model) same keeps))
 
       few_written : most_written ready.store.log ready.store.saved ≤ segments_of v / 8 + 1
       few_written =
-          subst (λ (n : ℕ). most_written ready.store.log ready.store.saved ≤ n / 8 + 1) (ap (λ (x : LogMemory). length x.usage.segments) still.reads.memory)
+          subst (λ (n : ℕ). most_written ready.store.log ready.store.saved ≤ n / 8 + 1)
+          (ap (λ (x : LogMemory). length x.usage.segments) still.reads.memory)
           (written_most D ready.store.log ready.store.saved)
 
       declined_bounded : (done : IsDeclined state ready new) → IsBounded state v (seen new) call
       declined_bounded done = change_bounded state v (seen new) call change (declines_old done).saves.few (tells_old done.tells)
 
-      declined_by : (x : Answer) → (x ≡ Refuse refusal.Halted → ⊥) → (x ≡ Refuse refusal.Stuck → ⊥) → (done : IsDeclined state ready new) → ((state new.store.log.device).keeps_model → InState x) → Serves state v (seen new) call x
+      declined_by : (x : Answer) → (x ≡ Refuse refusal.Halted → ⊥) → (x ≡ Refuse refusal.Stuck → ⊥) → (done : IsDeclined state ready new)
+          → ((state new.store.log.device).keeps_model → InState x) → Serves state v (seen new) call x
       declined_by x other none done each = when_in v (seen new) call was x (declines_old done).carries (declines_old done).segments other
-          (write_behaves state v (seen new) call x (change_writes call change) table_same none (λ never e. absurd (not_both (takes_no_memory call) never takes)) (declined_bounded done)) (λ keeps. each keeps (done.declines.carries.kept_before keeps))
+          (write_behaves state v (seen new) call x (change_writes call change) table_same none (λ never e. absurd (not_both
+          (takes_no_memory call) never takes)) (declined_bounded done)) (λ keeps. each keeps (done.declines.carries.kept_before keeps))
 
       pub by_fault : (e : FsError) → TurnsDown state ready new e → Serves state v (seen new) call (Refuse (refusal_of e))
       by_fault error.NoSpace down = same_by (Refuse refusal.NoSpace) tt down.0 (lacks_ends (still_new down.0) down.1)
-      by_fault error.Worn down = same_by (Refuse refusal.Worn) tt down.0 (worn_ends (still_new down.0) (let same = still.reads.number in let high = down.1 in omega (arith, same, high)) down.2)
+      by_fault error.Worn down = same_by (Refuse refusal.Worn) tt down.0
+          (worn_ends (still_new down.0) (let same = still.reads.number in let high = down.1 in omega (arith, same, high)) down.2)
       by_fault error.NoMemory down = declined_by (Refuse refusal.NoMemory) (λ e. cc) (λ e. cc) down (λ after keeps k m0 m s is.
-          no_room_serves state v (seen new) call (lawful v.log.device) (lawful new.store.log.device) was (declines_old down).saves.number c (rest_old down) (declines_old down) (low_old down.young)
+          no_room_serves state v (seen new) call (lawful v.log.device) (lawful new.store.log.device) was (declines_old down).saves.number c
+          (rest_old down) (declines_old down) (low_old down.young)
           (fits keeps k m0 m s is) (declined_bounded down) change takes)
       by_fault error.Device down = declined_by (Refuse refusal.Device) (λ e. cc) (λ e. cc) down.0 (λ after keeps k m0 m s is. ⊎_elim
           (λ (failed : IsAcceptFault state ready.store.log ready.store.saved new.store.log c).
-          accept_fault_serves state v (seen new) call (lawful v.log.device) (lawful new.store.log.device) was (declines_old down.0).saves.number c (rest_old down.0) (declines_old down.0) (low_old down.0.young)
+          accept_fault_serves state v (seen new) call (lawful v.log.device) (lawful new.store.log.device) was
+          (declines_old down.0).saves.number c (rest_old down.0) (declines_old down.0) (low_old down.0.young)
           (fits keeps k m0 m s is) (declined_bounded down.0) change free (fault_old failed))
           (λ (cannot : CannotMakeRoom state ready.store.log ready.store.saved new.store.log).
-          absurd (cannot k m0 m after (has_room state (seen ready) (lawful ready.store.log.device) refl refl down.0.young k m0 m s (still_in state v (seen ready) k m0 m s still is))))
+          absurd (cannot k m0 m after (has_room state (seen ready) (lawful ready.store.log.device) refl refl down.0.young k m0 m s
+          (still_in state v (seen ready) k m0 m s still is))))
           down.1)
       by_fault error.Halted down =
-          halts_serves v (seen new) call was (change_writes call change) table_same _ few_written (λ few. change_bounded state v (seen new) call change few (tells_old down.1))
+          halts_serves v (seen new) call was (change_writes call change) table_same _ few_written
+          (λ few. change_bounded state v (seen new) call change few (tells_old down.1))
           (halts_after v.log ready.store.log still.reads new.store.log (most_written ready.store.log ready.store.saved) down.0)
       by_fault fault down = absurd down
 

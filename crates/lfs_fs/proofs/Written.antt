@@ -27,7 +27,8 @@ use Rattle.lfs_fs.proofs.Files.{IsMapOf, IsFileOf, IsShaped, need_shaped, opened
 use Rattle.lfs_fs.proofs.Changed.{changed_map, not_directory, shape_kept}
 use Rattle.lfs_fs.proofs.HandleSteps.{file_is, written}
 
-module _ (N : ℕ) (m m' : LogMap) (s : State) (h n : ℕ) (is : IsMapOf N m s) (opens : find nat_cmp h s.handles ≡ Some n) (head : Header) (there : m.header n ≡ Some (as_header head)) where
+module _ (N : ℕ) (m m' : LogMap) (s : State) (h n : ℕ) (is : IsMapOf N m s) (opens : find nat_cmp h s.handles ≡ Some n) (head : Header)
+    (there : m.header n ≡ Some (as_header head)) where
   was : IsFileOf m s.tree n
   was = opened_file N m s is.log h n opens
 
@@ -47,7 +48,8 @@ module _ (N : ℕ) (m m' : LogMap) (s : State) (h n : ℕ) (is : IsMapOf N m s) 
 
     tree_after : tree_in m' ≡ with_node s.tree n (File after)
     tree_after =
-        file_written m m' n (as_header head) head' is.map writes.only was.number.0 was.number.1 there writes.header is_file is_file at w writes.bytes
+        file_written m m' n (as_header head) head' is.map writes.only was.number.0 was.number.1 there writes.header is_file is_file at w
+        writes.bytes
         ∙ ap (λ (t : Tree). with_node t n (File (put (file_bytes (the_node t n)) at w))) (sym is.log.is)
         ∙ ap (λ (x : Node). with_node s.tree n (File (put (file_bytes x) at w))) was.bytes
 
@@ -62,7 +64,8 @@ module _ (N : ℕ) (m m' : LogMap) (s : State) (h n : ℕ) (is : IsMapOf N m s) 
 
     module _ (end : at + length w ≤ 8511488) where
       old_fits : IsObject m n (as_header head)
-      old_fits = object_fits m n (as_header head) is.map (is.long n) there (subst (λ (x : entry.Header). x.size ≤ 8511488) head_is was.small)
+      old_fits =
+          object_fits m n (as_header head) is.map (is.long n) there (subst (λ (x : entry.Header). x.size ≤ 8511488) head_is was.small)
 
       fits : IsObject m' n head'
       fits = record {
@@ -79,11 +82,14 @@ module _ (N : ℕ) (m m' : LogMap) (s : State) (h n : ℕ) (is : IsMapOf N m s) 
       written_log = object_kept m m' n head' is.map writes.only writes.header fits
 
       pub written_shape : IsShaped m → IsShaped m'
-      written_shape shaped = shape_kept m m' n writes.only shaped written_log fits.whole.long (λ g here dir. absurd (not_directory m' n head' writes.header is_file g here dir))
+      written_shape shaped = shape_kept m m' n writes.only shaped written_log fits.whole.long
+          (λ g here dir. absurd (not_directory m' n head' writes.header is_file g here dir))
 
       -- and what its tree needs
-      pub written_need : TotalsOfTree → IsShaped m → (blocks others : ℕ) → IsCounted m' blocks others → need (written N s h at w) ≡ blocks + 7 * others + 720
-      written_need totals shaped blocks others counted = ap need (sym written_tree) ∙ (need_shaped totals m' (written_shape shaped) blocks others counted).0
+      pub written_need : TotalsOfTree → IsShaped m → (blocks others : ℕ) → IsCounted m' blocks others
+          → need (written N s h at w) ≡ blocks + 7 * others + 720
+      written_need totals shaped blocks others counted = ap need (sym written_tree)
+          ∙ (need_shaped totals m' (written_shape shaped) blocks others counted).0
 
       module _ (bytes : AreBytes w) (room : need (written N s h at w) ≤ 47 * N) where
         good : IsWithinLimits (File after)
@@ -94,5 +100,6 @@ module _ (N : ℕ) (m m' : LogMap) (s : State) (h n : ℕ) (is : IsMapOf N m s) 
         -- the volume's log map after the call
         pub written_map : IsMapOf N m' (with_tree s (written N s h at w))
         written_map = subst (λ (t : Tree). IsMapOf N m' (with_tree s t)) (sym written_is)
-            (changed_map N m m' s is n was head' writes.only writes.header is_file (sym (ap (λ (x : entry.Header). x.links) head_is)) fits after tree_after good
+            (changed_map N m m' s is n was head' writes.only writes.header is_file (sym (ap (λ (x : entry.Header). x.links) head_is)) fits
+            after tree_after good
             (subst (λ (t : Tree). need t ≤ 47 * N) written_is room))

@@ -13,7 +13,12 @@ abbrev pub room_of : Space → Answer
 room_of s = Room s.data_blocks s.meta_blocks s.need s.limit
 
 abbrev pub row_of : TreeRow → call.TreeRow
-row_of r = record { directory = r.directory; name = r.name.items; stat = record { number = r.number; kind = r.kind; links = r.links; size = r.size }; head = r.head.items }
+row_of r = record {
+  directory = r.directory;
+  name = r.name.items;
+  stat = record { number = r.number; kind = r.kind; links = r.links; size = r.size };
+  head = r.head.items;
+}
 
 abbrev pub entry_of : Entry → call.DirectoryEntry
 entry_of e = record { name = e.name.items; number = e.number; kind = e.kind }

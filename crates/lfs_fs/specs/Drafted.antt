@@ -41,7 +41,8 @@ module _ {D : Type 0} (state : D → DeviceState) where
 
   -- a call of the device failed, where d is a directory
   abbrev pub IsDirectoryFault : Held D → Held D → Changes → ℕ → Header → Type 0
-  IsDirectoryFault h h' c d head = EachDrafted h h' c (λ m. IsDirectory m d (as_header head) → (state h.device).failures < (state h'.device).failures)
+  IsDirectoryFault h h' c d head =
+      EachDrafted h h' c (λ m. IsDirectory m d (as_header head) → (state h.device).failures < (state h'.device).failures)
 
   -- the names of directory d
   abbrev pub Lists : Held D → Held D → Changes → ℕ → Header → List Entry → Type 0
@@ -67,8 +68,10 @@ module _ {D : Type 0} (state : D → DeviceState) where
 
   -- A name is drafted into directory d.
   pub record Adds (h h' : Held D) (c c' : Changes) (d : ℕ) (head : Header) (n : ℕ) (name : List ℕ) : Type 0 where
-    pub fits : (k : CheckpointValue) (m0 m : LogMap) → Holds state h k m0 m → FitsBatch m c → TakesWrite c m d head head.size (slot_for head.form n name) → FitsBatch m c'
+    pub fits : (k : CheckpointValue) (m0 m : LogMap) → Holds state h k m0 m → FitsBatch m c
+        → TakesWrite c m d head head.size (slot_for head.form n name) → FitsBatch m c'
     pub file : (k : CheckpointValue) (m0 m : LogMap) → (state h'.device).keeps_model → Holds state h k m0 m
         → WritesFile (staged c m) (staged c' m) d head (grown head) head.size (slot_for head.form n name)
-    pub more : (k : CheckpointValue) (m0 m : LogMap) → (state h'.device).keeps_model → Holds state h k m0 m → IsDirectory (staged c m) d (as_header head)
+    pub more : (k : CheckpointValue) (m0 m : LogMap) → (state h'.device).keeps_model → Holds state h k m0 m
+        → IsDirectory (staged c m) d (as_header head)
         → find byte_cmp name (names_at (staged c m) d head) ≡ None → AddsName (staged c m) (staged c' m) d head n name

@@ -112,19 +112,24 @@ module _ {D : Type 0} (state : D → DeviceState) where
   -- why it gets none: it is a directory, or all handles are open, or nothing is told of it
   abbrev pub OpensNone : Fs D → Fs D → ℕ → FsError → Type 0
   OpensNone old new n fault = OnlyReads state old new × (((fault ≡ error.IsDir) × IsDirectoryTold old new n)
-      ⊎ (((fault ≡ error.TooManyOpen) × IsNoDirectory old new n × (64 ≤ least_handle (handles_of new.handles.numbers.items))) ⊎ LacksObject state old new n fault))
+      ⊎ (((fault ≡ error.TooManyOpen) × IsNoDirectory old new n × (64 ≤ least_handle (handles_of new.handles.numbers.items)))
+      ⊎ LacksObject state old new n fault))
 
   -- ---- a name is looked up in directory d
 
   -- d has this header, and the name gives that in it
   abbrev pub LooksUp : Fs D → Fs D → ℕ → List ℕ → Header → Option ℕ → Type 0
-  LooksUp old new d name head found = (k : CheckpointValue) (m0 m : LogMap) → (state new.store.log.device).keeps_model → Holds state old.store.log k m0 m
-      → ((staged old.store.draft.changes m).header d ≡ Some (as_header head)) × (found ≡ find byte_cmp name (names_at (staged old.store.draft.changes m) d head))
+  LooksUp old new d name head found = (k : CheckpointValue) (m0 m : LogMap) → (state new.store.log.device).keeps_model
+      → Holds state old.store.log k m0 m
+      → ((staged old.store.draft.changes m).header d ≡ Some (as_header head))
+      × (found ≡ find byte_cmp name (names_at (staged old.store.draft.changes m) d head))
 
   -- where d is a directory, a call of the device failed
   abbrev pub FailsLook : Fs D → Fs D → ℕ → Type 0
-  FailsLook old new d = (k : CheckpointValue) (m0 m : LogMap) → (state new.store.log.device).keeps_model → Holds state old.store.log k m0 m → (staged old.store.draft.changes m).header d ≢ None
-      → ((head : Header) → (staged old.store.draft.changes m).header d ≡ Some (as_header head) → IsDirectory (staged old.store.draft.changes m) d (as_header head))
+  FailsLook old new d = (k : CheckpointValue) (m0 m : LogMap) → (state new.store.log.device).keeps_model → Holds state old.store.log k m0 m
+      → (staged old.store.draft.changes m).header d ≢ None
+      → ((head : Header) → (staged old.store.draft.changes m).header d ≡ Some (as_header head)
+      → IsDirectory (staged old.store.draft.changes m) d (as_header head))
       → (state old.store.log.device).failures < (state new.store.log.device).failures
 
   -- the name is longer than the directory's form allows
@@ -133,7 +138,8 @@ module _ {D : Type 0} (state : D → DeviceState) where
 
   -- why there is no answer: the name is too long, or a commit failed, or a call of the device did
   abbrev pub LooksNone : Fs D → Fs D → ℕ → List ℕ → FsError → Type 0
-  LooksNone old new d name fault = ((fault ≡ error.NameTooLong) × IsTooLong old new d name) ⊎ (((fault ≡ error.Halted) × (old.store.log.halted ≡ true)) ⊎ ((fault ≡ error.Device) × FailsLook old new d))
+  LooksNone old new d name fault = ((fault ≡ error.NameTooLong) × IsTooLong old new d name)
+      ⊎ (((fault ≡ error.Halted) × (old.store.log.halted ≡ true)) ⊎ ((fault ≡ error.Device) × FailsLook old new d))
 
   -- ---- a new entry of directory d
 

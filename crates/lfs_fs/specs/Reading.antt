@@ -69,7 +69,8 @@ module _ {D : Type 0} (state : D → DeviceState) where
     pub head : Header
     pub there : HasHeader state old new n head
     pub bytes : (k : CheckpointValue) (m0 m : LogMap) → (state new.store.log.device).keeps_model → Holds state old.store.log k m0 m
-        → out ≡ part (object (staged old.store.draft.changes m) n (as_header head)) (min off head.size) (min (off + count) head.size - min off head.size)
+        → out ≡ part (object (staged old.store.draft.changes m) n (as_header head)) (min off head.size)
+        (min (off + count) head.size - min off head.size)
 
   -- What is told of it.
   pub record TellsStat (old new : Fs D) (n : ℕ) (s : Stat) : Type 0 where

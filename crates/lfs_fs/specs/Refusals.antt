@@ -1,7 +1,9 @@
 -- The refusal of the model that an error is.
 use Rattle.lfs_fs.specs.declared.error.FsError.{FsError}
 use Rattle.lfs_fs.specs.declared.error.FsError.TheVariants as error
-use Rattle.lfs_model.specs.Refusal.{Refusal, NoEntry, NotDir, IsDir, Exist, NotEmpty, Inval, NameTooLong, Loop, Perm, Busy, BadHandle, TooManyOpen, TooManyLinks, FileTooBig, NoSpace, NoNumber, DirFull, NoMemory, Device, Halted, Stuck, Worn}
+use Rattle.lfs_model.specs.Refusal.{Refusal, NoEntry, NotDir, IsDir, Exist, NotEmpty, Inval, NameTooLong, Loop, Perm, Busy, BadHandle}
+use Rattle.lfs_model.specs.Refusal.{TooManyOpen, TooManyLinks, FileTooBig, NoSpace, NoNumber, DirFull, NoMemory, Device, Halted, Stuck}
+use Rattle.lfs_model.specs.Refusal.{Worn}
 
 abbrev pub refusal_of : FsError → Refusal
 refusal_of error.NoEntry = NoEntry

@@ -1,5 +1,6 @@
 -- What the steps of rename do, each for itself.
-use Rattle.std.specs.Prelude.{◌≡◌, ◌≢◌, ◌⊎◌, ◌≤◌, ◌<◌, ◌+◌, ◌-◌, ◌*◌, ◌==◌, ◌&&◌, ◌||◌, not, ℕ, zero, suc, Bool, true, false, List, length, if◌then◌else◌, Option, Some, None, is_some, is_none}
+use Rattle.std.specs.Prelude.{◌≡◌, ◌≢◌, ◌⊎◌, ◌≤◌, ◌<◌, ◌+◌, ◌-◌, ◌*◌, ◌==◌, ◌&&◌, ◌||◌, not, ℕ, zero, suc, Bool, true, false, List, length}
+use Rattle.std.specs.Prelude.{if◌then◌else◌, Option, Some, None, is_some, is_none}
 use Rattle.std.specs.FinMap.{find}
 use Rattle.lfs_model.specs.declared.Kind.{Kind}
 use Rattle.lfs_model.specs.declared.Kind.TheVariants as kind
@@ -138,7 +139,8 @@ FitsFound None source target = source.directory.value ≢ target.directory.value
 FitsFound (Some o) source target = FitsReplaced source.object.header.kind o.header
 
 abbrev pub RefusesFound : Option Object → Source → Target → FsError → Type 0
-RefusesFound None source target fault = (source.directory.value ≢ target.directory.value) × RefusesRoom source.object.header.kind target.holder fault
+RefusesFound None source target fault = (source.directory.value ≢ target.directory.value)
+    × RefusesRoom source.object.header.kind target.holder fault
 RefusesFound (Some o) source target fault = RefusesReplaced source.object.header.kind o.header fault
 
 abbrev pub FitsTarget : Source → Target → Type 0
@@ -160,11 +162,13 @@ GivesName (Some o) n = o.number.value == n
 
 -- the first directory has a directory less: one goes to another directory, or takes the place of one
 abbrev pub loses_directory : Source → Target → Bool
-loses_directory source target = is_directory source.object.header.kind && (not (source.directory.value == target.directory.value) || is_some target.replaced)
+loses_directory source target =
+    is_directory source.object.header.kind && (not (source.directory.value == target.directory.value) || is_some target.replaced)
 
 -- the second has one more
 abbrev pub gains_directory : Source → Target → Bool
-gains_directory source target = is_directory source.object.header.kind && (not (source.directory.value == target.directory.value) && is_none target.replaced)
+gains_directory source target =
+    is_directory source.object.header.kind && (not (source.directory.value == target.directory.value) && is_none target.replaced)
 
 -- the links of both
 abbrev pub fewer_links : Source → Target → ℕ
@@ -178,7 +182,8 @@ abbrev pub first_holder : Source → Target → Header
 first_holder source target = relinked source.holder (fewer_links source target)
 
 abbrev pub second_holder : Source → Target → Header
-second_holder source target = if source.directory.value == target.directory.value then shrunk (first_holder source target) else relinked target.holder (more_links source target)
+second_holder source target = if source.directory.value == target.directory.value then shrunk (first_holder source target)
+    else relinked target.holder (more_links source target)
 
 -- Sizes and links are those of a volume.
 pub record MayMove (source : Source) (target : Target) : Type 0 where
@@ -241,8 +246,10 @@ module _ {D : Type 0} (state : D → DeviceState) where
 
   abbrev pub RefusesSource : Fs D → Fs D → ℕ → List ℕ → Bool → FsError → Type 0
   RefusesSource old new d name ends error.NameTooLong = IsTooLong state old new d name
-  RefusesSource old new d name ends error.NoEntry = (head : Header) × (length name ≤ name_len head.form) × FindsName old new d name head None
-  RefusesSource old new d name ends error.NotDir = (head : Header) × (length name ≤ name_len head.form) × ((o : Object) × FindsName old new d name head (Some o)
+  RefusesSource old new d name ends error.NoEntry = (head : Header) × (length name ≤ name_len head.form)
+      × FindsName old new d name head None
+  RefusesSource old new d name ends error.NotDir = (head : Header) × (length name ≤ name_len head.form)
+      × ((o : Object) × FindsName old new d name head (Some o)
       × ((ends && not (is_directory o.header.kind)) ≡ true))
   RefusesSource old new d name ends fault = FailsWhere old new (λ m. MayLook m d name) fault
 
@@ -257,17 +264,20 @@ module _ {D : Type 0} (state : D → DeviceState) where
 
   abbrev pub RefusesNext : Fs D → Fs D → ℕ → List ℕ → Bool → Kind → FsError → Type 0
   RefusesNext old new d name ends k error.NameTooLong = IsTooLong state old new d name
-  RefusesNext old new d name ends k error.NotDir = ((head : Header) × HasHeader state old new d head × (length name ≤ name_len head.form)) × ((ends && not (is_directory k)) ≡ true)
+  RefusesNext old new d name ends k error.NotDir = ((head : Header) × HasHeader state old new d head × (length name ≤ name_len head.form))
+      × ((ends && not (is_directory k)) ≡ true)
   RefusesNext old new d name ends k fault = FailsWhere old new (λ m. MayName m d name) fault
 
   -- ---- both
 
-  pub record FindsBoth (old new : Fs D) (da : ℕ) (na : List ℕ) (ea : Bool) (db : ℕ) (nb : List ℕ) (eb : Bool) (source : Source) (target : Target) : Type 0 where
+  pub record FindsBoth (old new : Fs D) (da : ℕ) (na : List ℕ) (ea : Bool) (db : ℕ) (nb : List ℕ) (eb : Bool) (source : Source)
+      (target : Target) : Type 0 where
     pub first : FindsSource old new da na ea source
     pub second : FindsTarget old new db nb eb source.object.header.kind target
 
   -- The object isn't what it replaces, nor within itself, and what it replaces may be replaced.
-  pub record ChecksRename (old new : Fs D) (da : ℕ) (na : List ℕ) (ea : Bool) (chain nb : List ℕ) (eb : Bool) (source : Source) (target : Target) : Type 0 where
+  pub record ChecksRename (old new : Fs D) (da : ℕ) (na : List ℕ) (ea : Bool) (chain nb : List ℕ) (eb : Bool) (source : Source)
+      (target : Target) : Type 0 where
     pub both : FindsBoth old new da na ea (here chain) nb eb source target
     pub form : HaveOneForm source target
     pub other : GivesName target.replaced source.object.number.value ≡ false
@@ -281,19 +291,24 @@ module _ {D : Type 0} (state : D → DeviceState) where
   TakesRename old new da na ea chain nb eb (Some p) = ChecksRename old new da na ea chain nb eb p.0 p.1
 
   -- Why a rename is refused: for the first name, for the second, or for what both give.
-  pub data RefusesRename (old new : Fs D) (da : ℕ) (na : List ℕ) (ea : Bool) (chain nb : List ℕ) (eb : Bool) (fault : FsError) : Type 0 where
+  pub data RefusesRename (old new : Fs D) (da : ℕ) (na : List ℕ) (ea : Bool) (chain nb : List ℕ) (eb : Bool)
+      (fault : FsError) : Type 0 where
     of_first : RefusesSource old new da na ea fault → RefusesRename old new da na ea chain nb eb fault
-    of_second : (source : Source) → FindsSource old new da na ea source → RefusesNext old new (here chain) nb eb source.object.header.kind fault
+    of_second : (source : Source) → FindsSource old new da na ea source
+        → RefusesNext old new (here chain) nb eb source.object.header.kind fault
         → RefusesRename old new da na ea chain nb eb fault
-    of_within : (source : Source) (target : Target) → FindsBoth old new da na ea (here chain) nb eb source target → GivesName target.replaced source.object.number.value ≡ false
+    of_within : (source : Source) (target : Target) → FindsBoth old new da na ea (here chain) nb eb source target
+        → GivesName target.replaced source.object.number.value ≡ false
         → IsAbove chain source.object.number.value → fault ≡ error.Inval → RefusesRename old new da na ea chain nb eb fault
-    of_target : (source : Source) (target : Target) → FindsBoth old new da na ea (here chain) nb eb source target → GivesName target.replaced source.object.number.value ≡ false
+    of_target : (source : Source) (target : Target) → FindsBoth old new da na ea (here chain) nb eb source target
+        → GivesName target.replaced source.object.number.value ≡ false
         → IsNotAbove chain source.object.number.value → RefusesTarget source target fault → RefusesRename old new da na ea chain nb eb fault
 
   -- ---- the directories of both paths
 
   -- A rename began at volume v, read, and came to the directories of both last pieces.
-  pub record ReachesBoth (v : Mounted D) (old : Fs D) (a : List ℕ) (da : ℕ) (from : Option Last) (b chain : List ℕ) (to : Option Last) : Type 0 where
+  pub record ReachesBoth (v : Mounted D) (old : Fs D) (a : List ℕ) (da : ℕ) (from : Option Last) (b chain : List ℕ)
+      (to : Option Last) : Type 0 where
     pub still : IsStill state v (seen old)
     pub empty : IsNoChange old.store.draft.changes
     pub drafted : old.store.drafted ≡ old.store.log.totals
@@ -301,15 +316,18 @@ module _ {D : Type 0} (state : D → DeviceState) where
     pub other_bytes : AreBytes b
     pub last : HasLast a from
     pub other_last : HasLast b to
-    pub walk : (k : CheckpointValue) (m0 m : LogMap) (s : State) → (state old.store.log.device).keeps_model → IsIn state v k m0 m s → Parent s.tree a (At da)
-    pub other_walk : (k : CheckpointValue) (m0 m : LogMap) (s : State) → (state old.store.log.device).keeps_model → IsIn state v k m0 m s → ComesTo s b chain
+    pub walk : (k : CheckpointValue) (m0 m : LogMap) (s : State) → (state old.store.log.device).keeps_model → IsIn state v k m0 m s
+        → Parent s.tree a (At da)
+    pub other_walk : (k : CheckpointValue) (m0 m : LogMap) (s : State) → (state old.store.log.device).keeps_model → IsIn state v k m0 m s
+        → ComesTo s b chain
 
   -- ---- drafts
 
   -- What is replaced is gone with all its blocks.
   pub record DropsObject (old new : Fs D) (n : ℕ) : Type 0 where
     pub removes : DraftsRemoval new.store.draft.changes n
-    pub counts : Counts state old.store.log new.store.log old.store.draft.changes new.store.draft.changes old.store.drafted new.store.drafted
+    pub counts : Counts state old.store.log new.store.log old.store.draft.changes new.store.draft.changes old.store.drafted
+        new.store.drafted
 
   -- a directory goes, and another object has a link less
   abbrev pub DropsFound : Fs D → Fs D → Option Object → Type 0
@@ -320,7 +338,8 @@ module _ {D : Type 0} (state : D → DeviceState) where
   -- A name of directory d that it has is drafted to give another number.
   pub record RepointsTo (h h' : Held D) (c c' : Changes) (d : ℕ) (head : Header) (n : ℕ) (name : List ℕ) : Type 0 where
     pub place : ℕ
-    pub fits : (k : CheckpointValue) (m0 m : LogMap) → Holds state h k m0 m → FitsBatch m c → TakesWrite c m d head (slot_len head.form * place) (slot_for head.form n name) → FitsBatch m c'
+    pub fits : (k : CheckpointValue) (m0 m : LogMap) → Holds state h k m0 m → FitsBatch m c
+        → TakesWrite c m d head (slot_len head.form * place) (slot_for head.form n name) → FitsBatch m c'
     pub file : (k : CheckpointValue) (m0 m : LogMap) → (state h'.device).keeps_model → Holds state h k m0 m
         → WritesFile (staged c m) (staged c' m) d head head (slot_len head.form * place) (slot_for head.form n name)
     pub names : (k : CheckpointValue) (m0 m : LogMap) → (state h'.device).keeps_model → Holds state h k m0 m
@@ -339,7 +358,8 @@ module _ {D : Type 0} (state : D → DeviceState) where
   -- why no other number is drafted: memory was refused, or, where d is a directory that has the name, a call of the device failed
   abbrev pub FailsOver : Fs D → Fs D → ℕ → Header → List ℕ → FsError → Type 0
   FailsOver old new d head name fault = (fault ≡ error.NoMemory)
-      ⊎ ((fault ≡ error.Device) × InLog old new (λ m. IsDirectory m d (as_header head) → find byte_cmp name (names_at m d head) ≢ None → Rises old new))
+      ⊎ ((fault ≡ error.Device)
+      × InLog old new (λ m. IsDirectory m d (as_header head) → find byte_cmp name (names_at m d head) ≢ None → Rises old new))
 
   -- the same of a name that was found there, or wasn't
   abbrev pub FailsName : Fs D → Fs D → ℕ → Header → List ℕ → Option Object → FsError → Type 0
@@ -363,7 +383,8 @@ module _ {D : Type 0} (state : D → DeviceState) where
     pub mid : Fs D
     pub links : DraftsLinks old mid source target
     pub still : IsStill state (seen mid) (seen taken)
-    pub takes : TakesOut state mid.store.log taken.store.log mid.store.draft.changes taken.store.draft.changes source.directory.value (first_holder source target) source.name.now
+    pub takes : TakesOut state mid.store.log taken.store.log mid.store.draft.changes taken.store.draft.changes source.directory.value
+        (first_holder source target) source.name.now
         mid.store.drafted taken.store.drafted
     pub apart : (k : ℕ) → IsApart mid.store.draft.changes.loss k → IsApart taken.store.draft.changes.loss k
 
@@ -372,17 +393,21 @@ module _ {D : Type 0} (state : D → DeviceState) where
     pub taken : Fs D
     pub takes : DraftsTake old taken source target
     pub still : IsStill state (seen taken) (seen new)
-    pub names : NamesFound target.replaced taken.store.log new.store.log taken.store.draft.changes new.store.draft.changes target.directory.value (second_holder source target)
+    pub names : NamesFound target.replaced taken.store.log new.store.log taken.store.draft.changes new.store.draft.changes
+        target.directory.value (second_holder source target)
         source.object.number.value target.name.now
-    pub recounts : Counts state taken.store.log new.store.log taken.store.draft.changes new.store.draft.changes taken.store.drafted new.store.drafted
+    pub recounts : Counts state taken.store.log new.store.log taken.store.draft.changes new.store.draft.changes taken.store.drafted
+        new.store.drafted
 
   -- Why it isn't drafted.
   pub data FailsMove (old new : Fs D) (source : Source) (target : Target) (fault : FsError) : Type 0 where
     of_drop : DraftsNone state old new fault → FailsMove old new source target fault
     of_memory : fault ≡ error.NoMemory → FailsMove old new source target fault
-    of_take : (mid : Fs D) → DraftsLinks old mid source target → FailsOver mid new source.directory.value (first_holder source target) source.name.now fault
+    of_take : (mid : Fs D) → DraftsLinks old mid source target
+        → FailsOver mid new source.directory.value (first_holder source target) source.name.now fault
         → FailsMove old new source target fault
-    of_name : (taken : Fs D) → DraftsTake old taken source target → IsStill state (seen taken) (seen new) → FailsName taken new target.directory.value (second_holder source target) target.name.now target.replaced fault
+    of_name : (taken : Fs D) → DraftsTake old taken source target → IsStill state (seen taken) (seen new)
+        → FailsName taken new target.directory.value (second_holder source target) target.name.now target.replaced fault
         → FailsMove old new source target fault
 
   -- ---- a rename that nothing refuses

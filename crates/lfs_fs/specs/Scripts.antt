@@ -15,7 +15,8 @@ use Rattle.lfs_fs.specs.Volume.{IsAt, Mounted, Serves, segments_of}
 module _ {D : Type 0} (state : D → DeviceState) where
   -- a line's call; or nothing, where memory for its word was refused
   abbrev pub ServesLine : Mounted D → Mounted D → Line → Answer → Type 0
-  ServesLine old new line answer = Serves state old new (call_of line) answer ⊎ (IsTrue (has_word line) × (answer ≡ Refuse NoMemory) × (new ≡ old))
+  ServesLine old new line answer = Serves state old new (call_of line) answer
+      ⊎ (IsTrue (has_word line) × (answer ≡ Refuse NoMemory) × (new ≡ old))
 
   -- Lines one after the other, each on the volume as the line before it left it.
   abbrev pub ServesLines : Mounted D → Mounted D → List Line → List Answer → Type 0
@@ -24,16 +25,19 @@ module _ {D : Type 0} (state : D → DeviceState) where
       (mid : Mounted D) × ServesLine old mid line answer × ServesLines mid new lines answers
   ServesLines old new _ _ = ⊥
 
-  -- Lines of a volume at a point: their answers are a run of the model from there. A stop at any moment leaves what it might have left at the start, or
-  -- the state after some of the lines, without files of no name; and at the end, after lines that hold every line up to the last acknowledged sync.
+  -- Lines of a volume at a point: their answers are a run of the model from there. A stop at any moment
+  -- leaves what it might have left at the start, or the state after some of the lines, without files of
+  -- no name; and at the end, after lines that hold every line up to the last acknowledged sync.
   pub record RanAt (old new : Mounted D) (lines : List Line) (answers : List Answer) (p : Point) : Type 0 where
     pub points : List Point
     pub run : LineRun (segments_of old) p lines answers points
     pub at : IsAt state new (final p points)
     pub leaves : LeavesStates (state old.log.device) (state new.log.device) (left_states (p ∷ points))
     -- where a stop at the start left its state alone
-    pub moments : LeavesOne (state old.log.device) (drop_nameless p.state) → LeavesOnly (state old.log.device) (state new.log.device) (StandsForSome (p ∷ points))
-    pub pending : LeavesOne (state old.log.device) (drop_nameless p.state) → LeavesPrefix (state new.log.device) (p ∷ points) (map call_of lines) answers
+    pub moments : LeavesOne (state old.log.device) (drop_nameless p.state)
+        → LeavesOnly (state old.log.device) (state new.log.device) (StandsForSome (p ∷ points))
+    pub pending : LeavesOne (state old.log.device) (drop_nameless p.state)
+        → LeavesPrefix (state new.log.device) (p ∷ points) (map call_of lines) answers
 
   -- The same, from any point where the device keeps the model. Over any device each line is served as one call is, and no call is stuck.
   pub record RunsLines (old new : Mounted D) (lines : List Line) (answers : List Answer) : Type 0 where
@@ -47,7 +51,8 @@ module _ {D : Type 0} (state : D → DeviceState) where
   pub record ToldAt (old new : Mounted D) (lines : List Line) (answers : List Answer) (clocks : List ℕ) (p : Point) : Type 0 where
     pub ran : RanAt old new lines answers p
     -- where a stop at the start left its state alone, what was told is kept from then on
-    pub kept : LeavesOne (state old.log.device) (drop_nameless p.state) → AreKeptSince (state new.log.device) (p ∷ ran.points) (map call_of lines) answers clocks
+    pub kept : LeavesOne (state old.log.device) (drop_nameless p.state)
+        → AreKeptSince (state new.log.device) (p ∷ ran.points) (map call_of lines) answers clocks
 
   -- As `RunsLines`, with the clocks at which the replies went out.
   pub record TellsLines (old new : Mounted D) (lines : List Line) (answers : List Answer) (clocks : List ℕ) : Type 0 where

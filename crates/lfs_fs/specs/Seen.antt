@@ -19,7 +19,13 @@ use Rattle.lfs_fs.specs.Volume.{IsStill, Mounted}
 use Rattle.lfs_store.specs.memory.Batch.{IsNoChange}
 
 abbrev pub seen : {D : Type 0} → Fs D → Mounted D
-seen f = record { log = f.store.log; saved = f.store.saved; blocks = f.store.log.totals.data_blocks; others = f.store.log.totals.meta_blocks; table = f.handles.numbers.items }
+seen f = record {
+  log = f.store.log;
+  saved = f.store.saved;
+  blocks = f.store.log.totals.data_blocks;
+  others = f.store.log.totals.meta_blocks;
+  table = f.handles.numbers.items;
+}
 
 -- the answer of a call by its result
 abbrev pub answer_by : {X : Type 0} → (X → Answer) → Result X FsError → Answer
@@ -41,7 +47,8 @@ pub record Begins {D : Type 0} (old new : Fs D) : Type 0 where
 
 -- why a handle gives no file: it isn't open, or gives a number that no file has
 abbrev pub GivesNone : List ℕ → ℕ → FsError → Type 0
-GivesNone table handle fault = ((fault ≡ error.BadHandle) × (find nat_cmp handle (handles_of table) ≡ None)) ⊎ ((fault ≡ error.Device) × ((n : ℕ) × (find nat_cmp handle (handles_of table) ≡ Some n) × (4095 < n)))
+GivesNone table handle fault = ((fault ≡ error.BadHandle) × (find nat_cmp handle (handles_of table) ≡ None))
+    ⊎ ((fault ≡ error.Device) × ((n : ℕ) × (find nat_cmp handle (handles_of table) ≡ Some n) × (4095 < n)))
 
 module _ {D : Type 0} (state : D → DeviceState) where
   -- the header of what stands at a number, where the log holds a log map; or nothing does
@@ -57,10 +64,13 @@ module _ {D : Type 0} (state : D → DeviceState) where
 
   -- the header of an object, where the log holds a log map
   abbrev pub HasHeader : Fs D → Fs D → ℕ → Header → Type 0
-  HasHeader old new n header = (k : CheckpointValue) (m0 m : LogMap) → (state new.store.log.device).keeps_model → Holds state old.store.log k m0 m → (staged old.store.draft.changes m).header n ≡ Some (as_header header)
+  HasHeader old new n header = (k : CheckpointValue) (m0 m : LogMap) → (state new.store.log.device).keeps_model
+      → Holds state old.store.log k m0 m → (staged old.store.draft.changes m).header n ≡ Some (as_header header)
 
   -- why there is none: a commit failed; or a call of the device did, or no object has the number
   abbrev pub LacksHeader : Fs D → Fs D → ℕ → FsError → Type 0
   LacksHeader old new n fault = ((fault ≡ error.Halted) × (old.store.log.halted ≡ true))
-      ⊎ ((fault ≡ error.Device) × ((k : CheckpointValue) (m0 m : LogMap) → (state new.store.log.device).keeps_model → Holds state old.store.log k m0 m
-      → ((state old.store.log.device).failures < (state new.store.log.device).failures) ⊎ ((staged old.store.draft.changes m).header n ≡ None)))
+      ⊎ ((fault ≡ error.Device)
+      × ((k : CheckpointValue) (m0 m : LogMap) → (state new.store.log.device).keeps_model → Holds state old.store.log k m0 m
+      → ((state old.store.log.device).failures < (state new.store.log.device).failures)
+      ⊎ ((staged old.store.draft.changes m).header n ≡ None)))

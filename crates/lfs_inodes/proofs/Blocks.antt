@@ -1,12 +1,14 @@
 -- Lists of blocks in the order of their numbers: what stands at a place, and what an edit there leaves.
-use Rattle.std.proofs.Common.{◌≡◌, ◌<◌, ◌≤◌, ⊎_elim, ◌+◌, cond, ℕ, zero, suc, List, [], ◌∷◌, length, get_or, set, Option, Some, None, refl, sym, ◌∙◌, ap, subst, arith}
+use Rattle.std.proofs.Common.{◌≡◌, ◌<◌, ◌≤◌, ⊎_elim, ◌+◌, cond, ℕ, zero, suc, List, [], ◌∷◌, length, get_or, set, Option, Some, None, refl}
+use Rattle.std.proofs.Common.{sym, ◌∙◌, ap, subst, arith}
 use Rattle.std.specs.Prelude.{T, not, is_some}
 use Rattle.std.specs.List.{insert, remove}
 use Rattle.std.specs.Option.{option_map}
 use Rattle.std.specs.Ordering.{nat_cmp, eq_by_cmp, is_lt}
 use Rattle.std.specs.declared.cmp.Ordering.TheVariants.{Less, Equal, Greater}
 use Rattle.std.specs.FinMap.{find, put, is_sorted}
-use Rattle.std.specs.FinMap.Entries.{below_all, by_order, find-put, is_sorted-put, is_sorted-where_key, find-where_key, length-put, length_without}
+use Rattle.std.specs.FinMap.Entries.{below_all, by_order, find-put, is_sorted-put, is_sorted-where_key, find-where_key, length-put}
+use Rattle.std.specs.FinMap.Entries.{length_without}
 use Rattle.std.proofs.lemmas.Cmp.{nat_cmp_total}
 use Rattle.std.proofs.lemmas.Bool.{cases_eq, cases_lt}
 use Rattle.std.proofs.lemmas.Bool.Decides.{nat_tests}
@@ -68,11 +70,13 @@ find_gap es c i gap = find_none es c (λ j lt same. ⊎_elim
     (λ (late : i ≤ j). let a = gap.after j late lt in omega arith)
     (cases_lt j i))
 
-find_at_first : (es : Blocks) (c i : ℕ) → i < length es → number_at es i ≡ c → ((j : ℕ) → j < i → number_at es j < c) → find nat_cmp c es ≡ Some (get_or es i (0, [])).1
+find_at_first : (es : Blocks) (c i : ℕ) → i < length es → number_at es i ≡ c → ((j : ℕ) → j < i → number_at es j < c)
+    → find nat_cmp c es ≡ Some (get_or es i (0, [])).1
 find_at_first [] c i lt is before = absurd (omega arith)
 find_at_first (e ∷ es) c zero lt is before = find_first e es c is
 find_at_first (e ∷ es) c (suc i) lt is before =
-    find_more e es c (λ h. let b = before 0 (omega arith) in omega arith) ∙ find_at_first es c i (omega arith) is (λ j l. before (suc j) (omega arith))
+    find_more e es c (λ h. let b = before 0 (omega arith) in omega arith)
+    ∙ find_at_first es c i (omega arith) is (λ j l. before (suc j) (omega arith))
 
 module _ (es : Blocks) (sorted : T (is_sorted nat_cmp es)) (c i : ℕ) (is : HasNumberAt es c i) where
   pub lower : (j : ℕ) → j < i → number_at es j < c
@@ -85,23 +89,30 @@ module _ (es : Blocks) (sorted : T (is_sorted nat_cmp es)) (c i : ℕ) (is : Has
 order_more : (c : ℕ) (v : List ℕ) (e : ℕ × List ℕ) (es : Blocks) → e.0 < c → put nat_cmp c v (e ∷ es) ≡ e ∷ put nat_cmp c v es
 order_more c v e es lt = ap (λ r. by_order r ((c, v) ∷ e ∷ es) ((e.0, v) ∷ es) (e ∷ put nat_cmp c v es)) (cmp_greater c e.0 lt)
 
-put_at_first : (es : Blocks) (c : ℕ) (v : List ℕ) (i : ℕ) → i < length es → number_at es i ≡ c → ((j : ℕ) → j < i → number_at es j < c) → put nat_cmp c v es ≡ set es i (c, v)
+put_at_first : (es : Blocks) (c : ℕ) (v : List ℕ) (i : ℕ) → i < length es → number_at es i ≡ c → ((j : ℕ) → j < i → number_at es j < c)
+    → put nat_cmp c v es ≡ set es i (c, v)
 put_at_first [] c v i lt is before = absurd (omega arith)
 put_at_first (e ∷ es) c v zero lt is before =
-    ap (λ r. by_order r ((c, v) ∷ e ∷ es) ((e.0, v) ∷ es) (e ∷ put nat_cmp c v es)) (cmp_equal c e.0 (sym is)) ∙ ap (λ (n : ℕ). (n, v) ∷ es) is
+    ap (λ r. by_order r ((c, v) ∷ e ∷ es) ((e.0, v) ∷ es) (e ∷ put nat_cmp c v es)) (cmp_equal c e.0 (sym is))
+    ∙ ap (λ (n : ℕ). (n, v) ∷ es) is
 put_at_first (e ∷ es) c v (suc i) lt is before =
-    order_more c v e es (before 0 (omega arith)) ∙ ap (λ (xs : Blocks). e ∷ xs) (put_at_first es c v i (omega arith) is (λ j l. before (suc j) (omega arith)))
+    order_more c v e es (before 0 (omega arith))
+    ∙ ap (λ (xs : Blocks). e ∷ xs) (put_at_first es c v i (omega arith) is (λ j l. before (suc j) (omega arith)))
 
-pub put_at : (es : Blocks) → T (is_sorted nat_cmp es) → (c : ℕ) (v : List ℕ) (i : ℕ) → HasNumberAt es c i → put nat_cmp c v es ≡ set es i (c, v)
+pub put_at : (es : Blocks) → T (is_sorted nat_cmp es) → (c : ℕ) (v : List ℕ) (i : ℕ) → HasNumberAt es c i
+    → put nat_cmp c v es ≡ set es i (c, v)
 put_at es sorted c v i is = put_at_first es c v i is.within is.number (lower es sorted c i is)
 
-put_gap_at : (es : Blocks) (c : ℕ) (v : List ℕ) (i : ℕ) → i ≤ length es → ((j : ℕ) → j < i → number_at es j < c) → ((j : ℕ) → i ≤ j → j < length es → c < number_at es j) → put nat_cmp c v es ≡ insert es i (c, v)
+put_gap_at : (es : Blocks) (c : ℕ) (v : List ℕ) (i : ℕ) → i ≤ length es → ((j : ℕ) → j < i → number_at es j < c)
+    → ((j : ℕ) → i ≤ j → j < length es → c < number_at es j) → put nat_cmp c v es ≡ insert es i (c, v)
 put_gap_at [] c v zero le before after = refl
 put_gap_at [] c v (suc i) le before after = absurd (omega arith)
-put_gap_at (e ∷ es) c v zero le before after = ap (λ r. by_order r ((c, v) ∷ e ∷ es) ((e.0, v) ∷ es) (e ∷ put nat_cmp c v es)) (cmp_less c e.0 (after 0 (omega arith) (omega arith)))
+put_gap_at (e ∷ es) c v zero le before after =
+    ap (λ r. by_order r ((c, v) ∷ e ∷ es) ((e.0, v) ∷ es) (e ∷ put nat_cmp c v es)) (cmp_less c e.0 (after 0 (omega arith) (omega arith)))
 put_gap_at (e ∷ es) c v (suc i) le before after =
     order_more c v e es (before 0 (omega arith))
-    ∙ ap (λ (xs : Blocks). e ∷ xs) (put_gap_at es c v i (omega arith) (λ j l. before (suc j) (omega arith)) (λ j l r. after (suc j) (omega arith) (omega arith)))
+    ∙ ap (λ (xs : Blocks). e ∷ xs)
+    (put_gap_at es c v i (omega arith) (λ j l. before (suc j) (omega arith)) (λ j l r. after (suc j) (omega arith) (omega arith)))
 
 pub put_gap : (es : Blocks) (c : ℕ) (v : List ℕ) (i : ℕ) → IsGapFor es c i → put nat_cmp c v es ≡ insert es i (c, v)
 put_gap es c v i gap = put_gap_at es c v i gap.within gap.before gap.after
@@ -110,11 +121,13 @@ without_more : (e : ℕ × List ℕ) (es : Blocks) (c : ℕ) → (e.0 ≡ c → 
 without_more e es c ne = ap (λ b. cond (not b) (e ∷ without nat_cmp c es) (without nat_cmp c es)) (cmp_other c e.0 (λ h. ne (sym h)))
 
 without_first : (e : ℕ × List ℕ) (es : Blocks) (c : ℕ) → e.0 ≡ c → without nat_cmp c (e ∷ es) ≡ without nat_cmp c es
-without_first e es c is = ap (λ b. cond (not b) (e ∷ without nat_cmp c es) (without nat_cmp c es)) (ap (λ (n : ℕ). eq_by_cmp nat_cmp c n) is ∙ cmp_same c)
+without_first e es c is =
+    ap (λ b. cond (not b) (e ∷ without nat_cmp c es) (without nat_cmp c es)) (ap (λ (n : ℕ). eq_by_cmp nat_cmp c n) is ∙ cmp_same c)
 
 pub without_none : (es : Blocks) (c : ℕ) → ((j : ℕ) → j < length es → number_at es j ≡ c → ⊥) → without nat_cmp c es ≡ es
 without_none [] c away = refl
-without_none (e ∷ es) c away = without_more e es c (away 0 (omega arith)) ∙ ap (λ (xs : Blocks). e ∷ xs) (without_none es c (λ j lt. away (suc j) (omega arith)))
+without_none (e ∷ es) c away = without_more e es c (away 0 (omega arith))
+    ∙ ap (λ (xs : Blocks). e ∷ xs) (without_none es c (λ j lt. away (suc j) (omega arith)))
 
 pub without_gap : (es : Blocks) (c i : ℕ) → IsGapFor es c i → without nat_cmp c es ≡ es
 without_gap es c i gap = without_none es c (λ j lt same. ⊎_elim
@@ -122,10 +135,12 @@ without_gap es c i gap = without_none es c (λ j lt same. ⊎_elim
     (λ (late : i ≤ j). let a = gap.after j late lt in omega arith)
     (cases_lt j i))
 
-without_at_place : (es : Blocks) (c i : ℕ) → T (is_sorted nat_cmp es) → i < length es → number_at es i ≡ c → without nat_cmp c es ≡ remove es i
+without_at_place : (es : Blocks) (c i : ℕ) → T (is_sorted nat_cmp es) → i < length es → number_at es i ≡ c
+    → without nat_cmp c es ≡ remove es i
 without_at_place [] c i h lt is = absurd (omega arith)
 without_at_place (e ∷ es) c zero h lt is =
-    without_first e es c is ∙ without_none es c (λ j l same. let r = rises (e ∷ es) h 0 (suc j) (omega arith) (omega arith) in let s : number_at es j ≡ c = same in omega arith)
+    without_first e es c is ∙ without_none es c
+    (λ j l same. let r = rises (e ∷ es) h 0 (suc j) (omega arith) (omega arith) in let s : number_at es j ≡ c = same in omega arith)
 without_at_place (e ∷ es) c (suc i) h lt is =
     without_more e es c (λ same. let r = rises (e ∷ es) h 0 (suc i) (omega arith) lt in let s : number_at es i ≡ c = is in omega arith)
     ∙ ap (λ (xs : Blocks). e ∷ xs) (without_at_place es c i (T_right (below_all nat_cmp e.0 es) _ h) (omega arith) is)
@@ -141,13 +156,16 @@ pub sorted_without : (es : Blocks) (c : ℕ) → T (is_sorted nat_cmp es) → T 
 sorted_without es c h = is_sorted-where_key nat_cmp (λ x. not (eq_by_cmp nat_cmp c x)) es h
 
 -- ---- how many there are
-pub count_put : (es : Blocks) (c : ℕ) (v : List ℕ) → T (is_sorted nat_cmp es) → length (put nat_cmp c v es) ≡ cond (is_some (find nat_cmp c es)) (length es) (length es + 1)
+pub count_put : (es : Blocks) (c : ℕ) (v : List ℕ) → T (is_sorted nat_cmp es)
+    → length (put nat_cmp c v es) ≡ cond (is_some (find nat_cmp c es)) (length es) (length es + 1)
 count_put es c v h = length-put nat_cmp nat_cmp_total c v es h
 
-pub count_without : (es : Blocks) (c : ℕ) → T (is_sorted nat_cmp es) → cond (is_some (find nat_cmp c es)) 1 0 + length (without nat_cmp c es) ≡ length es
+pub count_without : (es : Blocks) (c : ℕ) → T (is_sorted nat_cmp es)
+    → cond (is_some (find nat_cmp c es)) 1 0 + length (without nat_cmp c es) ≡ length es
 count_without es c h = length_without nat_cmp nat_cmp_total c es h
 
-same_count : (es : Blocks) (c : ℕ) (f : List ℕ → List ℕ) → T (is_sorted nat_cmp es) → (o : Option (List ℕ)) → find nat_cmp c es ≡ o → length (altered_as o f c es) ≡ length es
+same_count : (es : Blocks) (c : ℕ) (f : List ℕ → List ℕ) → T (is_sorted nat_cmp es) → (o : Option (List ℕ)) → find nat_cmp c es ≡ o
+    → length (altered_as o f c es) ≡ length es
 same_count es c f h None is = refl
 same_count es c f h (Some b) is = count_put es c (f b) h ∙ ap (λ (o : Option (List ℕ)). cond (is_some o) (length es) (length es + 1)) is
 
@@ -168,20 +186,25 @@ module _ (es : Blocks) (c : ℕ) (is : IsCode c) where
 
   pub changed_put : (v : List ℕ) → ChangesTo (blocks_in es) (blocks_in (put nat_cmp c v es)) (entry_at c) (Some v)
   changed_put v = record {
-    own = ap (λ (n : ℕ). find nat_cmp n (put nat_cmp c v es)) (code_entry c is) ∙ find_put_at v c ∙ ap (λ b. cond b (Some v) (find nat_cmp c es)) (cmp_same c);
-    others = λ y ne. find_put_at v (code y) ∙ ap (λ b. cond b (Some v) (find nat_cmp (code y) es)) (cmp_other (code y) c (others_differ y ne));
+    own = ap (λ (n : ℕ). find nat_cmp n (put nat_cmp c v es)) (code_entry c is) ∙ find_put_at v c
+        ∙ ap (λ b. cond b (Some v) (find nat_cmp c es)) (cmp_same c);
+    others = λ y ne. find_put_at v (code y)
+        ∙ ap (λ b. cond b (Some v) (find nat_cmp (code y) es)) (cmp_other (code y) c (others_differ y ne));
   }
 
   find_without_at : (q : ℕ) → find nat_cmp q (without nat_cmp c es) ≡ cond (not (eq_by_cmp nat_cmp c q)) (find nat_cmp q es) None
-  find_without_at q = find-where_key nat_cmp (λ x. not (eq_by_cmp nat_cmp c x)) q (λ x e. ap (λ (n : ℕ). not (eq_by_cmp nat_cmp c n)) (sym (same_of_equal q x e))) es
+  find_without_at q = find-where_key nat_cmp (λ x. not (eq_by_cmp nat_cmp c x)) q
+      (λ x e. ap (λ (n : ℕ). not (eq_by_cmp nat_cmp c n)) (sym (same_of_equal q x e))) es
     where
       same_of_equal : (q x : ℕ) → nat_cmp q x ≡ Equal → q ≡ x
       same_of_equal q x e = grind (arith, nat_tests)
 
   pub changed_without : ChangesTo (blocks_in es) (blocks_in (without nat_cmp c es)) (entry_at c) None
   changed_without = record {
-    own = ap (λ (n : ℕ). find nat_cmp n (without nat_cmp c es)) (code_entry c is) ∙ find_without_at c ∙ ap (λ b. cond (not b) (find nat_cmp c es) None) (cmp_same c);
-    others = λ y ne. find_without_at (code y) ∙ ap (λ b. cond (not b) (find nat_cmp (code y) es) None) (cmp_other c (code y) (λ h. others_differ y ne (sym h)));
+    own = ap (λ (n : ℕ). find nat_cmp n (without nat_cmp c es)) (code_entry c is) ∙ find_without_at c
+        ∙ ap (λ b. cond (not b) (find nat_cmp c es) None) (cmp_same c);
+    others = λ y ne. find_without_at (code y)
+        ∙ ap (λ b. cond (not b) (find nat_cmp (code y) es) None) (cmp_other c (code y) (λ h. others_differ y ne (sym h)));
   }
 
   -- nothing changes where there is no block
@@ -189,9 +212,11 @@ module _ (es : Blocks) (c : ℕ) (is : IsCode c) where
   changed_none none = record { own = entry_found ∙ none; others = λ y ne. refl }
 
   module _ (f : List ℕ → List ℕ) where
-    altered_case : (o : Option (List ℕ)) → find nat_cmp c es ≡ o → ChangesTo (blocks_in es) (blocks_in (altered_as o f c es)) (entry_at c) (option_map f o)
+    altered_case : (o : Option (List ℕ)) → find nat_cmp c es ≡ o
+        → ChangesTo (blocks_in es) (blocks_in (altered_as o f c es)) (entry_at c) (option_map f o)
     altered_case None is_none = changed_none is_none
     altered_case (Some b) is_some = changed_put (f b)
 
     pub changed_altered : ChangesTo (blocks_in es) (blocks_in (altered f c es)) (entry_at c) (option_map f (blocks_in es (entry_at c)))
-    changed_altered = subst (λ (o : Option (List ℕ)). ChangesTo (blocks_in es) (blocks_in (altered f c es)) (entry_at c) (option_map f o)) (sym entry_found) (altered_case (find nat_cmp c es) refl)
+    changed_altered = subst (λ (o : Option (List ℕ)). ChangesTo (blocks_in es) (blocks_in (altered f c es)) (entry_at c) (option_map f o))
+        (sym entry_found) (altered_case (find nat_cmp c es) refl)

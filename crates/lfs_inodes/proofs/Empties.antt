@@ -16,14 +16,16 @@ place_of : (es : Blocks) (c : ℕ) (v : List ℕ) → find nat_cmp c es ≡ Some
 place_of [] c v found = absurd cc
 place_of (e ∷ es) c v found = ⊎_elim
     (λ (here : e.0 ≡ c). (0, omega arith, here))
-    (λ (ne : e.0 ≡ c → ⊥). let rest = place_of es c v (sym (find_more e es c ne) ∙ found) in (suc rest.0, (let lt = rest.1 in omega (arith, lt)), rest.2))
+    (λ (ne : e.0 ≡ c → ⊥). let rest = place_of es c v (sym (find_more e es c ne) ∙ found) in
+    (suc rest.0, (let lt = rest.1 in omega (arith, lt)), rest.2))
     (cases_eq e.0 c)
 
 -- the block at a place leads somewhere, if it is one of pointers
 abbrev pub LeadsAt : TableValue → ℕ → Type 0
 LeadsAt t j = (x : Entry) (b : List ℕ) → number_at t.blocks j ≡ code x → blocks_of t x ≡ Some b → IsPointers x → HasPointer b
 
-pub leads_at : (t : TableValue) (j c : ℕ) → IsCode c → HasNumberAt t.blocks c j → ((b : List ℕ) → blocks_of t (entry_at c) ≡ Some b → IsPointers (entry_at c) → HasPointer b) → LeadsAt t j
+pub leads_at : (t : TableValue) (j c : ℕ) → IsCode c → HasNumberAt t.blocks c j
+    → ((b : List ℕ) → blocks_of t (entry_at c) ≡ Some b → IsPointers (entry_at c) → HasPointer b) → LeadsAt t j
 leads_at t j c is at leads x b number there pointers =
     let same : x ≡ entry_at c = entry_of_code x c is (sym number ∙ at.number) in
     leads b (ap (blocks_of t) (sym same) ∙ there) (subst IsPointers same pointers)

@@ -1,5 +1,7 @@
 -- An index over an arena of blocks: what a change of one leaves of the list of blocks.
-use Rattle.std.proofs.Common.{◌≡◌, ◌<◌, ◌≤◌, ◌+◌, ◌==◌, ◌||◌, cond, ℕ, zero, suc, Bool, true, false, List, [], ◌∷◌, ◌++◌, map, length, get_or, set, refl, sym, ◌∙◌, ap, ap₂, subst, arith, Option, Some, None, ⊎_elim, length-set, length-append, get_or-set_other, get_or-set_same}
+use Rattle.std.proofs.Common.{◌≡◌, ◌<◌, ◌≤◌, ◌+◌, ◌==◌, ◌||◌, cond, ℕ, zero, suc, Bool, true, false, List, [], ◌∷◌, ◌++◌, map, length}
+use Rattle.std.proofs.Common.{get_or, set, refl, sym, ◌∙◌, ap, ap₂, subst, arith, Option, Some, None, ⊎_elim, length-set, length-append}
+use Rattle.std.proofs.Common.{get_or-set_other, get_or-set_same}
 use Rattle.std.specs.Prelude.{T}
 use Rattle.std.specs.List.{insert, remove}
 use Rattle.std.specs.Ordering.{nat_cmp}
@@ -18,7 +20,8 @@ use Rattle.lfs_inodes.specs.declared.table.Place.{Place}
 use Rattle.lfs_inodes.specs.Code.{IsCode, entry_at}
 use Rattle.lfs_inodes.specs.Blocks.{Blocks, TableValue, blocks_in, number_at, altered_as, altered, HasNumberAt, IsGapFor, Capacity}
 use Rattle.lfs_inodes.specs.Held.{entry_in, entries_in, spots, times, one_below, IsTableOf, Capacities, Stores}
-use Rattle.lfs_inodes.proofs.Blocks.{put_at, put_gap, without_at, sorted_put, sorted_without, find_at, find_gap, changed_put, changed_without}
+use Rattle.lfs_inodes.proofs.Blocks.{put_at, put_gap, without_at, sorted_put, sorted_without, find_at, find_gap, changed_put}
+use Rattle.lfs_inodes.proofs.Blocks.{changed_without}
 
 -- ---- how often a number stands in a list
 abbrev mark : ℕ → ℕ → ℕ
@@ -65,7 +68,8 @@ times_here [] i p lt is = absurd (omega arith)
 times_here (q ∷ ps) zero p lt is = let h = hit q.spot p.spot (ap (λ (x : Place). x.spot) (sym is)) in omega arith
 times_here (q ∷ ps) (suc i) p lt is = let r = times_here ps i p (omega arith) is in omega arith
 
-times_left : (n : ℕ) (ps : List Place) (i : ℕ) (p : Place) → i < length ps → p ≡ get_or ps i p → times n (spots ps) ≡ cond (p.spot == n) 1 0 + times n (spots (remove ps i))
+times_left : (n : ℕ) (ps : List Place) (i : ℕ) (p : Place) → i < length ps → p ≡ get_or ps i p
+    → times n (spots ps) ≡ cond (p.spot == n) 1 0 + times n (spots (remove ps i))
 times_left n [] i p lt is = absurd (omega arith)
 times_left n (q ∷ ps) zero p lt is = ap (λ (x : Place). cond (x.spot == n) 1 0 + times n (spots ps)) (sym is)
 times_left n (q ∷ ps) (suc i) p lt is = let r = times_left n ps i p (omega arith) is in omega arith
@@ -76,9 +80,11 @@ same_value bs s v q ne = ap (λ (b : List ℕ). (q.key.code, b)) (get_or-set_oth
 
 kept : (ps : List Place) (bs : List (List ℕ)) (s : ℕ) (v : List ℕ) → times s (spots ps) ≡ 0 → entries_in ps (set bs s v) ≡ entries_in ps bs
 kept [] bs s v none = refl
-kept (q ∷ ps) bs s v none = ap₂ (λ (e : ℕ × List ℕ) (es : Blocks). e ∷ es) (same_value bs s v q (missed q.spot s (omega arith))) (kept ps bs s v (omega arith))
+kept (q ∷ ps) bs s v none =
+    ap₂ (λ (e : ℕ × List ℕ) (es : Blocks). e ∷ es) (same_value bs s v q (missed q.spot s (omega arith))) (kept ps bs s v (omega arith))
 
-written : (ps : List Place) (bs : List (List ℕ)) (i : ℕ) (p : Place) (v : List ℕ) → i < length ps → p ≡ get_or ps i p → times p.spot (spots ps) ≤ 1 → p.spot < length bs
+written : (ps : List Place) (bs : List (List ℕ)) (i : ℕ) (p : Place) (v : List ℕ) → i < length ps → p ≡ get_or ps i p
+    → times p.spot (spots ps) ≤ 1 → p.spot < length bs
     → entries_in ps (set bs p.spot v) ≡ set (entries_in ps bs) i (p.key.code, v)
 written [] bs i p v lt is once low = absurd (omega arith)
 written (q ∷ ps) bs zero p v lt is once low =
@@ -92,7 +98,8 @@ written (q ∷ ps) bs (suc i) p v lt is once low =
     (same_value bs p.spot v q (λ e. let h = hit q.spot p.spot e in omega arith))
     (written ps bs i p v (omega arith) is (omega arith) low)
 
-number_is : (ps : List Place) (bs : List (List ℕ)) (i : ℕ) (p : Place) → i < length ps → p ≡ get_or ps i p → get_or (entries_in ps bs) i (0, []) ≡ entry_in bs p
+number_is : (ps : List Place) (bs : List (List ℕ)) (i : ℕ) (p : Place) → i < length ps → p ≡ get_or ps i p
+    → get_or (entries_in ps bs) i (0, []) ≡ entry_in bs p
 number_is [] bs i p lt is = absurd (omega arith)
 number_is (q ∷ ps) bs zero p lt is = ap (entry_in bs) (sym is)
 number_is (q ∷ ps) bs (suc i) p lt is = number_is ps bs i p (omega arith) is
@@ -104,7 +111,8 @@ below_more : (n s : ℕ) → one_below (n + 1) s ≡ one_below n s + mark n s
 below_more n s = grind (arith, nat_tests)
 
 -- blocks that come behind all others
-kept_below : (ps : List Place) (bs : List (List ℕ)) (v : List ℕ) → ((n : ℕ) → length bs ≤ n → times n (spots ps) ≡ 0) → entries_in ps (bs ++ v ∷ []) ≡ entries_in ps bs
+kept_below : (ps : List Place) (bs : List (List ℕ)) (v : List ℕ) → ((n : ℕ) → length bs ≤ n → times n (spots ps) ≡ 0)
+    → entries_in ps (bs ++ v ∷ []) ≡ entries_in ps bs
 kept_below [] bs v none = refl
 kept_below (q ∷ ps) bs v none =
     let low : q.spot < length bs = ⊎_elim
@@ -124,19 +132,23 @@ neither false false none = (refl, refl)
 neither false true none = absurd cc
 neither true b none = absurd cc
 
-tight_changed : (old new : Dirty) (x : Entry) (value : Option (List ℕ)) → ChangesTo old new x value → ((v : List ℕ) → value ≡ Some v → IsPointers x → HasPointer v) → IsTight old → IsTight new
+tight_changed : (old new : Dirty) (x : Entry) (value : Option (List ℕ)) → ChangesTo old new x value
+    → ((v : List ℕ) → value ≡ Some v → IsPointers x → HasPointer v) → IsTight old → IsTight new
 tight_changed old new x value change leads tight y v there is = ⊎_elim
     (λ (here : y ≡ x). leads v (sym (ap new here ∙ change.own) ∙ there) (subst IsPointers here is))
     (λ (away : y ≡ x → ⊥). tight y v (sym (change.others y away) ∙ there) is)
     (same_entry y x)
 
-tight_put : (es : Blocks) (c : ℕ) (v : List ℕ) → IsCode c → (IsPointers (entry_at c) → HasPointer v) → IsTight (blocks_in es) → IsTight (blocks_in (put nat_cmp c v es))
-tight_put es c v is leads = tight_changed _ _ (entry_at c) (Some v) (changed_put es c is v) (λ w same on. let e : v ≡ w = cc in subst HasPointer e (leads on))
+tight_put : (es : Blocks) (c : ℕ) (v : List ℕ) → IsCode c → (IsPointers (entry_at c) → HasPointer v) → IsTight (blocks_in es)
+    → IsTight (blocks_in (put nat_cmp c v es))
+tight_put es c v is leads =
+    tight_changed _ _ (entry_at c) (Some v) (changed_put es c is v) (λ w same on. let e : v ≡ w = cc in subst HasPointer e (leads on))
 
 tight_without : (es : Blocks) (c : ℕ) → IsCode c → IsTight (blocks_in es) → IsTight (blocks_in (without nat_cmp c es))
 tight_without es c is = tight_changed _ _ (entry_at c) None (changed_without es c is) (λ w none on. absurd cc)
 
-module _ (ps : List Place) (bs : List (List ℕ)) (spare : List ℕ) (most room : ℕ) (caps : Capacities) (h : IsTableOf ps bs spare most room caps) where
+module _ (ps : List Place) (bs : List (List ℕ)) (spare : List ℕ) (most room : ℕ) (caps : Capacities)
+    (h : IsTableOf ps bs spare most room caps) where
   pub few : length (entries_in ps bs) ≤ length bs
   few = let l = length-entries ps bs in let s = h.shared in omega arith
 
@@ -232,7 +244,8 @@ module _ (ps : List Place) (bs : List (List ℕ)) (spare : List ℕ) (most room 
       pub inserted_is : entries_in (insert ps i p) (set bs p.spot v) ≡ put nat_cmp p.key.code v (entries_in ps bs)
       inserted_is =
           map-insert (entry_in (set bs p.spot v)) ps i p
-          ∙ ap₂ (λ (es : Blocks) (x : List ℕ). insert es i (p.key.code, x)) (kept ps bs p.spot v unused) (get_or-set_same bs p.spot v [] spare_low)
+          ∙ ap₂ (λ (es : Blocks) (x : List ℕ). insert es i (p.key.code, x)) (kept ps bs p.spot v unused)
+          (get_or-set_same bs p.spot v [] spare_low)
           ∙ sym (put_gap (entries_in ps bs) p.key.code v i gap)
 
       pub held_inserted : length ps < most → IsTableOf (insert ps i p) (set bs p.spot v) spare' most room caps
@@ -244,7 +257,8 @@ module _ (ps : List Place) (bs : List (List ℕ)) (spare : List ℕ) (most room 
           let ls = ap length was ∙ length-append spare' (p.spot ∷ []) in
           let s = h.shared in
           record {
-            sorted = subst (λ (es : Blocks). T (is_sorted nat_cmp es)) (sym inserted_is) (sorted_put (entries_in ps bs) p.key.code v h.sorted);
+            sorted = subst (λ (es : Blocks). T (is_sorted nat_cmp es)) (sym inserted_is)
+                (sorted_put (entries_in ps bs) p.key.code v h.sorted);
             once = λ n.
                 let o = h.once n in
                 let t = ap (times n) (map-insert (λ (q : Place). q.spot) ps i p) ∙ times-insert n p.spot (spots ps) i in
@@ -273,7 +287,8 @@ module _ (ps : List Place) (bs : List (List ℕ)) (spare : List ℕ) (most room 
       pub added_is : entries_in (insert ps i p) (bs ++ v ∷ []) ≡ put nat_cmp p.key.code v (entries_in ps bs)
       added_is =
           map-insert (entry_in (bs ++ v ∷ [])) ps i p
-          ∙ ap₂ (λ (es : Blocks) (x : List ℕ). insert es i (p.key.code, x)) (kept_below ps bs v high) (get_or_push bs v [] p.spot (sym last))
+          ∙ ap₂ (λ (es : Blocks) (x : List ℕ). insert es i (p.key.code, x)) (kept_below ps bs v high)
+          (get_or_push bs v [] p.spot (sym last))
           ∙ sym (put_gap (entries_in ps bs) p.key.code v i gap)
 
       pub held_added : length ps < most → IsTableOf (insert ps i p) (bs ++ v ∷ []) [] most room caps
@@ -305,8 +320,10 @@ module _ (ps : List Place) (bs : List (List ℕ)) (spare : List ℕ) (most room 
             room_for_spare = h.room_for_spare;
           }
 
-pub wider : (ps : List Place) (bs : List (List ℕ)) (spare : List ℕ) (most room : ℕ) (caps caps' : Capacities) → IsTableOf ps bs spare most room caps
-    → caps.for_places ≤ caps'.for_places → caps.for_arena ≤ caps'.for_arena → caps.for_spare ≤ caps'.for_spare → IsTableOf ps bs spare most room caps'
+pub wider : (ps : List Place) (bs : List (List ℕ)) (spare : List ℕ) (most room : ℕ) (caps caps' : Capacities)
+    → IsTableOf ps bs spare most room caps
+    → caps.for_places ≤ caps'.for_places → caps.for_arena ≤ caps'.for_arena → caps.for_spare ≤ caps'.for_spare
+    → IsTableOf ps bs spare most room caps'
 wider ps bs spare most room caps caps' h places arena spots =
     let p = h.room_for_places in
     let a = h.room_for_arena in
@@ -325,13 +342,15 @@ wider ps bs spare most room caps caps' h places arena spots =
     }
 
 -- ---- numbers of keys are small
-pub numbers_small : (ps : List Place) (bs : List (List ℕ)) (j : ℕ) → j < length (entries_in ps bs) → number_at (entries_in ps bs) j < 4294967296
+pub numbers_small : (ps : List Place) (bs : List (List ℕ)) (j : ℕ) → j < length (entries_in ps bs)
+    → number_at (entries_in ps bs) j < 4294967296
 numbers_small [] bs j lt = absurd (omega arith)
 numbers_small (p ∷ ps) bs zero lt = let k = p.key.formed in let s = k.small in omega arith
 numbers_small (p ∷ ps) bs (suc j) lt = numbers_small ps bs j (omega arith)
 
 -- and each is a key's
-pub numbers_of_keys : (ps : List Place) (bs : List (List ℕ)) (j : ℕ) → j < length (entries_in ps bs) → IsCode (number_at (entries_in ps bs) j)
+pub numbers_of_keys : (ps : List Place) (bs : List (List ℕ)) (j : ℕ) → j < length (entries_in ps bs)
+    → IsCode (number_at (entries_in ps bs) j)
 numbers_of_keys [] bs j lt = absurd (omega arith)
 numbers_of_keys (p ∷ ps) bs zero lt = p.key.formed
 numbers_of_keys (p ∷ ps) bs (suc j) lt = numbers_of_keys ps bs j (omega arith)
@@ -340,19 +359,25 @@ numbers_of_keys (p ∷ ps) bs (suc j) lt = numbers_of_keys ps bs j (omega arith)
 abbrev pub value_of : Capacity → List Place → List (List ℕ) → TableValue
 value_of most ps bs = record { blocks = entries_in ps bs; capacity = most }
 
-pub small_value : (most : Capacity) (ps : List Place) (bs : List (List ℕ)) (t : TableValue) → value_of most ps bs ≡ t → (j : ℕ) → j < length t.blocks → number_at t.blocks j < 4294967296
-small_value most ps bs t view = subst (λ (u : TableValue). (j : ℕ) → j < length u.blocks → number_at u.blocks j < 4294967296) view (numbers_small ps bs)
+pub small_value : (most : Capacity) (ps : List Place) (bs : List (List ℕ)) (t : TableValue) → value_of most ps bs ≡ t → (j : ℕ)
+    → j < length t.blocks → number_at t.blocks j < 4294967296
+small_value most ps bs t view =
+    subst (λ (u : TableValue). (j : ℕ) → j < length u.blocks → number_at u.blocks j < 4294967296) view (numbers_small ps bs)
 
-pub codes_value : (most : Capacity) (ps : List Place) (bs : List (List ℕ)) (t : TableValue) → value_of most ps bs ≡ t → (j : ℕ) → j < length t.blocks → IsCode (number_at t.blocks j)
-codes_value most ps bs t view = subst (λ (u : TableValue). (j : ℕ) → j < length u.blocks → IsCode (number_at u.blocks j)) view (numbers_of_keys ps bs)
+pub codes_value : (most : Capacity) (ps : List Place) (bs : List (List ℕ)) (t : TableValue) → value_of most ps bs ≡ t → (j : ℕ)
+    → j < length t.blocks → IsCode (number_at t.blocks j)
+codes_value most ps bs t view =
+    subst (λ (u : TableValue). (j : ℕ) → j < length u.blocks → IsCode (number_at u.blocks j)) view (numbers_of_keys ps bs)
 
-pub at_value : (most : Capacity) (ps : List Place) (bs : List (List ℕ)) (t : TableValue) → value_of most ps bs ≡ t → (i : ℕ) (p : Place) → i < length ps → p ≡ get_or ps i p → HasNumberAt t.blocks p.key.code i
+pub at_value : (most : Capacity) (ps : List Place) (bs : List (List ℕ)) (t : TableValue) → value_of most ps bs ≡ t → (i : ℕ) (p : Place)
+    → i < length ps → p ≡ get_or ps i p → HasNumberAt t.blocks p.key.code i
 at_value most ps bs t view i p lt is =
     let l = length-entries ps bs in
     subst (λ (u : TableValue). HasNumberAt u.blocks p.key.code i) view
     (record { within = omega arith; number = ap (λ (e : ℕ × List ℕ). e.0) (number_is ps bs i p lt is) })
 
-module _ (ps : List Place) (bs : List (List ℕ)) (spare : List ℕ) (most room : ℕ) (caps : Capacities) (h : IsTableOf ps bs spare most room caps) (t : TableValue) (view : value_of (record { limit = most; room = room }) ps bs ≡ t) where
+module _ (ps : List Place) (bs : List (List ℕ)) (spare : List ℕ) (most room : ℕ) (caps : Capacities)
+    (h : IsTableOf ps bs spare most room caps) (t : TableValue) (view : value_of (record { limit = most; room = room }) ps bs ≡ t) where
   pub sorted_value : T (is_sorted nat_cmp t.blocks)
   sorted_value = subst (λ (u : TableValue). T (is_sorted nat_cmp u.blocks)) view h.sorted
 
@@ -369,35 +394,49 @@ module _ (ps : List Place) (bs : List (List ℕ)) (spare : List ℕ) (most room 
     pub found_at : find nat_cmp c t.blocks ≡ Some (get_or bs p.spot [])
     found_at =
         subst (λ (u : TableValue). find nat_cmp c u.blocks ≡ Some (get_or bs p.spot [])) view
-        (find_at (entries_in ps bs) h.sorted c i here ∙ ap (λ (e : ℕ × List ℕ). Some e.1) (place_is ps bs spare most room caps h i p inside is))
+        (find_at (entries_in ps bs) h.sorted c i here
+        ∙ ap (λ (e : ℕ × List ℕ). Some e.1) (place_is ps bs spare most room caps h i p inside is))
 
     pub held_at : (v : List ℕ) → IsTableOf ps (set bs p.spot v) spare most room caps
     held_at v = held_written ps bs spare most room caps h i p inside is c here v
 
-    pub put_value : (v : List ℕ) → value_of (record { limit = most; room = room }) ps (set bs p.spot v) ≡ record t { blocks = put nat_cmp c v t.blocks }
+    pub put_value : (v : List ℕ)
+        → value_of (record { limit = most; room = room }) ps (set bs p.spot v) ≡ record t { blocks = put nat_cmp c v t.blocks }
     put_value v =
-        subst (λ (u : TableValue). value_of (record { limit = most; room = room }) ps (set bs p.spot v) ≡ record u { blocks = put nat_cmp c v u.blocks }) view
-        (λ k. record { blocks = written_is ps bs spare most room caps h i p inside is c here v k; capacity = record { limit = most; room = room } })
+        subst (λ (u : TableValue). value_of (record { limit = most; room = room }) ps (set bs p.spot v)
+        ≡ record u { blocks = put nat_cmp c v u.blocks }) view
+        (λ k. record {
+          blocks = written_is ps bs spare most room caps h i p inside is c here v k;
+          capacity = record { limit = most; room = room };
+        })
 
-    pub altered_value : (f : List ℕ → List ℕ) (v : List ℕ) → v ≡ f (get_or bs p.spot []) → value_of (record { limit = most; room = room }) ps (set bs p.spot v) ≡ record t { blocks = altered f c t.blocks }
+    pub altered_value : (f : List ℕ → List ℕ) (v : List ℕ) → v ≡ f (get_or bs p.spot [])
+        → value_of (record { limit = most; room = room }) ps (set bs p.spot v) ≡ record t { blocks = altered f c t.blocks }
     altered_value f v now =
         put_value v
         ∙ ap (λ (w : List ℕ). record t { blocks = put nat_cmp c w t.blocks }) now
         ∙ ap (λ o. record t { blocks = altered_as o f c t.blocks }) (sym found_at)
 
-    pub tight_at : IsCode c → (v : List ℕ) → (IsPointers (entry_at c) → HasPointer v) → IsTight (blocks_in (entries_in ps bs)) → IsTight (blocks_in (entries_in ps (set bs p.spot v)))
-    tight_at formed v leads tight = subst (λ (es : Blocks). IsTight (blocks_in es)) (sym (written_is ps bs spare most room caps h i p inside is c here v)) (tight_put (entries_in ps bs) c v formed leads tight)
+    pub tight_at : IsCode c → (v : List ℕ) → (IsPointers (entry_at c) → HasPointer v) → IsTight (blocks_in (entries_in ps bs))
+        → IsTight (blocks_in (entries_in ps (set bs p.spot v)))
+    tight_at formed v leads tight = subst (λ (es : Blocks). IsTight (blocks_in es))
+        (sym (written_is ps bs spare most room caps h i p inside is c here v)) (tight_put (entries_in ps bs) c v formed leads tight)
 
     pub tight_left : IsCode c → IsTight (blocks_in (entries_in ps bs)) → IsTight (blocks_in (entries_in (remove ps i) bs))
-    tight_left formed tight = subst (λ (es : Blocks). IsTight (blocks_in es)) (sym (removed_is ps bs spare most room caps h i p inside is c here)) (tight_without (entries_in ps bs) c formed tight)
+    tight_left formed tight = subst (λ (es : Blocks). IsTight (blocks_in es))
+        (sym (removed_is ps bs spare most room caps h i p inside is c here)) (tight_without (entries_in ps bs) c formed tight)
 
     pub held_left : (spare' : List ℕ) → spare' ≡ spare ++ p.spot ∷ [] → IsTableOf (remove ps i) bs spare' most room caps
     held_left = held_removed ps bs spare most room caps h i p inside is c here
 
     pub removed_value : value_of (record { limit = most; room = room }) (remove ps i) bs ≡ record t { blocks = without nat_cmp c t.blocks }
     removed_value =
-        subst (λ (u : TableValue). value_of (record { limit = most; room = room }) (remove ps i) bs ≡ record u { blocks = without nat_cmp c u.blocks }) view
-        (λ k. record { blocks = removed_is ps bs spare most room caps h i p inside is c here k; capacity = record { limit = most; room = room } })
+        subst (λ (u : TableValue). value_of (record { limit = most; room = room }) (remove ps i) bs
+        ≡ record u { blocks = without nat_cmp c u.blocks }) view
+        (λ k. record {
+          blocks = removed_is ps bs spare most room caps h i p inside is c here k;
+          capacity = record { limit = most; room = room };
+        })
 
   module _ (c i : ℕ) (gap : IsGapFor t.blocks c i) where
     gap_here : IsGapFor (entries_in ps bs) c i
@@ -406,7 +445,8 @@ module _ (ps : List Place) (bs : List (List ℕ)) (spare : List ℕ) (most room 
     module _ (left : find nat_cmp c t.blocks ≡ None → length t.blocks < t.capacity.limit) where
       place_left : length ps < most
       place_left =
-          let r : length (entries_in ps bs) < most = subst (λ (u : TableValue). length u.blocks < u.capacity.limit) (sym view) (left (find_gap t.blocks c i gap)) in
+          let r : length (entries_in ps bs) < most =
+          subst (λ (u : TableValue). length u.blocks < u.capacity.limit) (sym view) (left (find_gap t.blocks c i gap)) in
           let l = length-entries ps bs in
           omega arith
 
@@ -416,11 +456,13 @@ module _ (ps : List Place) (bs : List (List ℕ)) (spare : List ℕ) (most room 
       pub arena_left : length spare ≡ 0 → length bs < caps.for_arena
       arena_left none = let l = place_left in let w = h.within in let s = h.shared in let r = h.room_for_arena in omega arith
 
-    module _ (p : Place) (key : p.key.code ≡ c) (bs' : List (List ℕ)) (spare' : List ℕ) (v : List ℕ) (stores : Stores bs spare bs' spare' v p.spot) where
+    module _ (p : Place) (key : p.key.code ≡ c) (bs' : List (List ℕ)) (spare' : List ℕ) (v : List ℕ)
+        (stores : Stores bs spare bs' spare' v p.spot) where
       gap_key : IsGapFor (entries_in ps bs) p.key.code i
       gap_key = subst (λ (n : ℕ). IsGapFor (entries_in ps bs) n i) (sym key) gap_here
 
-      pub held_put : (find nat_cmp c t.blocks ≡ None → length t.blocks < t.capacity.limit) → IsTableOf (insert ps i p) bs' spare' most room caps
+      pub held_put : (find nat_cmp c t.blocks ≡ None → length t.blocks < t.capacity.limit)
+          → IsTableOf (insert ps i p) bs' spare' most room caps
       held_put left = ⊎_elim
           (λ (old : (spare ≡ spare' ++ p.spot ∷ []) × (bs' ≡ set bs p.spot v)).
           subst (λ (b : List (List ℕ)). IsTableOf (insert ps i p) b spare' most room caps) (sym old.1)
@@ -439,12 +481,19 @@ module _ (ps : List Place) (bs : List (List ℕ)) (spare : List ℕ) (most room 
           ap (entries_in (insert ps i p)) new.3 ∙ added_is ps bs spare most room caps h new.0 p new.2 v i gap_key)
           stores
 
-      pub tight_more : (IsPointers (entry_at c) → HasPointer v) → IsTight (blocks_in (entries_in ps bs)) → IsTight (blocks_in (entries_in (insert ps i p) bs'))
+      pub tight_more : (IsPointers (entry_at c) → HasPointer v) → IsTight (blocks_in (entries_in ps bs))
+          → IsTight (blocks_in (entries_in (insert ps i p) bs'))
       tight_more leads tight =
           subst (λ (es : Blocks). IsTight (blocks_in es)) (sym stored_is)
-          (tight_put (entries_in ps bs) p.key.code v p.key.formed (subst (λ (n : ℕ). IsPointers (entry_at n) → HasPointer v) (sym key) leads) tight)
+          (tight_put (entries_in ps bs) p.key.code v p.key.formed
+          (subst (λ (n : ℕ). IsPointers (entry_at n) → HasPointer v) (sym key) leads) tight)
 
-      pub inserted_value : value_of (record { limit = most; room = room }) (insert ps i p) bs' ≡ record t { blocks = put nat_cmp c v t.blocks }
+      pub inserted_value : value_of (record { limit = most; room = room }) (insert ps i p) bs'
+          ≡ record t { blocks = put nat_cmp c v t.blocks }
       inserted_value =
-          subst (λ (u : TableValue). value_of (record { limit = most; room = room }) (insert ps i p) bs' ≡ record u { blocks = put nat_cmp c v u.blocks }) view
-          (λ k. record { blocks = (stored_is ∙ ap (λ (n : ℕ). put nat_cmp n v (entries_in ps bs)) key) k; capacity = record { limit = most; room = room } })
+          subst (λ (u : TableValue). value_of (record { limit = most; room = room }) (insert ps i p) bs'
+          ≡ record u { blocks = put nat_cmp c v u.blocks }) view
+          (λ k. record {
+            blocks = (stored_is ∙ ap (λ (n : ℕ). put nat_cmp n v (entries_in ps bs)) key) k;
+            capacity = record { limit = most; room = room };
+          })

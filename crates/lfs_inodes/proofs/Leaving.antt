@@ -1,5 +1,6 @@
 -- Blocks leave the table, from the last place of the index to the first.
-use Rattle.std.proofs.Common.{◌≡◌, ◌<◌, ◌≤◌, ⊎_elim, ◌+◌, ◌/◌, ◌%◌, ℕ, zero, suc, List, [], length, Some, None, refl, sym, ◌∙◌, ap, subst, arith}
+use Rattle.std.proofs.Common.{◌≡◌, ◌<◌, ◌≤◌, ⊎_elim, ◌+◌, ◌/◌, ◌%◌, ℕ, zero, suc, List, [], length, Some, None, refl, sym, ◌∙◌, ap, subst}
+use Rattle.std.proofs.Common.{arith}
 use Rattle.std.specs.List.{remove}
 use Rattle.std.proofs.lemmas.Bool.{cases_eq}
 use Rattle.std.proofs.lemmas.List.Edits.{get_or-remove_above, length-remove}
@@ -36,37 +37,16 @@ pub record LeavesFrom (old new : TableValue) (goes stays : Entry → Type 0) (at
   pub capacity : new.capacity ≡ old.capacity
 
 module _ (goes stays : Entry → Type 0) where
-  pub leaves_begins : (t : TableValue) (at : ℕ) → at ≡ length t.blocks → ((j : ℕ) → j < length t.blocks → IsCode (number_at t.blocks j)) → LeavesFrom t t goes stays at
-  leaves_begins t at all codes = record {
-    kept = λ x is. refl;
-    away = λ j le lt on. absurd (omega (arith, le, lt, all));
-    codes = codes;
-    low = omega (arith, all);
-    few = omega arith;
-    capacity = refl;
-  }
-
-  -- the block at a place stays
-  pub leaves_over : (old mid : TableValue) (at a : ℕ) → suc a ≡ at → LeavesFrom old mid goes stays at → (goes (entry_at (number_at mid.blocks a)) → ⊥) → LeavesFrom old mid goes stays a
-  leaves_over old mid at a next was off = record {
-    kept = was.kept;
-    away = λ j le lt on. ⊎_elim
-        (λ (here : j ≡ a). off (subst (λ (i : ℕ). goes (entry_at (number_at mid.blocks i))) here on))
-        (λ (ne : j ≡ a → ⊥). was.away j (omega (arith, le, ne, next)) lt on)
-        (cases_eq j a);
-    codes = was.codes;
-    low = let low = was.low in omega (arith, low, next);
-    few = was.few;
-    capacity = was.capacity;
-  }
-
   -- it goes
-  pub leaves_out : ((x : Entry) → goes x → stays x → ⊥) → (old mid new : TableValue) (at a : ℕ) → suc a ≡ at → LeavesFrom old mid goes stays at → goes (entry_at (number_at mid.blocks a))
-      → new ≡ record mid { blocks = remove mid.blocks a } → ChangesTo (blocks_of mid) (blocks_of new) (entry_at (number_at mid.blocks a)) None
+  pub leaves_out : ((x : Entry) → goes x → stays x → ⊥) → (old mid new : TableValue) (at a : ℕ) → suc a ≡ at
+      → LeavesFrom old mid goes stays at → goes (entry_at (number_at mid.blocks a))
+      → new ≡ record mid { blocks = remove mid.blocks a }
+      → ChangesTo (blocks_of mid) (blocks_of new) (entry_at (number_at mid.blocks a)) None
       → ((j : ℕ) → j < length new.blocks → IsCode (number_at new.blocks j)) → LeavesFrom old new goes stays a
   leaves_out apart old mid new at a next was on is change codes = record {
     kept = λ x st. change.others x (λ here. apart x (subst goes (sym here) on) st) ∙ was.kept x st;
-    away = λ j le lt now. was.away (j + 1) (omega (arith, le, next)) (omega (arith, lt, less)) (subst (λ (n : ℕ). goes (entry_at n)) (above j le) now);
+    away = λ j le lt now.
+        was.away (j + 1) (omega (arith, le, next)) (omega (arith, lt, less)) (subst (λ (n : ℕ). goes (entry_at n)) (above j le) now);
     codes = codes;
     low = let low = was.low in omega (arith, low, next, less);
     few = let few = was.few in omega (arith, few, less);
@@ -77,13 +57,16 @@ module _ (goes stays : Entry → Type 0) where
       inside = let low = was.low in omega (arith, low, next)
 
       less : length new.blocks + 1 ≡ length mid.blocks
-      less = let size = ap (λ (t : TableValue). length t.blocks) is in let left = length-remove mid.blocks a inside in omega (arith, size, left)
+      less = let size = ap (λ (t : TableValue). length t.blocks) is in let left = length-remove mid.blocks a inside in
+          omega (arith, size, left)
 
       above : (j : ℕ) → a ≤ j → number_at new.blocks j ≡ number_at mid.blocks (j + 1)
-      above j le = ap (λ (t : TableValue). number_at t.blocks j) is ∙ ap (λ (e : ℕ × List ℕ). e.0) (get_or-remove_above mid.blocks a (0, []) j le inside)
+      above j le = ap (λ (t : TableValue). number_at t.blocks j) is
+          ∙ ap (λ (e : ℕ × List ℕ). e.0) (get_or-remove_above mid.blocks a (0, []) j le inside)
 
   -- at the first place none is left
-  pub leaves_ends : (old new : TableValue) (at : ℕ) → at ≤ 0 → LeavesFrom old new goes stays at → (x : Entry) → goes x → blocks_of new x ≡ None
+  pub leaves_ends : (old new : TableValue) (at : ℕ) → at ≤ 0 → LeavesFrom old new goes stays at → (x : Entry) → goes x
+      → blocks_of new x ≡ None
   leaves_ends old new at first was x on = find_none new.blocks (code x) (λ j lt same.
       let is = was.codes j lt in
       let small = is.small in

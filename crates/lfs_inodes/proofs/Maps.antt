@@ -1,5 +1,7 @@
 -- The inode map in memory: what a loop leaves of it, and what its blocks spell.
-use Rattle.std.proofs.Common.{Fits, w32, slice_index_or, [], ◌∷◌, ◌^◌, IfSome, None, Option, Some, ◌≡◌, ◌<◌, ◌≤◌, ⊎_elim, ◌+◌, ◌*◌, not, ℕ, zero, suc, Bool, true, false, cond, List, length, get_or, set, replicate, refl, sym, ◌∙◌, ap, arith, get_or-set_other, get_or-set_same}
+use Rattle.std.proofs.Common.{Fits, w32, slice_index_or, [], ◌∷◌, ◌^◌, IfSome, None, Option, Some, ◌≡◌, ◌<◌, ◌≤◌, ⊎_elim, ◌+◌, ◌*◌, not, ℕ}
+use Rattle.std.proofs.Common.{zero, suc, Bool, true, false, cond, List, length, get_or, set, replicate, refl, sym, ◌∙◌, ap, arith}
+use Rattle.std.proofs.Common.{get_or-set_other, get_or-set_same}
 use Rattle.std.proofs.lemmas.Bool.{cases_eq}
 use Rattle.lfs_model.specs.Fields.{read32}
 use Rattle.lfs_model.specs.Pointers.{FitsPointers, pointer_sector}
@@ -18,22 +20,14 @@ pub record IsLoading (old new : List ℕ) (at i : ℕ) (block : List ℕ) : Type
   pub before : (n : ℕ) → n < at → get_or new n 0 ≡ get_or old n 0
   pub past : (n : ℕ) → at + i ≤ n → get_or new n 0 ≡ get_or old n 0
 
-pub loading_more : (old new : List ℕ) (at i x : ℕ) (block : List ℕ) → IsLoading old new at i block → at + i < length new → x ≡ get_or block i 0 → IsLoading old (set new (at + i) x) at (i + 1) block
-loading_more old new at i x block l room is = record {
-  own = λ k lt. ⊎_elim
-      (λ (here : k ≡ i). ap (λ (j : ℕ). get_or (set new (at + i) x) (at + j) 0) here ∙ get_or-set_same new (at + i) x 0 room ∙ is ∙ ap (λ (j : ℕ). get_or block j 0) (sym here))
-      (λ (ne : k ≡ i → ⊥). get_or-set_other new (at + i) (at + k) x 0 (λ e. ne (omega arith)) ∙ l.own k (omega arith))
-      (cases_eq k i);
-  before = λ n lt. get_or-set_other new (at + i) n x 0 (λ e. omega arith) ∙ l.before n lt;
-  past = λ n le. get_or-set_other new (at + i) n x 0 (λ e. omega arith) ∙ l.past n (omega arith);
-}
-
 -- the words of a block of addresses
 pub word_of_pointers : (ns : List ℕ) (i : ℕ) → FitsPointers ns → i < 128 → word (pointer_sector ns) i ≡ get_or ns i 0
 unfolding word
-word_of_pointers ns i fits low = sym (get_or-run read32 4 128 0 (pointer_sector ns) i 0 low ∙ ap (λ (k : ℕ). read32 k (pointer_sector ns)) (omega arith)) ∙ ap (λ (xs : List ℕ). get_or xs i 0) (pointers_back ns fits)
+word_of_pointers ns i fits low = sym (get_or-run read32 4 128 0 (pointer_sector ns) i 0 low
+    ∙ ap (λ (k : ℕ). read32 k (pointer_sector ns)) (omega arith)) ∙ ap (λ (xs : List ℕ). get_or xs i 0) (pointers_back ns fits)
 
-module _ (v : MapValue) (j : ℕ) (ns : List ℕ) (fits : FitsPointers ns) (each : (i : ℕ) → i < 128 → get_or ns i 0 ≡ shown_in v (128 * j + i)) where
+module _ (v : MapValue) (j : ℕ) (ns : List ℕ) (fits : FitsPointers ns)
+    (each : (i : ℕ) → i < 128 → get_or ns i 0 ≡ shown_in v (128 * j + i)) where
   pub spells_shown : (i : ℕ) × (i < 128) × (0 < get_or ns i 0) → SpellsShown v j (pointer_sector ns)
   spells_shown some = record {
     long = length-pointers ns fits;
@@ -42,7 +36,8 @@ module _ (v : MapValue) (j : ℕ) (ns : List ℕ) (fits : FitsPointers ns) (each
   }
 
   -- the block, if there is one
-  pub spelled_shown : (r : Option (List ℕ)) → IfSome r (λ bytes. bytes ≡ pointer_sector ns) → IfSome r (λ bytes. (i : ℕ) × (i < 128) × (0 < get_or ns i 0)) → IfSome r (SpellsShown v j)
+  pub spelled_shown : (r : Option (List ℕ)) → IfSome r (λ bytes. bytes ≡ pointer_sector ns)
+      → IfSome r (λ bytes. (i : ℕ) × (i < 128) × (0 < get_or ns i 0)) → IfSome r (SpellsShown v j)
   spelled_shown None is some = tt
   spelled_shown (Some bytes) is some = rw is (spells_shown some)
 
@@ -59,7 +54,8 @@ shown_one false a = refl
 
 module _ (v : MapValue) (m : LogMap) (t : Tables) (is : IsMapOf v m t) where
   pub shown_is : (n : ℕ) → n < 4096 → shown m t.at (Inode n) ≡ shown_in v n
-  shown_is n few = ap (λ (b : Bool). cond (not b) (t.at (Inode n)) 0) (is.hidden n few) ∙ ap (λ (a : ℕ). cond (not (is_hidden_in v n)) a 0) (is.inodes n few) ∙ sym (shown_one (is_hidden_in v n) (address_in v n))
+  shown_is n few = ap (λ (b : Bool). cond (not b) (t.at (Inode n)) 0) (is.hidden n few)
+      ∙ ap (λ (a : ℕ). cond (not (is_hidden_in v n)) a 0) (is.inodes n few) ∙ sym (shown_one (is_hidden_in v n) (address_in v n))
 
   pub spells_map : (j : ℕ) (bytes : List ℕ) → j < 32 → SpellsShown v j bytes → AreSettled m t j → SpellsMap m t j bytes
   spells_map j bytes low s settled = record {
@@ -73,15 +69,13 @@ module _ (v : MapValue) (m : LogMap) (t : Tables) (is : IsMapOf v m t) where
   spelled_map j None low s settled = tt
   spelled_map j (Some bytes) low s settled = spells_map j bytes low s settled
 
-  pub shows_none : (j : ℕ) → j < 32 → ShowsNone v j → (i : ℕ) → i < 128 → shown m t.at (Inode (128 * j + i)) ≡ 0
-  shows_none j low none i lt = shown_is (128 * j + i) (omega arith) ∙ none i lt
-
 all_default : {X : Type 0} (n k : ℕ) (x : X) → get_or (replicate n x) k x ≡ x
 all_default zero k x = refl
 all_default (suc n) zero x = refl
 all_default (suc n) (suc k) x = all_default n k x
 
-pub empty_map : (n : ℕ) (xs : List ℕ) (hs : List Bool) → xs ≡ replicate n 0 → hs ≡ replicate n false → IsEmptyMap record { addresses = xs; hidden = hs; blocks = replicate 32 0 }
+pub empty_map : (n : ℕ) (xs : List ℕ) (hs : List Bool) → xs ≡ replicate n 0 → hs ≡ replicate n false
+    → IsEmptyMap record { addresses = xs; hidden = hs; blocks = replicate 32 0 }
 empty_map n xs hs a h = record {
   addresses = λ k. ap (λ (ys : List ℕ). get_or ys k 0) a ∙ all_default n k 0;
   hidden = λ k. ap (λ (xs : List Bool). get_or xs k false) h ∙ all_default n k false;

@@ -1,5 +1,6 @@
 -- The block with the least number, and a block that leaves memory.
-use Rattle.std.proofs.Common.{◌≡◌, ◌<◌, ◌≤◌, ⊎_elim, ◌+◌, cond, ℕ, zero, suc, List, [], length, get_or, Option, Some, None, sym, ◌∙◌, ap, subst, arith}
+use Rattle.std.proofs.Common.{◌≡◌, ◌<◌, ◌≤◌, ⊎_elim, ◌+◌, cond, ℕ, zero, suc, List, [], length, get_or, Option, Some, None, sym, ◌∙◌, ap}
+use Rattle.std.proofs.Common.{subst, arith}
 use Rattle.std.specs.Prelude.{T, is_some}
 use Rattle.std.specs.Ordering.{nat_cmp}
 use Rattle.std.specs.FinMap.{find, is_sorted}
@@ -57,21 +58,24 @@ module _ (es : Blocks) (sorted : T (is_sorted nat_cmp es)) (small : AreSmall es)
   first_is_lowest = record {
     bytes = (get_or es 0 (0, [])).1;
     there = entry_found es c k ∙ find_at es sorted c 0 at;
-    lowest = λ y v above there. ⊎_elim (λ (same : y ≡ entry_at c). same) (λ (ne : y ≡ entry_at c → ⊥). absurd (none_below y v above there ne)) (same_entry y (entry_at c));
+    lowest = λ y v above there. ⊎_elim (λ (same : y ≡ entry_at c). same)
+        (λ (ne : y ≡ entry_at c → ⊥). absurd (none_below y v above there ne)) (same_entry y (entry_at c));
   }
 
 -- ---- what leaves was there
 pub differ : (c d : ℕ) → IsCode c → IsCode d → c < d → entry_at c ≡ entry_at d → ⊥
 differ c d is at lt same = let e = sym (code_entry c is) ∙ ap code same ∙ code_entry d at in omega arith
 
-pub one_less : (mid new : Blocks) (c n : ℕ) (v : List ℕ) → find nat_cmp c mid ≡ Some v → cond (is_some (find nat_cmp c mid)) 1 0 + length new ≡ length mid → length mid ≡ n → length new + 1 ≡ n
+pub one_less : (mid new : Blocks) (c n : ℕ) (v : List ℕ) → find nat_cmp c mid ≡ Some v
+    → cond (is_some (find nat_cmp c mid)) 1 0 + length new ≡ length mid → length mid ≡ n → length new + 1 ≡ n
 one_less mid new c n v found count same =
     let flip : length new + 1 ≡ 1 + length new = omega arith in
     let one : length new + 1 ≡ length mid = flip ∙ ap (λ (o : Option (List ℕ)). cond (is_some o) 1 0 + length new) (sym found) ∙ count in
     one ∙ same
 
 -- the same of the table's value
-pub lowest_value : (t : TableValue) → T (is_sorted nat_cmp t.blocks) → AreSmall t.blocks → (c : ℕ) → IsCode c → HasNumberAt t.blocks c 0 → IsLowest (blocks_of t) (entry_at c)
+pub lowest_value : (t : TableValue) → T (is_sorted nat_cmp t.blocks) → AreSmall t.blocks → (c : ℕ) → IsCode c → HasNumberAt t.blocks c 0
+    → IsLowest (blocks_of t) (entry_at c)
 lowest_value t = first_is_lowest t.blocks
 
 -- ---- what stands at a number, how many there are and may be, stays as the block above is patched
@@ -87,7 +91,8 @@ same_self now mid c same = record {
   room = ap (λ (t : TableValue). t.capacity) same;
 }
 
-pub same_patched : (now mid new : TableValue) (c d : ℕ) (o : Option (List ℕ)) → IsCode c → IsCode d → c < d → mid ≡ new → length new.blocks ≡ length now.blocks → new.capacity ≡ now.capacity
+pub same_patched : (now mid new : TableValue) (c d : ℕ) (o : Option (List ℕ)) → IsCode c → IsCode d → c < d → mid ≡ new
+    → length new.blocks ≡ length now.blocks → new.capacity ≡ now.capacity
     → ChangesTo (blocks_of now) (blocks_of new) (entry_at d) o → IsSameAt now mid c
 same_patched now mid new c d o is at lt same count room changes = record {
   found =
@@ -97,14 +102,16 @@ same_patched now mid new c d o is at lt same count room changes = record {
   room = ap (λ (t : TableValue). t.capacity) same ∙ room;
 }
 
-pub still_room : (now mid : TableValue) (c : ℕ) → IsSameAt now mid c → (find nat_cmp c now.blocks ≡ None → length now.blocks < now.capacity.limit) → find nat_cmp c mid.blocks ≡ None → length mid.blocks < mid.capacity.limit
+pub still_room : (now mid : TableValue) (c : ℕ) → IsSameAt now mid c → (find nat_cmp c now.blocks ≡ None
+    → length now.blocks < now.capacity.limit) → find nat_cmp c mid.blocks ≡ None → length mid.blocks < mid.capacity.limit
 still_room now mid c same room none =
     let r = room (sym same.found ∙ none) in
     let n = same.count in
     let m = ap (λ (k : Capacity). k.limit) same.room in
     omega arith
 
-pub still_counts : (now mid : TableValue) (c n : ℕ) → IsSameAt now mid c → n ≡ cond (is_some (find nat_cmp c mid.blocks)) (length mid.blocks) (length mid.blocks + 1)
+pub still_counts : (now mid : TableValue) (c n : ℕ) → IsSameAt now mid c
+    → n ≡ cond (is_some (find nat_cmp c mid.blocks)) (length mid.blocks) (length mid.blocks + 1)
     → n ≡ cond (is_some (find nat_cmp c now.blocks)) (length now.blocks) (length now.blocks + 1)
 still_counts now mid c n same is =
     is ∙ ap (λ (o : Option (List ℕ)). cond (is_some o) (length mid.blocks) (length mid.blocks + 1)) same.found

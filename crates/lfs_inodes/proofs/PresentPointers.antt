@@ -1,5 +1,6 @@
 -- Pointers of blocks in memory and on the device are what memory has for the blocks below them.
-use Rattle.std.proofs.Common.{◌≡◌, ◌<◌, ◌≤◌, ⊎_elim, ◌+◌, ◌*◌, ◌-◌, ◌/◌, ◌%◌, ◌==◌, ℕ, zero, suc, true, false, List, refl, sym, ◌∙◌, ap, subst, arith}
+use Rattle.std.proofs.Common.{◌≡◌, ◌<◌, ◌≤◌, ⊎_elim, ◌+◌, ◌*◌, ◌-◌, ◌/◌, ◌%◌, ◌==◌, ℕ, zero, suc, true, false, List, refl, sym, ◌∙◌, ap}
+use Rattle.std.proofs.Common.{subst, arith}
 use Rattle.std.proofs.lemmas.Bool.{cases_eq, cases_lt, cond-true, cond-false, lt-ltb, le-ltb}
 use Rattle.std.proofs.lemmas.Bool.Decides.{nat_tests}
 use Rattle.lfs_model.specs.Content.{Content, bytes_of, block}
@@ -24,7 +25,8 @@ on_device content dirty x a ne = cond-false _ _ _ (not_one a ne)
     not_one : (a : ℕ) → (a ≡ 1 → ⊥) → (a == 1) ≡ false
     not_one a ne = grind (arith, nat_tests)
 
-module _ (content : Content) (m : LogMap) (M : Memory) (o : ℕ) (dirty : Dirty) (laid : IsLaid content m M o) (cached : IsCached dirty M) where
+module _ (content : Content) (m : LogMap) (M : Memory) (o : ℕ) (dirty : Dirty) (laid : IsLaid content m M o)
+    (cached : IsCached dirty M) where
   -- the block of an entry of a file is what memory has
   pub present_is : (x : Entry) → IsOfFile x → 0 < M.at x → present content dirty x (M.at x) ≡ M.bytes x
   present_is x file some =
@@ -59,7 +61,8 @@ module _ (content : Content) (m : LogMap) (M : Memory) (o : ℕ) (dirty : Dirty)
         ap (λ (b : List ℕ). word b q) (present_is (Double n) (n, refl) there) ∙ laid.spells (Double n) there q (omega arith))
         (cases_lt (M.at (Double n)) 1)
 
-    past_is : (q j : ℕ) → q ≤ 128 → j < 128 → word (present content dirty (Leaf n q) (leaf_now content dirty n (M.bytes (Inode n)) q)) j ≡ M.at (Data n (112 + 128 * q + j))
+    past_is : (q j : ℕ) → q ≤ 128 → j < 128
+        → word (present content dirty (Leaf n q) (leaf_now content dirty n (M.bytes (Inode n)) q)) j ≡ M.at (Data n (112 + 128 * q + j))
     past_is q j low lt =
         ap (λ (a : ℕ). word (present content dirty (Leaf n q) a) j) (leaf_is q low)
         ∙ ⊎_elim
@@ -69,7 +72,8 @@ module _ (content : Content) (m : LogMap) (M : Memory) (o : ℕ) (dirty : Dirty)
         (λ (no_data : M.at (Data n (112 + 128 * q + j)) < 1). let e : 0 ≡ M.at (Data n (112 + 128 * q + j)) = omega arith in e)
         (λ (data_there : 1 ≤ M.at (Data n (112 + 128 * q + j))).
         let place : (112 + 128 * q + j - 112) / 128 ≡ q = omega arith in
-        let above : parent (Data n (112 + 128 * q + j)) ≡ Leaf n q = data_parent_high n (112 + 128 * q + j) (omega arith) ∙ ap (Leaf n) place in
+        let above : parent (Data n (112 + 128 * q + j)) ≡ Leaf n q = data_parent_high n (112 + 128 * q + j) (omega arith)
+        ∙ ap (Leaf n) place in
         let d : 0 < M.at (Leaf n q) = subst (λ (x : Entry). 0 < M.at x) above (laid.down (Data n (112 + 128 * q + j)) data_there) in
         absurd (omega arith))
         (cases_lt (M.at (Data n (112 + 128 * q + j))) 1))

@@ -1,5 +1,6 @@
 -- What a binary search over the index finds.
-use Rattle.std.proofs.Common.{◌≡◌, ◌<◌, ◌≤◌, ⊎_elim, ℕ, zero, suc, List, [], ◌∷◌, length, get_or, Result, Ok, Err, IfOk, IfErr, refl, sym, ◌∙◌, ap, subst, arith}
+use Rattle.std.proofs.Common.{◌≡◌, ◌<◌, ◌≤◌, ⊎_elim, ℕ, zero, suc, List, [], ◌∷◌, length, get_or, Result, Ok, Err, IfOk, IfErr, refl, sym}
+use Rattle.std.proofs.Common.{◌∙◌, ap, subst, arith}
 use Rattle.std.specs.Prelude.{T}
 use Rattle.std.specs.List.Sorted.{IsSearchInRange, IsBinarySearchResult, IsNonDecreasingBy}
 use Rattle.std.specs.Ordering.{nat_cmp, ordering_index}
@@ -15,12 +16,19 @@ use Rattle.lfs_inodes.proofs.Blocks.{rises}
 use Rattle.lfs_inodes.proofs.Held.{length-entries, value_of}
 
 is_code : IsCode 32768
-is_code = record { small = omega arith; file = omega arith; data_index = λ h. omega arith; leaf_index = λ h. omega arith; no_index = λ h. omega arith }
+is_code = record {
+  small = omega arith;
+  file = omega arith;
+  data_index = λ h. omega arith;
+  leaf_index = λ h. omega arith;
+  no_index = λ h. omega arith;
+}
 
 some_place : Place
 some_place = record { key = record { code = 32768; formed = is_code }; spot = 0 }
 
-number_of_place : (ps : List Place) (bs : List (List ℕ)) (i : ℕ) (d : Place) → i < length ps → number_at (entries_in ps bs) i ≡ (get_or ps i d).key.code
+number_of_place : (ps : List Place) (bs : List (List ℕ)) (i : ℕ) (d : Place) → i < length ps
+    → number_at (entries_in ps bs) i ≡ (get_or ps i d).key.code
 number_of_place [] bs i d lt = absurd (omega arith)
 number_of_place (p ∷ ps) bs zero d lt = refl
 number_of_place (p ∷ ps) bs (suc i) d lt = number_of_place ps bs i d (omega arith)
@@ -54,8 +62,10 @@ module _ (ps : List Place) (bs : List (List ℕ)) (sorted : T (is_sorted nat_cmp
         let parts = parted comparisons_rise in
         record {
           within = omega arith;
-          before = λ j lt. let n = number_of_place ps bs j some_place (omega arith) in let c = ranked _ k _ (sym (parts.0 j some_place (omega arith) lt)) in omega arith;
-          after = λ j le lt. let n = number_of_place ps bs j some_place (omega arith) in let c = ranked _ k _ (sym (parts.1 j some_place le (omega arith))) in omega arith;
+          before = λ j lt. let n = number_of_place ps bs j some_place (omega arith) in
+              let c = ranked _ k _ (sym (parts.0 j some_place (omega arith) lt)) in omega arith;
+          after = λ j le lt. let n = number_of_place ps bs j some_place (omega arith) in
+              let c = ranked _ k _ (sym (parts.1 j some_place le (omega arith))) in omega arith;
         };
   }
 
@@ -63,9 +73,12 @@ module _ (ps : List Place) (bs : List (List ℕ)) (sorted : T (is_sorted nat_cmp
 abbrev pub IsFoundIn : TableValue → ℕ → Result ℕ ℕ → Type 0
 IsFoundIn t k r = record { found : IfOk r (HasNumberAt t.blocks k); missing : IfErr r (IsGapFor t.blocks k) }
 
-module _ (ps : List Place) (bs : List (List ℕ)) (sorted : T (is_sorted nat_cmp (entries_in ps bs))) (most : Capacity) (t : TableValue) (view : value_of most ps bs ≡ t) where
-  pub found_in : (xs : List Place) → xs ≡ ps → (n k : ℕ) → n ≡ k → (r : Result ℕ ℕ) → IsSearchInRange r (length xs) → IsBinarySearchResult (λ (p : Place). nat_cmp p.key.code n) xs r → IsFoundIn t k r
+module _ (ps : List Place) (bs : List (List ℕ)) (sorted : T (is_sorted nat_cmp (entries_in ps bs))) (most : Capacity) (t : TableValue)
+    (view : value_of most ps bs ≡ t) where
+  pub found_in : (xs : List Place) → xs ≡ ps → (n k : ℕ) → n ≡ k → (r : Result ℕ ℕ) → IsSearchInRange r (length xs)
+      → IsBinarySearchResult (λ (p : Place). nat_cmp p.key.code n) xs r → IsFoundIn t k r
   found_in xs same n k is r within answer =
-      let P : List Place → ℕ → Type 0 = λ ys m. IsSearchInRange r (length ys) → IsBinarySearchResult (λ (p : Place). nat_cmp p.key.code m) ys r → IsFoundIn t k r in
+      let P : List Place → ℕ → Type 0 = λ ys m. IsSearchInRange r (length ys)
+      → IsBinarySearchResult (λ (p : Place). nat_cmp p.key.code m) ys r → IsFoundIn t k r in
       let own : P ps k = λ w a. subst (λ (u : TableValue). IsFoundIn u k r) view (searched ps bs sorted k r w a) in
       subst (λ (m : ℕ). P xs m) (sym is) (subst (λ (ys : List Place). P ys k) (sym same) own) within answer

@@ -5,7 +5,8 @@ use Rattle.lfs_model.specs.Entry.{Entry}
 use Rattle.lfs_model.specs.Memory.{patched}
 use Rattle.lfs_model.specs.Running.{Dirty}
 
--- the blocks in memory without the data blocks of a file from block `first` on, and without the blocks of pointers that have only those below them
+-- the blocks in memory without the data blocks of a file from block `first`
+-- on, and without the blocks of pointers that have only those below them
 pub record LeavesPast (old new : Dirty) (n first : ℕ) : Type 0 where
   pub none : (x : Entry) → is_past n first x ≡ true → new x ≡ None
   pub kept : (x : Entry) → is_past n first x ≡ false → new x ≡ old x

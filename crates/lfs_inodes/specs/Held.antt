@@ -31,7 +31,8 @@ pub record Capacities : Type 0 where
   pub for_arena : ℕ
   pub for_spare : ℕ
 
-pub record IsTableOf (places : List Place) (arena : List (List ℕ)) (spare : List ℕ) (limit room : ℕ) (capacities : Capacities) : Type 0 where
+pub record IsTableOf (places : List Place) (arena : List (List ℕ)) (spare : List ℕ) (limit room : ℕ)
+    (capacities : Capacities) : Type 0 where
   pub sorted : T (is_sorted nat_cmp (entries_in places arena))
   -- each block of the arena is a place's, or spare, and no more than one of these
   pub once : (s : ℕ) → times s (spots places) + times s spare ≡ one_below (length arena) s
@@ -54,4 +55,5 @@ IsTightUnless loose places arena = loose ≡ false → IsTight (blocks_in (entri
 -- a block is stored at a spot that was spare, or behind all others where none was
 abbrev pub Stores : List (List ℕ) → List ℕ → List (List ℕ) → List ℕ → List ℕ → ℕ → Type 0
 Stores arena spare arena' spare' block s =
-    ((spare ≡ spare' ++ s ∷ []) × (arena' ≡ set arena s block)) ⊎ ((spare ≡ []) × (spare' ≡ []) × (s ≡ length arena) × (arena' ≡ arena ++ block ∷ []))
+    ((spare ≡ spare' ++ s ∷ []) × (arena' ≡ set arena s block))
+    ⊎ ((spare ≡ []) × (spare' ≡ []) × (s ≡ length arena) × (arena' ≡ arena ++ block ∷ []))

@@ -15,7 +15,8 @@ leaf_in content inode (suc q) = word (block content (word inode 121)) q
 
 -- the address of a data block
 abbrev pub data_in : Content → List ℕ → ℕ → ℕ
-data_in content inode i = cond (nat_lt i 112) (word inode (8 + i)) (word (block content (leaf_in content inode ((i - 112) / 128))) ((i - 112) % 128))
+data_in content inode i =
+    cond (nat_lt i 112) (word inode (8 + i)) (word (block content (leaf_in content inode ((i - 112) / 128))) ((i - 112) % 128))
 
 -- the address of a block of the inode's file; no pointer leads to an inode or to a block of a table
 abbrev pub pointed : Content → List ℕ → Entry → ℕ
@@ -36,7 +37,8 @@ abbrev pub IsLeafLost : Content → List ℕ → ℕ → Type 0
 IsLeafLost content inode q = (1 ≤ q) × IsLost content (word inode 121)
 
 abbrev pub IsDataLost : Content → List ℕ → ℕ → Type 0
-IsDataLost content inode i = (112 ≤ i) × (IsLeafLost content inode ((i - 112) / 128) ⊎ IsLost content (leaf_in content inode ((i - 112) / 128)))
+IsDataLost content inode i = (112 ≤ i)
+    × (IsLeafLost content inode ((i - 112) / 128) ⊎ IsLost content (leaf_in content inode ((i - 112) / 128)))
 
 abbrev pub IsWayLost : Content → List ℕ → Entry → Type 0
 IsWayLost content inode (Data n i) = IsDataLost content inode i

@@ -39,9 +39,12 @@ abbrev pub IsLeafAway : Content → List ℕ → ℕ → Type 0
 IsLeafAway content inode q = (1 ≤ q) × IsAway content (word inode 121)
 
 abbrev pub IsDataAway : Content → Dirty → ℕ → List ℕ → ℕ → Type 0
-IsDataAway content dirty n inode i = (112 ≤ i) × (IsLeafAway content inode ((i - 112) / 128) ⊎ IsAway content (leaf_now content dirty n inode ((i - 112) / 128)))
+IsDataAway content dirty n inode i = (112 ≤ i)
+    × (IsLeafAway content inode ((i - 112) / 128) ⊎ IsAway content (leaf_now content dirty n inode ((i - 112) / 128)))
 
--- Where memory and device are laid out for a log map, this is what memory has for the block: 0 for none, 1 for one in memory, else its address.
+-- Where memory and device are laid out for a log map, this is what memory
+-- has for the block: 0 for none, 1 for one in memory, else its address.
 abbrev pub PresentIsLaid : Type 0
-PresentIsLaid = (content : Content) (m : LogMap) (M : Memory) (open_segment : ℕ) (dirty : Dirty) → IsLaid content m M open_segment → IsCached dirty M
+PresentIsLaid = (content : Content) (m : LogMap) (M : Memory) (open_segment : ℕ) (dirty : Dirty) → IsLaid content m M open_segment
+    → IsCached dirty M
     → (n i : ℕ) → 0 < M.at (Inode n) → i < 16624 → data_now content dirty n (M.bytes (Inode n)) i ≡ M.at (Data n i)

@@ -1,6 +1,7 @@
 -- What `byteorder` reads, in the words of the formats.
 use Rattle.std.proofs.Common.{◌≡◌, ◌≤◌, ◌+◌, ◌-◌, ◌*◌, ℕ, zero, suc, List, [], ◌∷◌, length, take, drop, refl, sym, ap, ◌∙◌, arith, inl, inr}
-use Rattle.std.proofs.lemmas.List.{take-append-drop, drop-drop, length-drop, length-take-le, get_or-drop, get_or_past, nil_from_length, take_all, length-take}
+use Rattle.std.proofs.lemmas.List.{take-append-drop, drop-drop, length-drop, length-take-le, get_or-drop, get_or_past, nil_from_length}
+use Rattle.std.proofs.lemmas.List.{take_all, length-take}
 use Rattle.std.proofs.lemmas.Bool.{cases_lt}
 use Rattle.byteorder.specs.Endian.{little_from, little_number, IsRead}
 use Rattle.byteorder.specs.Numbers.{little_from-cons, little_from-lt}
@@ -41,14 +42,18 @@ words_of_read src (d ∷ ds) long fits read =
     let front : le32 d ≡ take 4 src = ap le32 first ∙ le32_of_number (take 4 src) short (λ i. taken_fits 4 src fits i) in
     let rest : words ds ≡ drop 4 src = words_of_read (drop 4 src) ds (omega (arith, length-drop 4 src))
     (λ i. rw (get_or-drop 4 src i 0) (fits (4 + i)))
-    (λ k lt. read (suc k) (omega arith) ∙ ap (little_number 4) (ap (λ (m : ℕ). drop m src) (omega arith) ∙ sym (drop-drop (4 * k) 4 src))) in
+    (λ k lt. read (suc k) (omega arith)
+    ∙ ap (little_number 4) (ap (λ (m : ℕ). drop m src) (omega arith) ∙ sym (drop-drop (4 * k) 4 src))) in
     rw (front, rest) (take-append-drop 4 src)
 
-pub words_at : (at n : ℕ) (s ns : List ℕ) → length s ≡ 512 → IsBytes s → at + 4 * n ≤ 512 → length ns ≡ n → IsRead little_number 4 (take (at + 4 * n - at) (drop at s)) ns → words ns ≡ part at (4 * n) s
+pub words_at : (at n : ℕ) (s ns : List ℕ) → length s ≡ 512 → IsBytes s → at + 4 * n ≤ 512 → length ns ≡ n
+    → IsRead little_number 4 (take (at + 4 * n - at) (drop at s)) ns → words ns ≡ part at (4 * n) s
 words_at at n s ns long fits room many read =
     let e = part_cut at (4 * n) s in
-    let there : IsRead little_number 4 (part at (4 * n) s) ns = λ k lt. read k lt ∙ ap (λ (b : List ℕ). little_number 4 (drop (4 * k) b)) e in
-    words_of_read (part at (4 * n) s) ns (length-part at (4 * n) s (omega arith) ∙ ap (λ (m : ℕ). 4 * m) (sym many)) (part_fits at (4 * n) s fits) there
+    let there : IsRead little_number 4 (part at (4 * n) s) ns = λ k lt. read k lt
+    ∙ ap (λ (b : List ℕ). little_number 4 (drop (4 * k) b)) e in
+    words_of_read (part at (4 * n) s) ns (length-part at (4 * n) s (omega arith) ∙ ap (λ (m : ℕ). 4 * m) (sym many))
+    (part_fits at (4 * n) s fits) there
 
 pub words_fit : (n at : ℕ) (s ns : List ℕ) → IsBytes s → IsRead little_number 4 (take n (drop at s)) ns → Are32 ns
 unfolding Are32
@@ -61,7 +66,9 @@ words_fit n at s ns fits read i = elim (cases_lt i (length ns)) [
 ]
 
 -- an array that is read at a place holds the numbers there
-pub numbers_read : (at n : ℕ) (s ns : List ℕ) → length s ≡ 512 → IsBytes s → at + 4 * n ≤ 512 → length ns ≡ n → IsRead little_number 4 (take (at + 4 * n - at) (drop at s)) ns → ns ≡ numbers n at s
+pub numbers_read : (at n : ℕ) (s ns : List ℕ) → length s ≡ 512 → IsBytes s → at + 4 * n ≤ 512 → length ns ≡ n
+    → IsRead little_number 4 (take (at + 4 * n - at) (drop at s)) ns → ns ≡ numbers n at s
 numbers_read at n s ns long fits room many read =
-    words_inj ns (numbers n at s) (many ∙ sym (length-run read32 4 n at s)) (words_fit (at + 4 * n - at) at s ns fits read) (numbers_fit n at s fits (omega arith))
+    words_inj ns (numbers n at s) (many ∙ sym (length-run read32 4 n at s)) (words_fit (at + 4 * n - at) at s ns fits read)
+    (numbers_fit n at s fits (omega arith))
     (words_at at n s ns long fits room many read ∙ sym (words_of_numbers n at s fits (omega arith)))

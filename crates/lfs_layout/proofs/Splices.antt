@@ -1,5 +1,7 @@
 -- Bytes that are put at a place of a block, and an entry of a usage block that is put so.
-use Rattle.std.proofs.Common.{◌≡◌, ◌<◌, ◌≤◌, ◌⊎◌, ⊎_elim, inl, inr, ◌+◌, ◌*◌, ◌-◌, ◌^◌, ℕ, List, ◌++◌, length, get_or, take, drop, sym, ◌∙◌, ap, arith, length-append, length-take, length-drop, length-set, get_or-take, get_or-drop, get_or-set_other, get_or-set_same}
+use Rattle.std.proofs.Common.{◌≡◌, ◌<◌, ◌≤◌, ◌⊎◌, ⊎_elim, inl, inr, ◌+◌, ◌*◌, ◌-◌, ◌^◌, ℕ, List, ◌++◌, length, get_or, take, drop, sym, ◌∙◌}
+use Rattle.std.proofs.Common.{ap, arith, length-append, length-take, length-drop, length-set, get_or-take, get_or-drop, get_or-set_other}
+use Rattle.std.proofs.Common.{get_or-set_same}
 use Rattle.std.specs.Prelude.{slice_set}
 use Rattle.std.proofs.lemmas.List.{append_assoc, same_lists, get_or_append_left, get_or-append_right, get_or_default}
 use Rattle.std.proofs.lemmas.Bool.{cases_eq, cases_lt}
@@ -16,7 +18,8 @@ record Splices (at n : ℕ) (field b new : List ℕ) : Type 0 where
   own : part at n new ≡ field
   others : (k m : ℕ) → k + m ≤ length b → (k + m ≤ at) ⊎ (at + n ≤ k) → part k m new ≡ part k m b
 
-module _ (at n : ℕ) (field b new : List ℕ) (size : length field ≡ n) (room : at + n ≤ length b) (is : new ≡ take at b ++ field ++ drop (at + n) b) where
+module _ (at n : ℕ) (field b new : List ℕ) (size : length field ≡ n) (room : at + n ≤ length b)
+    (is : new ≡ take at b ++ field ++ drop (at + n) b) where
   front : length (take at b) ≡ at
   front = omega (arith, length-take at b)
 
@@ -24,7 +27,14 @@ module _ (at n : ℕ) (field b new : List ℕ) (size : length field ≡ n) (room
   split = is ∙ append_assoc (take at b) field (drop (at + n) b)
 
   length_spliced : length new ≡ length b
-  length_spliced = omega (arith, front, ap length split, length-append (take at b) (field ++ drop (at + n) b), length-append field (drop (at + n) b), length-drop (at + n) b)
+  length_spliced = omega (
+    arith,
+    front,
+    ap length split,
+    length-append (take at b) (field ++ drop (at + n) b),
+    length-append field (drop (at + n) b),
+    length-drop (at + n) b,
+  )
 
   byte_before : (o : ℕ) → o < at → get_or new o 0 ≡ get_or b o 0
   byte_before o lt =
@@ -81,10 +91,8 @@ module _ (e : ℕ) (u : SegmentUse) (b with_used with_live new : List ℕ) (low 
   second = let l = first.long in splices (2 * (4 * e + 1)) 2 (le16 u.live) with_used with_live (length-le16 u.live) (omega arith) live
 
   third : Splices (4 * (2 * e + 1)) 4 (le32 u.age) with_live new
-  third = let l = first.long in let m = second.long in splices (4 * (2 * e + 1)) 4 (le32 u.age) with_live new (length-le32 u.age) (omega arith) age
-
-  pub long_entry : length new ≡ 512
-  long_entry = third.long ∙ second.long ∙ first.long ∙ long
+  third = let l = first.long in let m = second.long in
+      splices (4 * (2 * e + 1)) 4 (le32 u.age) with_live new (length-le32 u.age) (omega arith) age
 
   -- what stands before or past the entry is as it was
   part_away : (k m : ℕ) → k + m ≤ 512 → (k + m ≤ 8 * e) ⊎ (8 * e + 8 ≤ k) → part k m new ≡ part k m b
@@ -101,22 +109,26 @@ module _ (e : ℕ) (u : SegmentUse) (b with_used with_live new : List ℕ) (low 
   use_other : (i : ℕ) → i < 64 → (i ≡ e → ⊥) → use_at (8 * i) new ≡ use_at (8 * i) b
   unfolding use_at read16 read32
   use_other i lt ne =
-      let away : (8 * i + 8 ≤ 8 * e) ⊎ (8 * e + 8 ≤ 8 * i) = ⊎_elim (λ (before : i < e). inl (omega arith)) (λ (past : e ≤ i). inr (omega arith)) (cases_lt i e) in
+      let away : (8 * i + 8 ≤ 8 * e) ⊎ (8 * e + 8 ≤ 8 * i) =
+      ⊎_elim (λ (before : i < e). inl (omega arith)) (λ (past : e ≤ i). inr (omega arith)) (cases_lt i e) in
       let p = ap number_of (part_away (8 * i) 2 (omega arith) (within (8 * i) 2 away (omega arith) (omega arith))) in
       let q = ap number_of (part_away (8 * i + 2) 2 (omega arith) (within (8 * i + 2) 2 away (omega arith) (omega arith))) in
       let r = ap number_of (part_away (8 * i + 4) 4 (omega arith) (within (8 * i + 4) 4 away (omega arith) (omega arith))) in
       λ j. record { used = p j; live = q j; age = r j }
     where
       within : (k m : ℕ) → (8 * i + 8 ≤ 8 * e) ⊎ (8 * e + 8 ≤ 8 * i) → 8 * i ≤ k → k + m ≤ 8 * i + 8 → (k + m ≤ 8 * e) ⊎ (8 * e + 8 ≤ k)
-      within k m away above below = ⊎_elim (λ (before : 8 * i + 8 ≤ 8 * e). inl (omega arith)) (λ (past : 8 * e + 8 ≤ 8 * i). inr (omega arith)) away
+      within k m away above below =
+          ⊎_elim (λ (before : 8 * i + 8 ≤ 8 * e). inl (omega arith)) (λ (past : 8 * e + 8 ≤ 8 * i). inr (omega arith)) away
 
   module _ (small_used : u.used < 2 ^ 16) (small_live : u.live < 2 ^ 16) (small_age : u.age < 2 ^ 32) where
     use_own : use_at (8 * e) new ≡ u
     use_own =
         let l = first.long in
         let s = second.long in
-        let p : part (2 * (4 * e)) 2 new ≡ le16 u.used = third.others (2 * (4 * e)) 2 (omega arith) (inl (omega arith)) ∙ second.others (2 * (4 * e)) 2 (omega arith) (inl (omega arith)) ∙ first.own in
-        let q : part (2 * (4 * e + 1)) 2 new ≡ le16 u.live = third.others (2 * (4 * e + 1)) 2 (omega arith) (inl (omega arith)) ∙ second.own in
+        let p : part (2 * (4 * e)) 2 new ≡ le16 u.used = third.others (2 * (4 * e)) 2 (omega arith) (inl (omega arith))
+        ∙ second.others (2 * (4 * e)) 2 (omega arith) (inl (omega arith)) ∙ first.own in
+        let q : part (2 * (4 * e + 1)) 2 new ≡ le16 u.live = third.others (2 * (4 * e + 1)) 2 (omega arith) (inl (omega arith))
+        ∙ second.own in
         sym (use_read (8 * e) new u.used u.live u.age
         (sym (read16_is (2 * (4 * e)) new u.used small_used p) ∙ ap (λ (k : ℕ). read16 k new) (omega arith))
         (sym (read16_is (2 * (4 * e + 1)) new u.live small_live q) ∙ ap (λ (k : ℕ). read16 k new) (omega arith))
@@ -134,6 +146,8 @@ module _ (e : ℕ) (u : SegmentUse) (b with_used with_live new : List ℕ) (low 
       where
         each : (i : ℕ) → i < 64 → use_at (8 * i) new ≡ get_or (slice_set (usage_of b) e u) i no_use
         each i lt = ⊎_elim
-            (λ (here : i ≡ e). ap (λ (k : ℕ). use_at (8 * k) new) here ∙ use_own ∙ sym (get_or-set_same (usage_of b) e u no_use (let o = length-run use_at 8 64 0 b in omega arith)) ∙ ap (λ (k : ℕ). get_or (slice_set (usage_of b) e u) k no_use) (sym here))
+            (λ (here : i ≡ e). ap (λ (k : ℕ). use_at (8 * k) new) here ∙ use_own
+            ∙ sym (get_or-set_same (usage_of b) e u no_use (let o = length-run use_at 8 64 0 b in omega arith))
+            ∙ ap (λ (k : ℕ). get_or (slice_set (usage_of b) e u) k no_use) (sym here))
             (λ (away : i ≡ e → ⊥). use_other i lt away ∙ sym (use_in b i lt) ∙ sym (get_or-set_other (usage_of b) e i u no_use away))
             (cases_eq i e)

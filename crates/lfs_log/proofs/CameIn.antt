@@ -1,5 +1,6 @@
 -- Which blocks come into memory: what calls one after the other bring, and that these blocks stood on the device before.
-use Rattle.std.proofs.Common.{◌≡◌, ◌<◌, ◌≤◌, ⊎_elim, ◌+◌, ◌*◌, ℕ, zero, suc, List, [], ◌∷◌, length, get_or, Some, None, refl, sym, ◌∙◌, ap, subst, arith, inl, inr}
+use Rattle.std.proofs.Common.{◌≡◌, ◌<◌, ◌≤◌, ⊎_elim, ◌+◌, ◌*◌, ℕ, zero, suc, List, [], ◌∷◌, length, get_or, Some, None, refl, sym, ◌∙◌, ap}
+use Rattle.std.proofs.Common.{subst, arith, inl, inr}
 use Rattle.std.proofs.lemmas.Bool.{cases_eq}
 use Rattle.lfs_model.specs.Checkpoint.{CheckpointValue}
 use Rattle.lfs_model.specs.Counting.{segment_of}
@@ -15,7 +16,8 @@ use Rattle.lfs_memory.specs.declared.memory.LogMemory.{LogMemory}
 use Rattle.lfs_memory.specs.Lifting.{IsInMemory}
 use Rattle.lfs_memory.specs.Memory.{IsLoose}
 use Rattle.lfs_memory.specs.Present.{AnswersAddress}
-use Rattle.lfs_log.specs.Relocating.{BringsOne, BringsWay, CameFrom, IsAmong, IsBetween, IsDataBlock, IsInOrder, IsOnWay, LacksOnWay, Misses, Relocates, StandsWhere, climb}
+use Rattle.lfs_log.specs.Relocating.{BringsOne, BringsWay, CameFrom, IsAmong, IsBetween, IsDataBlock, IsInOrder, IsOnWay, LacksOnWay}
+use Rattle.lfs_log.specs.Relocating.{Misses, Relocates, StandsWhere, climb}
 use Rattle.lfs_log.proofs.TableEntries.{one_came}
 
 -- ---- the way up from a block
@@ -36,12 +38,14 @@ lacks_above v x up named lacks = (lacks.0, way_above x up lacks.0 named lacks.1,
 
 pub way_then : (v v' v'' : LogMemory) (x up : Entry) → up ≡ parent x → BringsWay v v' up → BringsOne v' v'' x → BringsWay v v'' x
 way_then v v' v'' x up named one two y there = ⊎_elim
-    (λ (was : IsInMemory v' y). ⊎_elim (λ (before : IsInMemory v y). inl before) (λ (way : IsOnWay up y). inr (way_above x up y named way)) (one y was))
+    (λ (was : IsInMemory v' y).
+    ⊎_elim (λ (before : IsInMemory v y). inl before) (λ (way : IsOnWay up y). inr (way_above x up y named way)) (one y was))
     (λ (own : y ≡ x). inr (0, own))
     (two y there)
 
 pub way_only : (v v' : LogMemory) (x up : Entry) → up ≡ parent x → BringsWay v v' up → BringsWay v v' x
-way_only v v' x up named one y there = ⊎_elim (λ (was : IsInMemory v y). inl was) (λ (way : IsOnWay up y). inr (way_above x up y named way)) (one y there)
+way_only v v' x up named one y there =
+    ⊎_elim (λ (was : IsInMemory v y). inl was) (λ (way : IsOnWay up y). inr (way_above x up y named way)) (one y there)
 
 -- a block of data has none below it
 no_data_above : (x y : Entry) → y ≡ parent x → IsDataBlock y → ⊥
@@ -62,7 +66,8 @@ data_own zero x is = refl
 data_own (suc n) x is = let same = data_own n (parent x) is in absurd (no_data_above x (parent x) refl (subst IsDataBlock same is))
 
 -- ---- a block that stands where it was looked for comes in, with those above it
-module _ (a b c : DeviceState) (v v' : LogMemory) (x : Entry) (there address : ℕ) (file : IsOfFile x) (answer : AnswersAddress a b v x there) (same : there ≡ address) (above : 2 ≤ address) (back : c.keeps_model → b.keeps_model) where
+module _ (a b c : DeviceState) (v v' : LogMemory) (x : Entry) (there address : ℕ) (file : IsOfFile x)
+    (answer : AnswersAddress a b v x there) (same : there ≡ address) (above : 2 ≤ address) (back : c.keeps_model → b.keeps_model) where
   module _ (k : CheckpointValue) (m0 m : LogMap) (keeps : c.keeps_model) (is : IsLoose a v k m0 m) where
     abbrev M : Memory
     M = is.running.memory
@@ -79,7 +84,8 @@ module _ (a b c : DeviceState) (v v' : LogMemory) (x : Entry) (there address : �
         let own = own_at in
         let some : 0 < M.at y = subst (λ (z : Entry). 0 < M.at z) (sym way.1) (some_above way.0 x (omega (arith, own, above))) in (
           omega (arith, some, not_one),
-          λ own_data. (let e : y ≡ x = way.1 ∙ data_own way.0 x (subst IsDataBlock way.1 own_data) in let at = ap M.at e ∙ own in (omega (arith, at), omega (arith, at))),
+          λ own_data. (let e : y ≡ x = way.1 ∙ data_own way.0 x (subst IsDataBlock way.1 own_data) in let at = ap M.at e ∙ own in
+              (omega (arith, at), omega (arith, at))),
         )
 
     inside_one : (y : Entry) → IsOnWay x y → M.at y ≡ 1 → IsInMemory v y
@@ -99,7 +105,8 @@ module _ (a b c : DeviceState) (v v' : LogMemory) (x : Entry) (there address : �
     block = lacks.0;
     file = let way = lacks.1 in subst IsOfFile (sym way.1) (file_above way.0 x file);
     outside = lacks.2;
-    stood = λ k m0 m keeps is. stands k m0 m keeps is lacks.0 lacks.1 (λ one. lacks.2 (stay lacks.0 (inside_one k m0 m keeps is lacks.0 lacks.1 one)));
+    stood = λ k m0 m keeps is.
+        stands k m0 m keeps is lacks.0 lacks.1 (λ one. lacks.2 (stay lacks.0 (inside_one k m0 m keeps is lacks.0 lacks.1 one)));
   }
 
 -- ---- no block comes in
@@ -108,16 +115,20 @@ came_none d d' v v' P same k m0 m keeps is x there = inl (subst (λ (t : TableVa
 
 -- ---- one call after the other
 -- what stands somewhere stood there before
-stood_before : (P : ℕ → Type 0) (M M' : Memory) (x : Entry) → ((y : Entry) → 2 ≤ M'.at y → M.at y ≡ M'.at y) → StandsWhere P M' x → StandsWhere P M x
-stood_before P M M' x traces stands = let same = traces x stands.0 in (let above = stands.0 in omega (arith, same, above), λ is. subst P (sym same) (stands.1 is))
+stood_before : (P : ℕ → Type 0) (M M' : Memory) (x : Entry) → ((y : Entry) → 2 ≤ M'.at y → M.at y ≡ M'.at y) → StandsWhere P M' x
+    → StandsWhere P M x
+stood_before P M M' x traces stands = let same = traces x stands.0 in
+    (let above = stands.0 in omega (arith, same, above), λ is. subst P (sym same) (stands.1 is))
 
-module _ (a b c : DeviceState) (v v' v'' : LogMemory) (P : ℕ → Type 0) (one : Relocates a b v v') (back : c.keeps_model → b.keeps_model) where
+module _ (a b c : DeviceState) (v v' v'' : LogMemory) (P : ℕ → Type 0) (one : Relocates a b v v')
+    (back : c.keeps_model → b.keeps_model) where
   pub came_then : CameFrom a b v v' P → CameFrom b c v' v'' P → CameFrom a c v v'' P
   came_then first second k m0 m keeps is x there =
       let middle = one.gathers.traces k m0 m (back keeps) is in
       ⊎_elim
       (λ (was : IsInMemory v' x). first k m0 m (back keeps) is x was)
-      (λ (stands : StandsWhere P middle.0.running.memory x). inr (stood_before P is.running.memory middle.0.running.memory x middle.1 stands))
+      (λ (stands : StandsWhere P middle.0.running.memory x).
+      inr (stood_before P is.running.memory middle.0.running.memory x middle.1 stands))
       (second k m0 m keeps middle.0 x there)
 
   pub misses_then : Misses b c v' v'' P → Misses a c v v'' P
@@ -136,7 +147,8 @@ module _ (d d' : DeviceState) (v v' : LogMemory) (P Q : ℕ → Type 0) (wider :
   stands_wider M x stands = (stands.0, λ is. wider (M.at x) (stands.1 is))
 
   pub came_wider : CameFrom d d' v v' P → CameFrom d d' v v' Q
-  came_wider came k m0 m keeps is x there = ⊎_elim (λ (was : IsInMemory v x). inl was) (λ (stands : StandsWhere P is.running.memory x). inr (stands_wider is.running.memory x stands)) (came k m0 m keeps is x there)
+  came_wider came k m0 m keeps is x there = ⊎_elim (λ (was : IsInMemory v x). inl was)
+      (λ (stands : StandsWhere P is.running.memory x). inr (stands_wider is.running.memory x stands)) (came k m0 m keeps is x there)
 
   pub misses_wider : Misses d d' v v' P → Misses d d' v v' Q
   misses_wider misses = record {
@@ -155,7 +167,8 @@ still_out v v' x same none there =
     let bad : None ≡ Some there.0 = sym none ∙ sym (ap (λ (t : TableValue). blocks_of t x) same) ∙ there.1 in
     absurd (cc)
 
-pub brings_one : (v v' : LogMemory) (c : ℕ) → IsCode c → IsInOrder v.dirty → IsInOrder v'.dirty → blocks_of v.dirty (entry_at c) ≡ None → ((x : Entry) → IsInMemory v x → IsInMemory v' x) → IsInMemory v' (entry_at c)
+pub brings_one : (v v' : LogMemory) (c : ℕ) → IsCode c → IsInOrder v.dirty → IsInOrder v'.dirty → blocks_of v.dirty (entry_at c) ≡ None
+    → ((x : Entry) → IsInMemory v x → IsInMemory v' x) → IsInMemory v' (entry_at c)
     → length v'.dirty.blocks ≤ length v.dirty.blocks + 1 → BringsOne v v' (entry_at c)
 brings_one v v' c formed order order' none stay inside few =
     one_came v.dirty v'.dirty c order order' formed stay inside (still_out v v (entry_at c) refl none) few
@@ -181,5 +194,6 @@ module _ (d d' : DeviceState) (v v' : LogMemory) (vs : List ℕ) (i s : ℕ) (is
   misses_among misses = misses_wider d d' v v' (IsBetween (2 + 64 * s) (66 + 64 * s)) (IsAmong vs) (among_one vs i s is lt) misses
 
 -- ---- after the device was only looked at, before or behind
-pub came_looked : (a b c : DeviceState) (v v' : LogMemory) (P : ℕ → Type 0) → (c.keeps_model → b.keeps_model) → CameFrom a b v v' P → CameFrom a c v v' P
+pub came_looked : (a b c : DeviceState) (v v' : LogMemory) (P : ℕ → Type 0) → (c.keeps_model → b.keeps_model) → CameFrom a b v v' P
+    → CameFrom a c v v' P
 came_looked a b c v v' P back came k m0 m keeps is = came k m0 m (back keeps) is

@@ -1,5 +1,6 @@
 -- Segments whose blocks came into memory: nothing lives there, and a commit makes them clean.
-use Rattle.std.proofs.Common.{◌≡◌, ◌<◌, ◌≤◌, ⊎_elim, ◌+◌, ◌*◌, ◌/◌, ℕ, zero, suc, Bool, true, false, List, [], ◌∷◌, length, get_or, refl, sym, ◌∙◌, ap, ap₂, subst, arith, ◌&&◌, eq-eqb}
+use Rattle.std.proofs.Common.{◌≡◌, ◌<◌, ◌≤◌, ⊎_elim, ◌+◌, ◌*◌, ◌/◌, ℕ, zero, suc, Bool, true, false, List, [], ◌∷◌, length, get_or, refl}
+use Rattle.std.proofs.Common.{sym, ◌∙◌, ap, ap₂, subst, arith, ◌&&◌, eq-eqb}
 use Rattle.std.specs.List.{AllByRecursion}
 use Rattle.std.proofs.lemmas.Bool.{cond-true}
 use Rattle.lfs_model.specs.Checkpoint.{CheckpointValue}
@@ -26,7 +27,8 @@ use Rattle.lfs_log.specs.Cleaning.{AreCleanable, AreEmptied, Crowds, Empties, Ov
 use Rattle.lfs_log.specs.Relocating.{Relocates, VacatesAll}
 
 -- ---- nothing lives where no block stands
-module _ (a b : DeviceState) (v v' : LogMemory) (vs : List ℕ) (one : Relocates a b v v') (vacates : VacatesAll a b v v' vs (length vs)) (victims : AreCleanable v.usage vs) where
+module _ (a b : DeviceState) (v v' : LogMemory) (vs : List ℕ) (one : Relocates a b v v') (vacates : VacatesAll a b v v' vs (length vs))
+    (victims : AreCleanable v.usage vs) where
   emptied_there : (k : CheckpointValue) (m0 m : LogMap) → b.keeps_model → IsLoose a v k m0 m → AreEmptied v'.usage vs
   emptied_there k m0 m keeps is i lt =
       let s = get_or vs i 0 in
@@ -45,7 +47,8 @@ module _ (a b : DeviceState) (v v' : LogMemory) (vs : List ℕ) (one : Relocates
   pub not_emptied : (AreEmptied v'.usage vs → ⊥) → FailsFromDevice a b v
   not_emptied never k m0 m keeps is = absurd (never (emptied_there k m0 m keeps is))
 
-pub empties : (a b : DeviceState) (v v' v'' : LogMemory) (vs : List ℕ) → Relocates a b v v' → AreEmptied v'.usage vs → Tightens v' v'' → Empties a b v v'' vs
+pub empties : (a b : DeviceState) (v v' v'' : LogMemory) (vs : List ℕ) → Relocates a b v v' → AreEmptied v'.usage vs → Tightens v' v''
+    → Empties a b v v'' vs
 empties a b v v' v'' vs one emptied go = record {
   looks = one.looks;
   memory = go.stays.memory one.memory;
@@ -61,25 +64,27 @@ module _ (v : LogMemory) (t : TableValue) (same : t.blocks ≡ v.dirty.blocks) w
   abbrev limited : LogMemory
   limited = record { map = v.map; usage = v.usage; dirty = t; chunk = v.chunk }
 
-  pub limited_memory : t.capacity.limit + 48 ≤ 63 * (length v.usage.segments / 8) → IsMemory v → IsMemory (record { map = v.map; usage = v.usage; dirty = t; chunk = v.chunk })
-  limited_memory few is = record { count = is.count; opened = is.opened; short = is.short; usages = is.usages; few = few }
-
-  pub limited_log : (d : DeviceState) (k : CheckpointValue) (m0 m : LogMap) → IsLog d v k m0 m → IsLog d (record { map = v.map; usage = v.usage; dirty = t; chunk = v.chunk }) k m0 m
+  pub limited_log : (d : DeviceState) (k : CheckpointValue) (m0 m : LogMap) → IsLog d v k m0 m
+      → IsLog d (record { map = v.map; usage = v.usage; dirty = t; chunk = v.chunk }) k m0 m
   limited_log d k m0 m is = record {
-    running = subst (λ (bs : Blocks). Running d (blocks_in bs) (tables_of v) k m0 m (segment_in v.chunk) (chunk_in v.chunk)) (sym same) is.running;
+    running = subst (λ (bs : Blocks). Running d (blocks_in bs) (tables_of v) k m0 m (segment_in v.chunk) (chunk_in v.chunk))
+        (sym same) is.running;
     hidden = is.hidden;
     segments = is.segments;
     tight = subst (λ (bs : Blocks). IsTight (blocks_in bs)) (sym same) is.tight;
   }
 
-  pub limited_excused : (a b : DeviceState) → FailsFromDevice a b (record { map = v.map; usage = v.usage; dirty = t; chunk = v.chunk }) → FailsFromDevice a b v
+  pub limited_excused : (a b : DeviceState) → FailsFromDevice a b (record { map = v.map; usage = v.usage; dirty = t; chunk = v.chunk })
+      → FailsFromDevice a b v
   limited_excused a b failed k m0 m keeps is = failed k m0 m keeps (record {
-    running = subst (λ (bs : Blocks). Running a (blocks_in bs) (tables_of v) k m0 m (segment_in v.chunk) (chunk_in v.chunk)) (sym same) is.running;
+    running = subst (λ (bs : Blocks). Running a (blocks_in bs) (tables_of v) k m0 m (segment_in v.chunk) (chunk_in v.chunk))
+        (sym same) is.running;
     hidden = is.hidden;
     segments = is.segments;
   })
 
-  pub limited_empties : (a b : DeviceState) (v' : LogMemory) (vs : List ℕ) → Empties a b (record { map = v.map; usage = v.usage; dirty = t; chunk = v.chunk }) v' vs → Empties a b v v' vs
+  pub limited_empties : (a b : DeviceState) (v' : LogMemory) (vs : List ℕ)
+      → Empties a b (record { map = v.map; usage = v.usage; dirty = t; chunk = v.chunk }) v' vs → Empties a b v v' vs
   limited_empties a b v' vs one = record {
     looks = one.looks;
     memory = one.memory;
@@ -91,7 +96,8 @@ module _ (v : LogMemory) (t : TableValue) (same : t.blocks ≡ v.dirty.blocks) w
   }
 
 -- a table by its parts
-pub table_by : (t : TableValue) (bs : Blocks) (l r : ℕ) → t.blocks ≡ bs → t.capacity.limit ≡ l → t.capacity.room ≡ r → t ≡ record { blocks = bs; capacity = record { limit = l; room = r } }
+pub table_by : (t : TableValue) (bs : Blocks) (l r : ℕ) → t.blocks ≡ bs → t.capacity.limit ≡ l → t.capacity.room ≡ r
+    → t ≡ record { blocks = bs; capacity = record { limit = l; room = r } }
 table_by t bs l r blocks limit room =
     ap (λ (b : Blocks). record t { blocks = b }) blocks ∙ ap (λ (n : ℕ). by_limit n) limit ∙ ap (λ (n : ℕ). by_room n) room
   where
@@ -101,7 +107,8 @@ table_by t bs l r blocks limit room =
     by_room : ℕ → TableValue
     by_room n = record { blocks = bs; capacity = record { limit = l; room = n } }
 
-pub overfills : (a b : DeviceState) (v : LogMemory) (t : TableValue) (most : ℕ) (w : LogMemory) → t.blocks ≡ v.dirty.blocks → t.capacity.limit ≡ most → t.capacity.room ≡ v.dirty.capacity.room
+pub overfills : (a b : DeviceState) (v : LogMemory) (t : TableValue) (most : ℕ) (w : LogMemory) → t.blocks ≡ v.dirty.blocks
+    → t.capacity.limit ≡ most → t.capacity.room ≡ v.dirty.capacity.room
     → (vs : List ℕ) → Crowds a b (record { map = v.map; usage = v.usage; dirty = t; chunk = v.chunk }) w vs → Overfills a b v vs most
 overfills a b v t most w blocks limit room vs one =
     let same = table_by t v.dirty.blocks most v.dirty.capacity.room blocks limit room in
@@ -127,12 +134,14 @@ at_one P (v ∷ vs) s each is = ⊎_elim
     (λ (there : IsIn vs s). at_one P vs s (λ i lt. each (suc i) (omega (arith, lt))) there)
     is
 
-pub emptied_least : (t : UsageTable) (vs : List ℕ) → AreApart vs → ((i : ℕ) → i < length vs → get_or vs i 0 < length t.segments) → AreEmptied t vs → length vs ≤ emptied_in t.segments
+pub emptied_least : (t : UsageTable) (vs : List ℕ) → AreApart vs → ((i : ℕ) → i < length vs → get_or vs i 0 < length t.segments)
+    → AreEmptied t vs → length vs ≤ emptied_in t.segments
 unfolding emptied_in no_test
 emptied_least t vs apart low emptied =
     let gained = count_gained vs no_test (λ s. is_emptied (get_or t.segments s no_segment)) (length t.segments) apart
     (in_each (λ s. s < length t.segments) vs low)
-    (in_each (λ s. (no_test s ≡ false) × (is_emptied (get_or t.segments s no_segment) ≡ true)) vs (λ i lt. (refl, passes t (get_or vs i 0) (emptied i lt))))
+    (in_each (λ s. (no_test s ≡ false) × (is_emptied (get_or t.segments s no_segment) ≡ true)) vs
+    (λ i lt. (refl, passes t (get_or vs i 0) (emptied i lt))))
     (λ s lt on. let bad : false ≡ true = on in absurd (cc)) in
     let none = none_pass (length t.segments) in
     omega (arith, gained, none)
@@ -141,4 +150,5 @@ emptied_least t vs apart low emptied =
 pub emptied_clean : (t t' : UsageTable) (s : ℕ) → Releases t t' → IsEmptied t s → used_of t' s ≡ 0
 emptied_clean t t' s go is =
     ap (λ (n : SegmentNumbers). n.used) (go.each s)
-    ∙ cond-true (is_empty (get_or t.segments s no_segment)) 0 (used_of t s) (ap₂ (λ (a b : Bool). a && b) (eq-eqb _ 0 is.live) (eq-eqb _ 0 is.held))
+    ∙ cond-true (is_empty (get_or t.segments s no_segment)) 0 (used_of t s)
+    (ap₂ (λ (a b : Bool). a && b) (eq-eqb _ 0 is.live) (eq-eqb _ 0 is.held))

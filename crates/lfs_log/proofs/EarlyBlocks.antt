@@ -1,5 +1,6 @@
 -- Blocks that are written between commits are counted as early.
-use Rattle.std.proofs.Common.{◌≡◌, ◌<◌, ◌≤◌, ⊎_elim, ◌+◌, ◌==◌, cond, ℕ, Bool, Some, None, List, [], ◌∷◌, ◌++◌, length, refl, sym, ◌∙◌, ap, subst, arith, nat_lt}
+use Rattle.std.proofs.Common.{◌≡◌, ◌<◌, ◌≤◌, ⊎_elim, ◌+◌, ◌==◌, cond, ℕ, Bool, Some, None, List, [], ◌∷◌, ◌++◌, length, refl, sym, ◌∙◌, ap}
+use Rattle.std.proofs.Common.{subst, arith, nat_lt}
 use Rattle.lfs_model.specs.Summary.{BlockNameValue}
 use Rattle.lfs_memory.specs.segments.Table.{UsageTable, used_of, kept_of, clean_in}
 use Rattle.lfs_memory.specs.segments.Chunk.{Chunk, due_in, room_behind, room_in}
@@ -27,7 +28,8 @@ some_behind t s last room none =
     let yes : cond {A = ℕ} (nat_lt (used_of t s) 63) 1 0 ≡ 1 = search (arith, room) in
     omega (arith, one, yes, none)
 
-module _ (v v' : LogMemory) (name : BlockNameValue) (lives : Bool) (age place : ℕ) (fresh : IsFresh v) (p : Places v v' name lives age place) where
+module _ (v v' : LogMemory) (name : BlockNameValue) (lives : Bool) (age place : ℕ) (fresh : IsFresh v)
+    (p : Places v v' name lives age place) where
   no_names : (names : List BlockNameValue) → length names ≡ 0 → names ≡ []
   no_names [] none = refl
   no_names (x ∷ xs) none = absurd (omega (arith, none))
@@ -43,7 +45,8 @@ module _ (v v' : LogMemory) (name : BlockNameValue) (lives : Bool) (age place : 
   kept_middle : kept_of p.middle v'.chunk.segment ≡ 0
   kept_middle = ⊎_elim
       (λ (none : length v.chunk.names ≡ 0). (taken none).free)
-      (λ (some : 0 < length v.chunk.names). ap (λ (t : UsageTable). kept_of t v'.chunk.segment) (p.went_on some).0 ∙ ap (kept_of v.usage) (p.went_on some).1 ∙ fresh.begun some)
+      (λ (some : 0 < length v.chunk.names). ap (λ (t : UsageTable). kept_of t v'.chunk.segment) (p.went_on some).0
+      ∙ ap (kept_of v.usage) (p.went_on some).1 ∙ fresh.begun some)
       (zero_or_more (length v.chunk.names))
 
   early_middle : early_in p.middle.segments ≡ early_in v.usage.segments
@@ -71,12 +74,14 @@ module _ (v v' : LogMemory) (name : BlockNameValue) (lives : Bool) (age place : 
       omega (arith, noted, same)
 
 -- A chunk that is full is sealed: behind it none begins.
-pub sealed_fresh : (v v' : LogMemory) → IsMemoryUpTo 63 v → 0 < length v.chunk.names → v.chunk.start + length v.chunk.names ≡ 63 → v'.usage ≡ v.usage → v'.chunk.names ≡ [] → IsFresh v'
+pub sealed_fresh : (v v' : LogMemory) → IsMemoryUpTo 63 v → 0 < length v.chunk.names → v.chunk.start + length v.chunk.names ≡ 63
+    → v'.usage ≡ v.usage → v'.chunk.names ≡ [] → IsFresh v'
 sealed_fresh v v' memory some full same ended = record {
   closed = λ _. (
       let last = ap (λ (u : UsageTable). u.last) same ∙ (memory.opened some).last in
       let opened = (memory.opened some).used in
-      let used : used_of v'.usage v.chunk.segment ≡ 64 = ap (λ (u : UsageTable). used_of u v.chunk.segment) same ∙ opened ∙ omega (arith, full) in
+      let used : used_of v'.usage v.chunk.segment ≡ 64 = ap (λ (u : UsageTable). used_of u v.chunk.segment) same ∙ opened
+      ∙ omega (arith, full) in
       none_behind v'.usage v.chunk.segment last used);
   begun = λ more. absurd (let none = ap length ended in omega (arith, more, none));
 }
@@ -96,7 +101,8 @@ begun_same v v' usage chunk is = (
 )
 
 -- A block went out, and perhaps the summary of its chunk.
-pub goes_early : (v v' v'' : LogMemory) → IsFresh v'' → length v'.dirty.blocks + 1 ≡ length v.dirty.blocks → v''.dirty ≡ v'.dirty → v''.usage ≡ v'.usage
+pub goes_early : (v v' v'' : LogMemory) → IsFresh v'' → length v'.dirty.blocks + 1 ≡ length v.dirty.blocks → v''.dirty ≡ v'.dirty
+    → v''.usage ≡ v'.usage
     → early_in v'.usage.segments ≡ early_in v.usage.segments + 1 → GoesEarly v v'' 1
 goes_early v v' v'' fresh fewer dirty usage early =
     let blocks = ap (λ (t : TableValue). length t.blocks) dirty in
@@ -125,7 +131,8 @@ early_none v fresh = record { fresh = fresh; fewer = omega arith; due = refl }
 abbrev pub Ended : UsageTable → UsageTable
 Ended t = record t { last = None }
 
-ended_now : (d : DeviceState) (v : LogMemory) → IsLawful d → IsMemory v → v.chunk.names ≡ [] → Goes d d v (record v { usage = Ended v.usage }) 0
+ended_now : (d : DeviceState) (v : LogMemory) → IsLawful d → IsMemory v → v.chunk.names ≡ []
+    → Goes d d v (record v { usage = Ended v.usage }) 0
 ended_now d v lawful memory closed =
     let same = goes_none d v lawful memory in
     record {
@@ -145,8 +152,10 @@ ended_now d v lawful memory closed =
       quiet = same.quiet;
     }
 
-pub ended_goes : (d : DeviceState) (v : LogMemory) (u : UsageTable) → u ≡ Ended v.usage → IsLawful d → IsMemory v → v.chunk.names ≡ [] → Goes d d v (record v { usage = u }) 0
-ended_goes d v u is lawful memory closed = subst (λ (t : UsageTable). Goes d d v (record v { usage = t }) 0) (sym is) (ended_now d v lawful memory closed)
+pub ended_goes : (d : DeviceState) (v : LogMemory) (u : UsageTable) → u ≡ Ended v.usage → IsLawful d → IsMemory v → v.chunk.names ≡ []
+    → Goes d d v (record v { usage = u }) 0
+ended_goes d v u is lawful memory closed =
+    subst (λ (t : UsageTable). Goes d d v (record v { usage = t }) 0) (sym is) (ended_now d v lawful memory closed)
 
 pub ended_fresh : (v : LogMemory) (u : UsageTable) → u ≡ Ended v.usage → v.chunk.names ≡ [] → IsFresh (record v { usage = u })
 ended_fresh v u is closed = subst (λ (t : UsageTable). IsFresh (record v { usage = t })) (sym is) (record {
@@ -155,7 +164,8 @@ ended_fresh v u is closed = subst (λ (t : UsageTable). IsFresh (record v { usag
 })
 
 -- a chunk took a clean segment at most, where none was begun before it
-pub one_segment : (v v' : LogMemory) → v.chunk.names ≡ [] → room_of v ≤ room_of v' + 63 → clean_in v.usage.segments ≤ clean_in v'.usage.segments + 1
+pub one_segment : (v v' : LogMemory) → v.chunk.names ≡ [] → room_of v ≤ room_of v' + 63
+    → clean_in v.usage.segments ≤ clean_in v'.usage.segments + 1
 one_segment v v' closed room =
     let none = room_none v.chunk (ap length closed) in
     let few : room_in v'.chunk ≤ 62 = ⊎_elim
@@ -169,12 +179,14 @@ pub chunk_told : (v v' : LogMemory) (u : UsageTable) (t t' n : ℕ) → u ≡ En
     → t' + clean_in v'.usage.segments ≤ t + due_in v.chunk u + clean_in u.segments + n → t' ≤ t + n + 1
 chunk_told v v' u t t' n is closed room due =
     let one = one_segment v v' closed room in
-    let gone : due_in v.chunk u ≡ 0 = ap (λ (names : List BlockNameValue). cond {A = ℕ} (length names == 0) (room_behind u u.last) 1) closed ∙ ap (λ (w : UsageTable). room_behind w w.last) is in
+    let gone : due_in v.chunk u ≡ 0 = ap (λ (names : List BlockNameValue). cond {A = ℕ} (length names == 0) (room_behind u u.last) 1) closed
+    ∙ ap (λ (w : UsageTable). room_behind w w.last) is in
     let same = ap (λ (w : UsageTable). clean_in w.segments) is in
     omega (arith, one, gone, same, due)
 
 -- as many blocks are unsaved: those that left memory are counted where they stand
-pub chunk_due : (v v' v'' : LogMemory) (u : UsageTable) → u ≡ Ended v.usage → v''.dirty ≡ v'.dirty → v''.usage ≡ v'.usage → blocks_due v' ≡ length v.dirty.blocks + early_in u.segments → blocks_due v'' ≡ blocks_due v
+pub chunk_due : (v v' v'' : LogMemory) (u : UsageTable) → u ≡ Ended v.usage → v''.dirty ≡ v'.dirty → v''.usage ≡ v'.usage
+    → blocks_due v' ≡ length v.dirty.blocks + early_in u.segments → blocks_due v'' ≡ blocks_due v
 chunk_due v v' v'' u is dirty usage due =
     let blocks = ap (λ (t : TableValue). length t.blocks) dirty in
     let after = ap (λ (w : UsageTable). early_in w.segments) usage in
@@ -194,8 +206,10 @@ chunks_none d v lawful memory closed = record {
   told = omega arith;
 }
 
-pub chunks_more : (a b c : DeviceState) (u v w : LogMemory) (n : ℕ) → WritesChunks a b u v → Goes b c v w n → w.chunk.names ≡ [] → w.dirty.capacity ≡ v.dirty.capacity
-    → length w.dirty.blocks + 63 ≡ length v.dirty.blocks → data_count w.dirty + 63 ≡ data_count v.dirty → blocks_due w ≡ blocks_due v → clean_in v.usage.segments ≤ clean_in w.usage.segments + 1 → length c.told ≤ length b.told + 64 → WritesChunks a c u w
+pub chunks_more : (a b c : DeviceState) (u v w : LogMemory) (n : ℕ) → WritesChunks a b u v → Goes b c v w n → w.chunk.names ≡ []
+    → w.dirty.capacity ≡ v.dirty.capacity
+    → length w.dirty.blocks + 63 ≡ length v.dirty.blocks → data_count w.dirty + 63 ≡ data_count v.dirty → blocks_due w ≡ blocks_due v
+    → clean_in v.usage.segments ≤ clean_in w.usage.segments + 1 → length c.told ≤ length b.told + 64 → WritesChunks a c u w
 chunks_more a b c u v w n before goes closed capacity fewer gone due taken told =
     let more = before.fewer in
     let alone = before.only_data in

@@ -16,8 +16,10 @@ use Rattle.lfs_log.specs.Early.{WritesChunks, full_chunk, reserve_of}
 use Rattle.lfs_log.specs.Held.{Held, Halts, IsReadyToPass, WritesEarly}
 
 module _ {D : Type 0} (state : D → DeviceState) where
-  pub writes_early : (h h' : Held D) → WritesChunks (state h.device) (state h'.device) h.memory h'.memory → h'.number ≡ h.number → h'.version ≡ h.version → h'.upgraded ≡ h.upgraded → h'.halted ≡ false
-      → (h' ≡ h) ⊎ (reserve_of (length h'.memory.usage.segments) ≤ clean_in h'.memory.usage.segments) → (data_count h.memory.dirty < full_chunk → h' ≡ h) → WritesEarly state h h'
+  pub writes_early : (h h' : Held D) → WritesChunks (state h.device) (state h'.device) h.memory h'.memory → h'.number ≡ h.number
+      → h'.version ≡ h.version → h'.upgraded ≡ h.upgraded → h'.halted ≡ false
+      → (h' ≡ h) ⊎ (reserve_of (length h'.memory.usage.segments) ≤ clean_in h'.memory.usage.segments)
+      → (data_count h.memory.dirty < full_chunk → h' ≡ h) → WritesEarly state h h'
   writes_early h h' c number version upgraded running reserve idle = record {
     carries = c.goes.1.carries;
     running = running;
@@ -34,31 +36,24 @@ module _ {D : Type 0} (state : D → DeviceState) where
     emptied = emptied_stay h.memory.usage h'.memory.usage c.goes.1.segments c.goes.1.emptied;
     told = c.told;
     no_failure = c.goes.1.no_failure;
-    holds = λ k m0 m keeps is. record { log = c.goes.1.log k m0 m keeps is.log; number = is.number ∙ sym number; version = is.version ∙ sym version; running = running };
+    holds = λ k m0 m keeps is. record {
+      log = c.goes.1.log k m0 m keeps is.log;
+      number = is.number ∙ sym number;
+      version = is.version ∙ sym version;
+      running = running;
+    };
     moment = λ k m0 m keeps is. c.goes.1.quiet k m0 m keeps is.log;
   }
 
   -- a write that failed: what is acknowledged stays
-  pub early_halts : (h h' : Held D) → Stops (state h.device) (state h'.device) h.memory → h'.halted ≡ true → h'.number ≡ h.number → Halts state h h'
+  pub early_halts : (h h' : Held D) → Stops (state h.device) (state h'.device) h.memory → h'.halted ≡ true → h'.number ≡ h.number
+      → Halts state h h'
   early_halts h h' stops halted number = record {
     carries = stops.carries;
     halted = halted;
     number = number;
     cause = λ k m0 m keeps is. stops.cause k m0 m keeps is.log;
     left = λ k m0 m keeps is map c left. inl (settled_stands (state h'.device) k m0 (stops.settled k m0 m keeps is.log) c left);
-    moment = λ k m0 m keeps is map. weaker (state h.device) (state h'.device) (λ x. StandsOn k.segments x m0) (StandsForOn k.segments m0 (dropped m)) (λ x h. inl h) (stops.quiet k m0 m keeps is.log);
+    moment = λ k m0 m keeps is map. weaker (state h.device) (state h'.device) (λ x. StandsOn k.segments x m0)
+        (StandsForOn k.segments m0 (dropped m)) (λ x h. inl h) (stops.quiet k m0 m keeps is.log);
   }
-
--- the log can go on, and pass, as before
-pub early_ready : (d d' : DeviceState) (v v' : LogMemory) (before : UsageTable) → WritesChunks d d' v v' → IsReadyToPass d v before → IsReadyToPass d' v' before
-early_ready d d' v v' before c ready = record {
-  running = record {
-    memory = c.goes.1.memory;
-    room = has_room_still 62 d d' v v' c.goes.0 c.goes.1 ready.running.room;
-    closed = c.closed;
-    few = let few = ready.running.few in let fewer = c.fewer in omega (arith, few, fewer);
-    wide = ap (λ (x : Capacity). x.limit) c.capacity ∙ ready.running.wide;
-    reserved = subst (λ (n : ℕ). v'.dirty.capacity.room + 48 ≡ 63 * (n / 8)) (sym c.goes.1.segments) (ap (λ (x : Capacity). x.room + 48) c.capacity ∙ ready.running.reserved);
-  };
-  saved = ready.saved ∙ sym c.goes.1.segments;
-}

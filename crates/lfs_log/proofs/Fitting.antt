@@ -1,6 +1,7 @@
--- What a pass of the cleaner brings into memory fits: its blocks of data stood in the victims, and of inodes and blocks of pointers there are
--- no more than the log map has.
-use Rattle.std.proofs.Common.{◌≡◌, ◌<◌, ◌≤◌, ◌⊎◌, ⊎_elim, ◌+◌, ◌*◌, ◌-◌, ℕ, List, [], ◌∷◌, length, Some, None, refl, sym, ◌∙◌, ap, subst, arith, inl, inr}
+-- What a pass of the cleaner brings into memory fits: its blocks of data stood in the
+-- victims, and of inodes and blocks of pointers there are no more than the log map has.
+use Rattle.std.proofs.Common.{◌≡◌, ◌<◌, ◌≤◌, ◌⊎◌, ⊎_elim, ◌+◌, ◌*◌, ◌-◌, ℕ, List, [], ◌∷◌, length, Some, None, refl, sym, ◌∙◌, ap, subst}
+use Rattle.std.proofs.Common.{arith, inl, inr}
 use Rattle.std.specs.Prelude.{sum_by}
 use Rattle.lfs_model.specs.Checkpoint.{CheckpointValue}
 use Rattle.lfs_model.specs.Device.{DeviceState}
@@ -49,7 +50,15 @@ record Sorts (xs : List Entry) : Type 0 where
   meta_each : (x : Entry) → IsIn metas x → IsIn xs x × IsMeta x
 
 sorts : (xs : List Entry) → AreApart xs → ((x : Entry) → IsIn xs x → IsOfFile x) → Sorts xs
-sorts [] apart files = record { datas = []; metas = []; count = refl; data_apart = tt; meta_apart = tt; data_each = λ x is. absurd is; meta_each = λ x is. absurd is }
+sorts [] apart files = record {
+  datas = [];
+  metas = [];
+  count = refl;
+  data_apart = tt;
+  meta_apart = tt;
+  data_each = λ x is. absurd is;
+  meta_each = λ x is. absurd is;
+}
 sorts (x ∷ xs) apart files =
     let rest = sorts xs apart.1 (λ y is. files y (inr is)) in
     let sum = rest.count in
@@ -81,7 +90,8 @@ sorts (x ∷ xs) apart files =
     (data_or_meta x (files x (inl refl)))
 
 -- ---- what came into memory that was empty
-module _ (d : DeviceState) (v : LogMemory) (k : CheckpointValue) (m0 m : LogMap) (is : IsLoose d v k m0 m) (map : IsLogMap m) (nothing : v.dirty.blocks ≡ []) where
+module _ (d : DeviceState) (v : LogMemory) (k : CheckpointValue) (m0 m : LogMap) (is : IsLoose d v k m0 m) (map : IsLogMap m)
+    (nothing : v.dirty.blocks ≡ []) where
   abbrev M : Memory
   M = is.running.memory
 
@@ -95,21 +105,25 @@ module _ (d : DeviceState) (v : LogMemory) (k : CheckpointValue) (m0 m : LogMap)
   not_one x file one = none_inside x (is.running.cached.found x file one)
 
   -- distinct blocks that stand on the device, those of data in some segments
-  pub blocks_fit : (vs : List ℕ) (xs : List Entry) → AreApart xs → ((x : Entry) → IsIn xs x → IsOfFile x) → ((x : Entry) → IsIn xs x → StandsWhere (IsAmong vs) M x)
+  pub blocks_fit : (vs : List ℕ) (xs : List Entry) → AreApart xs → ((x : Entry) → IsIn xs x → IsOfFile x)
+      → ((x : Entry) → IsIn xs x → StandsWhere (IsAmong vs) M x)
       → length xs ≤ sum_by (load_of v.usage) vs + meta_in m
   blocks_fit vs xs apart files stand =
       let parts = sorts xs apart files in
       let metas = metas_counted d.content m is.running.memory (segment_in v.chunk) is.running.laid map
       (λ x pointers one. absurd (not_one x (pointers_of_file x pointers) one))
-      parts.metas parts.meta_apart (λ x there. (let own = parts.meta_each x there in (own.1, let up = (stand x own.0).0 in omega (arith, up)))) in
+      parts.metas parts.meta_apart
+      (λ x there. (let own = parts.meta_each x there in (own.1, let up = (stand x own.0).0 in omega (arith, up)))) in
       let datas = segments_counted d.content m is.running.memory (segment_in v.chunk) is.running.laid (load_of v.usage)
       (λ s. let l = is.running.tables.live s in let h = is.running.tables.held s in omega (arith, l, h))
-      vs parts.datas parts.data_apart (λ x there. (let own = parts.data_each x there in let here = stand x own.0 in (here.0, here.1 own.1))) in
+      vs parts.datas parts.data_apart
+      (λ x there. (let own = parts.data_each x there in let here = stand x own.0 in (here.0, here.1 own.1))) in
       let sum = parts.count in
       omega (arith, metas, datas, sum)
 
 -- No more blocks are wanted in memory than the victims hold, with all inodes and blocks of pointers.
-pub crowd_fits : (d d' : DeviceState) (v w : LogMemory) (k : CheckpointValue) (m0 m : LogMap) (vs : List ℕ) → d'.keeps_model → IsLoose d v k m0 m → IsLogMap m → v.dirty.blocks ≡ [] → Crowds d d' v w vs
+pub crowd_fits : (d d' : DeviceState) (v w : LogMemory) (k : CheckpointValue) (m0 m : LogMap) (vs : List ℕ) → d'.keeps_model
+    → IsLoose d v k m0 m → IsLogMap m → v.dirty.blocks ≡ [] → Crowds d d' v w vs
     → v.dirty.capacity.limit < sum_by (load_of v.usage) vs + meta_in m
 crowd_fits d d' v w k m0 m vs keeps is map nothing one =
     let wanted = one.misses in
@@ -119,7 +133,8 @@ crowd_fits d d' v w k m0 m vs keeps is map nothing one =
     (one.came k m0 m keeps is x (has_entry w.dirty one.order x there)) in
     let fit = blocks_fit d v k m0 m is map nothing vs (wanted.block ∷ entries w.dirty)
     (λ there. wanted.outside (has_entry w.dirty one.order wanted.block there), apart_entries w.dirty one.order)
-    (λ x there. ⊎_elim (λ (here : x ≡ wanted.block). subst IsOfFile (sym here) wanted.file) (λ (later : IsIn (entries w.dirty) x). file_entry w.dirty x later) there)
+    (λ x there. ⊎_elim (λ (here : x ≡ wanted.block). subst IsOfFile (sym here) wanted.file)
+    (λ (later : IsIn (entries w.dirty) x). file_entry w.dirty x later) there)
     (λ x there. ⊎_elim
     (λ (here : x ≡ wanted.block). subst (StandsWhere (IsAmong vs) is.running.memory) (sym here) (wanted.stood k m0 m keeps is))
     (λ (later : IsIn (entries w.dirty) x). came x later)
@@ -130,9 +145,11 @@ crowd_fits d d' v w k m0 m vs keeps is map nothing one =
     omega (arith, fit, count, limit, full)
 
 -- A pass over segments whose blocks, with all inodes and blocks of pointers, fill fewer doesn't overfill memory.
-pub fits : (d d' : DeviceState) (v : LogMemory) (k : CheckpointValue) (m0 m : LogMap) (meta : ℕ) (vs : List ℕ) → d'.keeps_model → IsLog d v k m0 m → IsLogMap m → v.dirty.blocks ≡ [] → meta ≡ meta_in m
+pub fits : (d d' : DeviceState) (v : LogMemory) (k : CheckpointValue) (m0 m : LogMap) (meta : ℕ) (vs : List ℕ) → d'.keeps_model
+    → IsLog d v k m0 m → IsLogMap m → v.dirty.blocks ≡ [] → meta ≡ meta_in m
     → sum_by (load_of v.usage) vs + meta + 48 ≤ 63 * (length vs - 1) → Overfills d d' v vs (most_brought (length vs)) → ⊥
 fits d d' v k m0 m meta vs keeps is map nothing counted gain over =
-    let loose : IsLoose d (limited v (most_brought (length vs))) k m0 m = record { running = is.running; hidden = is.hidden; segments = is.segments } in
+    let loose : IsLoose d (limited v (most_brought (length vs))) k m0 m =
+    record { running = is.running; hidden = is.hidden; segments = is.segments } in
     let fewer = crowd_fits d d' (limited v (most_brought (length vs))) over.0 k m0 m vs keeps loose map nothing over.1 in
     omega (arith, fewer, gain, counted)

@@ -25,6 +25,7 @@ ready_still a b v before looks is =
       saved = is.saved;
     }
 
-pub kept_still : (a b : DeviceState) (v : LogMemory) (before : UsageTable) (halted : Bool) (kept : Option PointerRun) → Looks a b → HoldsUnlessHalted a v before halted × KeepsRun a v kept
+pub kept_still : (a b : DeviceState) (v : LogMemory) (before : UsageTable) (halted : Bool) (kept : Option PointerRun) → Looks a b
+    → HoldsUnlessHalted a v before halted × KeepsRun a v kept
     → HoldsUnlessHalted b v before halted × KeepsRun b v kept
 kept_still a b v before halted kept looks is = ((λ on. ready_still a b v before looks (is.0 on)), run_still a b v kept looks is.1)

@@ -1,5 +1,6 @@
 -- A block of the inode map goes to the next place, or isn't stored.
-use Rattle.std.proofs.Common.{⊎_elim, ◌≤◌, ◌≡◌, ◌<◌, ◌+◌, ◌*◌, cond, ℕ, Bool, true, false, List, [], ◌∷◌, ◌++◌, Option, Some, None, refl, sym, ◌∙◌, ap, subst, arith}
+use Rattle.std.proofs.Common.{⊎_elim, ◌≤◌, ◌≡◌, ◌<◌, ◌+◌, ◌*◌, cond, ℕ, Bool, true, false, List, [], ◌∷◌, ◌++◌, Option, Some, None, refl}
+use Rattle.std.proofs.Common.{sym, ◌∙◌, ap, subst, arith}
 use Rattle.std.proofs.lemmas.Bool.{cases_lt}
 use Rattle.std.proofs.lemmas.List.{get_or_past}
 use Rattle.std.specs.Prelude.{get_or}
@@ -22,8 +23,10 @@ use Rattle.lfs_memory.specs.segments.Table.{UsageTable}
 use Rattle.lfs_memory.specs.inodes.Blocks.{blocks_of}
 use Rattle.lfs_memory.specs.inodes.MapValue.{MapValue, IsMap, IsMapOf, AreSettled, block_in}
 use Rattle.lfs_memory.specs.declared.memory.LogMemory.{LogMemory}
-use Rattle.lfs_memory.specs.Memory.{IsMemory, AreMapsOut, IsLog, IsBlockAt, AreHidden, Places, Goes, GoesUpTo, tables_by, tables_of, segment_in, chunk_in}
-use Rattle.lfs_memory.proofs.Begun.{before, begun, noted, place_is, room_left, opened_after, segment_after, segments_same, memory_after, placed_emptied}
+use Rattle.lfs_memory.specs.Memory.{IsMemory, AreMapsOut, IsLog, IsBlockAt, AreHidden, Places, Goes, GoesUpTo, tables_by, tables_of}
+use Rattle.lfs_memory.specs.Memory.{segment_in, chunk_in}
+use Rattle.lfs_memory.proofs.Begun.{before, begun, noted, place_is, room_left, opened_after, segment_after, segments_same, memory_after}
+use Rattle.lfs_memory.proofs.Begun.{placed_emptied}
 use Rattle.lfs_memory.proofs.FileSteps.{quiet_step}
 use Rattle.lfs_memory.proofs.Opened.{as_chunk}
 use Rattle.lfs_memory.proofs.Rooms.{takes_place}
@@ -37,7 +40,8 @@ pub map_of : (map : MapValue) (usage : UsageTable) (m : LogMap) → AreHidden ma
 map_of map usage m hidden = record { inodes = λ n lt. refl; hidden = hidden; blocks = λ j lt. refl }
 
 -- with no block of a file in memory, each inode has an address on the device
-pub settled_inodes : (d : DeviceState) (dirty : Dirty) (t : Tables) (k : CheckpointValue) (m0 m : LogMap) (seg : ℕ) (chunk : Option (List Entry)) → Running d dirty t k m0 m seg chunk
+pub settled_inodes : (d : DeviceState) (dirty : Dirty) (t : Tables) (k : CheckpointValue) (m0 m : LogMap) (seg : ℕ)
+    (chunk : Option (List Entry)) → Running d dirty t k m0 m seg chunk
     → ((x : Entry) → dirty x ≡ None) → (j : ℕ) → AreSettled m t j
 settled_inodes d dirty t k m0 m seg chunk w none j i lt one =
     let n = 128 * j + i in
@@ -50,7 +54,8 @@ settled_inodes d dirty t k m0 m seg chunk w none j i lt one =
     those_one false a is = absurd (omega (arith, is))
 
 -- the addresses in the tables, as a block of the map changes its own
-map_table : (map map' : MapValue) (usage usage' : UsageTable) (j place : ℕ) → IsBlockAt map map' j place → ((i : ℕ) → (tables_by map' usage').at (Usage i) ≡ (tables_by map usage).at (Usage i))
+map_table : (map map' : MapValue) (usage usage' : UsageTable) (j place : ℕ) → IsBlockAt map map' j place
+    → ((i : ℕ) → (tables_by map' usage').at (Usage i) ≡ (tables_by map usage).at (Usage i))
     → IsAddressed (tables_by map usage) (tables_by map' usage') (Map j) place
 map_table map map' usage usage' j place sets same = record { own = λ up. sets.block.own; others = others }
   where
@@ -66,16 +71,26 @@ hidden_still : (map map' : MapValue) (m : LogMap) → map'.hidden ≡ map.hidden
 hidden_still map map' m same hidden n lt = hidden n lt ∙ ap (λ (l : List Bool). get_or l n false) (sym same)
 
 -- one that shows no inode
-module _ (d : DeviceState) (v : LogMemory) (j : ℕ) (map' : MapValue) (sets : IsBlockAt v.map map' j 0) (wanted : block_in v.map j ≡ 1) (memory : IsMemory v) (lawful : IsLawful d)
+module _ (d : DeviceState) (v : LogMemory) (j : ℕ) (map' : MapValue) (sets : IsBlockAt v.map map' j 0) (wanted : block_in v.map j ≡ 1)
+    (memory : IsMemory v) (lawful : IsLawful d)
     (none : (m : LogMap) (t : Tables) → IsMapOf v.map m t → (i : ℕ) → i < 128 → shown m t.at (Inode (128 * j + i)) ≡ 0) where
   abbrev pub dropped_memory : LogMemory
   dropped_memory = record { map = map'; usage = v.usage; dirty = v.dirty; chunk = v.chunk }
 
   dropped_log : (k : CheckpointValue) (m0 m : LogMap) → IsLog d v k m0 m → IsLog d dropped_memory k m0 m
   dropped_log k m0 m is = record {
-    running = map_dropping d (blocks_of v.dirty) (tables_of v) (tables_by map' v.usage) k m0 m (segment_in v.chunk) (chunk_in v.chunk) j is.running wanted
+    running = map_dropping d (blocks_of v.dirty) (tables_of v) (tables_by map' v.usage) k m0 m (segment_in v.chunk)
+        (chunk_in v.chunk) j is.running wanted
         (none m (tables_of v) (map_of v.map v.usage m is.hidden))
-        (record { at = map_table v.map map' v.usage v.usage j 0 sets (λ i. refl); used = λ i. refl; live = λ i. refl; held = λ i. refl; age = λ i. refl; kept = λ i. refl; stale = λ i. refl });
+        (record {
+          at = map_table v.map map' v.usage v.usage j 0 sets (λ i. refl);
+          used = λ i. refl;
+          live = λ i. refl;
+          held = λ i. refl;
+          age = λ i. refl;
+          kept = λ i. refl;
+          stale = λ i. refl;
+        });
     hidden = hidden_still v.map map' m sets.hidden is.hidden;
     segments = is.segments;
     tight = is.tight;
@@ -94,10 +109,13 @@ module _ (d : DeviceState) (v : LogMemory) (j : ℕ) (map' : MapValue) (sets : I
   }
 
 -- one that is written
-module _ (v v' : LogMemory) (name : BlockNameValue) (age place : ℕ) (memory : IsMemory v) (p : Places v v' name true age place) (j : ℕ) (map' : MapValue) (sets : IsBlockAt v.map map' j place)
-    (d d' : DeviceState) (bytes : List ℕ) (crash : CrashWrites place bytes d d') (carries : Carries d d') (time : Elapses d d') (lawful : IsLawful d)
+module _ (v v' : LogMemory) (name : BlockNameValue) (age place : ℕ) (memory : IsMemory v) (p : Places v v' name true age place) (j : ℕ)
+    (map' : MapValue) (sets : IsBlockAt v.map map' j place)
+    (d d' : DeviceState) (bytes : List ℕ) (crash : CrashWrites place bytes d d') (carries : Carries d d') (time : Elapses d d')
+    (lawful : IsLawful d)
     (is_put : d'.keeps_model → d'.content ≡ put d.content place bytes) (named : entry_of name ≡ Map j) (wanted : block_in v.map j ≡ 1)
-    (spells : (m : LogMap) (t : Tables) → IsMapOf v.map m t → AreSettled m t j → SpellsMap m t j bytes) (empty : (x : Entry) → blocks_of v.dirty x ≡ None) where
+    (spells : (m : LogMap) (t : Tables) → IsMapOf v.map m t → AreSettled m t j → SpellsMap m t j bytes) (empty : (x : Entry)
+    → blocks_of v.dirty x ≡ None) where
   abbrev pub after_map : LogMemory
   after_map = record { map = map'; usage = v'.usage; dirty = v.dirty; chunk = v'.chunk }
 
@@ -109,11 +127,14 @@ module _ (v v' : LogMemory) (name : BlockNameValue) (age place : ℕ) (memory : 
       let running = begun v v' name true age place memory p d k m0 m is in
       let next = map_stepping d d' (blocks_of v.dirty) t (tables_by map' v'.usage) k m0 m v'.chunk.segment es j bytes
       running (room_left v v' name true age place memory p) wanted
-      (spells m t (map_of v.map p.middle m is.hidden) (settled_inodes d (blocks_of v.dirty) t k m0 m v'.chunk.segment (Some es) running empty j))
+      (spells m t (map_of v.map p.middle m is.hidden)
+      (settled_inodes d (blocks_of v.dirty) t k m0 m v'.chunk.segment (Some es) running empty j))
       (subst (λ (n : ℕ). IsWritten d d' n bytes) same_place (record { content = is_put keeps; crash = crash }))
-      (noted v v' name true age place memory p d k m0 m is (Map j) map' refl (map_table v.map map' p.middle v'.usage j place sets p.noted.blocks.address)) in
+      (noted v v' name true age place memory p d k m0 m is (Map j) map' refl
+      (map_table v.map map' p.middle v'.usage j place sets p.noted.blocks.address)) in
       record {
-        running = as_chunk d' (blocks_of v.dirty) (tables_by map' v'.usage) k m0 m v'.chunk.segment (segment_in v'.chunk) (Some (es ++ Map j ∷ [])) (chunk_in v'.chunk)
+        running = as_chunk d' (blocks_of v.dirty) (tables_by map' v'.usage) k m0 m v'.chunk.segment (segment_in v'.chunk)
+            (Some (es ++ Map j ∷ [])) (chunk_in v'.chunk)
             (sym (segment_after v v' name true age place memory p))
             (sym (opened_after v v' name true age place memory p ∙ ap (λ (e : Entry). Some (es ++ e ∷ [])) named)) next;
         hidden = hidden_still v.map map' m sets.hidden is.hidden;
@@ -137,5 +158,6 @@ module _ (v v' : LogMemory) (name : BlockNameValue) (age place : ℕ) (memory : 
 pub maps_out : (map : MapValue) → IsMap map → ((j : ℕ) → j < 32 → block_in map j ≡ 1 → ⊥) → AreMapsOut map
 maps_out map long known j one = ⊎_elim
     (λ (low : j < 32). known j low one)
-    (λ (high : 32 ≤ j). let past = get_or_past map.blocks j 0 (let l = long.blocks in omega (arith, l, high)) in absurd (omega (arith, past, one)))
+    (λ (high : 32 ≤ j). let past = get_or_past map.blocks j 0 (let l = long.blocks in omega (arith, l, high)) in
+    absurd (omega (arith, past, one)))
     (cases_lt j 32)

@@ -1,5 +1,6 @@
 -- A mount: what it took in is a log that runs.
-use Rattle.std.proofs.Common.{◌≡◌, ◌<◌, ◌≤◌, ⊎_elim, ◌⊎◌, inl, inr, ◌+◌, ◌*◌, ◌/◌, ◌%◌, ◌==◌, ℕ, zero, suc, false, [], length, get_or, Some, None, refl, sym, ◌∙◌, ap, subst, arith}
+use Rattle.std.proofs.Common.{◌≡◌, ◌<◌, ◌≤◌, ⊎_elim, ◌⊎◌, inl, inr, ◌+◌, ◌*◌, ◌/◌, ◌%◌, ◌==◌, ℕ, zero, suc, false, [], length, get_or, Some}
+use Rattle.std.proofs.Common.{None, refl, sym, ◌∙◌, ap, subst, arith}
 use Rattle.std.proofs.lemmas.Bool.{cases_lt}
 use Rattle.std.proofs.lemmas.List.{get_or_past}
 use Rattle.lfs_model.specs.Checkpoint.{CheckpointValue, FitsCheckpoint, layout_version}
@@ -38,7 +39,8 @@ use Rattle.lfs_memory.specs.segments.Early.{AreUntaken}
 use Rattle.lfs_memory.proofs.Opened.{closed_segment, closed_chunk, as_chunk}
 
 -- ---- the newest checkpoint
-one_checkpoint : (d : DeviceState) (m : LogMap) (k : CheckpointValue) → (is : StandsLog d.content m) → newest d.content ≡ Some k → is.checkpoint ≡ k
+one_checkpoint : (d : DeviceState) (m : LogMap) (k : CheckpointValue) → (is : StandsLog d.content m) → newest d.content ≡ Some k
+    → is.checkpoint ≡ k
 one_checkpoint d m k is newest = some_is is.checkpoint k (sym is.newest ∙ newest)
   where
     some_is : (a b : CheckpointValue) → Some a ≡ Some b → a ≡ b
@@ -48,8 +50,10 @@ one_checkpoint d m k is newest = some_is is.checkpoint k (sym is.newest ∙ newe
 abbrev by_numbers : ℕ → ℕ → ℕ → SegmentNumbers
 by_numbers used live age = record { used = used; live = live; held = 0; age = age; kept = used }
 
-module _ (c : Content) (k : CheckpointValue) (fits : FitsCheckpoint k) (m : LogMap) (st : StandsAt c k m) (map : MapValue) (usage : UsageTable)
-    (usages : IsUsageUpTo ((k.segments + 63) / 64) k.segments usage) (says : SaysUsage c k ((k.segments + 63) / 64) usage) (maps : IsMapUpTo 32 map) (tells : SaysMap c k 32 map) where
+module _ (c : Content) (k : CheckpointValue) (fits : FitsCheckpoint k) (m : LogMap) (st : StandsAt c k m) (map : MapValue)
+    (usage : UsageTable)
+    (usages : IsUsageUpTo ((k.segments + 63) / 64) k.segments usage) (says : SaysUsage c k ((k.segments + 63) / 64) usage)
+    (maps : IsMapUpTo 32 map) (tells : SaysMap c k 32 map) where
   no_map : (j : ℕ) → 32 ≤ j → get_or k.map j 0 ≡ 0
   no_map j high = get_or_past k.map j 0 (let long = fits.map_length in omega (arith, long, high))
 
@@ -57,9 +61,11 @@ module _ (c : Content) (k : CheckpointValue) (fits : FitsCheckpoint k) (m : LogM
   inode_there n = ⊎_elim
       (λ (low : n < 4096).
       let here : 128 * (n / 128) + n % 128 ≡ n = omega arith in
-      subst (λ (x : ℕ). address_in map x ≡ word (map_block c k (n / 128)) (n % 128)) here (tells.addresses (n / 128) (n % 128) (omega (arith, low)) (omega arith)))
+      subst (λ (x : ℕ). address_in map x ≡ word (map_block c k (n / 128)) (n % 128)) here
+      (tells.addresses (n / 128) (n % 128) (omega (arith, low)) (omega arith)))
       (λ (high : 4096 ≤ n).
-      maps.past n (omega (arith, high)) ∙ sym (ap (λ (a : ℕ). word (block c a) (n % 128)) (no_map (n / 128) (omega (arith, high))) ∙ word_nil (n % 128)))
+      maps.past n (omega (arith, high))
+      ∙ sym (ap (λ (a : ℕ). word (block c a) (n % 128)) (no_map (n / 128) (omega (arith, high))) ∙ word_nil (n % 128)))
       (cases_lt n 4096)
 
   map_there : (j : ℕ) → block_in map j ≡ get_or k.map j 0
@@ -70,7 +76,8 @@ module _ (c : Content) (k : CheckpointValue) (fits : FitsCheckpoint k) (m : LogM
   usage_there j = ⊎_elim
       (λ (low : j < (k.segments + 63) / 64). says.address j low)
       (λ (high : (k.segments + 63) / 64 ≤ j).
-      usages.none j high ∙ sym (⊎_elim (λ (z : get_or k.usage j 0 ≡ 0). z) (λ (some : 0 < get_or k.usage j 0). absurd (let low = (st.holds.stages.usages.addresses j).0 some in omega (arith, low, high))) (zero_or_more (get_or k.usage j 0))))
+      usages.none j high ∙ sym (⊎_elim (λ (z : get_or k.usage j 0 ≡ 0). z) (λ (some : 0 < get_or k.usage j 0).
+      absurd (let low = (st.holds.stages.usages.addresses j).0 some in omega (arith, low, high))) (zero_or_more (get_or k.usage j 0))))
       (cases_lt j ((k.segments + 63) / 64))
     where
       zero_or_more : (n : ℕ) → (n ≡ 0) ⊎ (0 < n)
@@ -92,7 +99,8 @@ module _ (c : Content) (k : CheckpointValue) (fits : FitsCheckpoint k) (m : LogM
       (λ (high : k.segments ≤ s).
       let past = st.holds.stages.usages.past s high in
       get_or_past usage.segments s no_segment (let size = usages.size in omega (arith, size, high))
-      ∙ sym (nothing (used_in (view c k) s) (live_in (view c k) s) (age_in (view c k) s) past.0 (st.holds.stages.usages.both s past.0) past.1))
+      ∙ sym (nothing (used_in (view c k) s) (live_in (view c k) s) (age_in (view c k) s) past.0
+      (st.holds.stages.usages.both s past.0) past.1))
       (cases_lt s k.segments)
     where
       nothing : (u l a : ℕ) → u ≡ 0 → l ≡ 0 → a ≡ 0 → by_numbers u l a ≡ no_segment
@@ -116,7 +124,8 @@ module _ (c : Content) (k : CheckpointValue) (fits : FitsCheckpoint k) (m : LogM
   }
 
 -- ---- the log
-module _ (d d' : DeviceState) (lawful : IsLawful d') (lawful_first : IsLawful d) (durable : d'.keeps_model → Only d.content d') (looks : Looks d d')
+module _ (d d' : DeviceState) (lawful : IsLawful d') (lawful_first : IsLawful d) (durable : d'.keeps_model → Only d.content d')
+    (looks : Looks d d')
     (t : Tables) (loaded : IsLoaded t d'.size) (has : d'.keeps_model → HasTables d.content t)
     (v : LogMemory) (chunk : v.chunk.names ≡ []) (dirty : v.dirty.blocks ≡ []) (usage : v.usage ≡ t.usage) (map : v.map ≡ t.map) where
   module _ (keeps : d'.keeps_model) (m : LogMap) where
@@ -130,7 +139,8 @@ module _ (d d' : DeviceState) (lawful : IsLawful d') (lawful_first : IsLawful d)
     count_same = (has keeps).held.says.segments
 
     usages : IsUsageUpTo ((k.segments + 63) / 64) k.segments v.usage
-    usages = subst (λ (n : ℕ). IsUsageUpTo ((n + 63) / 64) n v.usage) (sym count_same) (subst (IsUsageUpTo ((t.segments + 63) / 64) t.segments) (sym usage) loaded.usage)
+    usages = subst (λ (n : ℕ). IsUsageUpTo ((n + 63) / 64) n v.usage) (sym count_same)
+        (subst (IsUsageUpTo ((t.segments + 63) / 64) t.segments) (sym usage) loaded.usage)
 
     maps : IsMapUpTo 32 v.map
     maps = subst (IsMapUpTo 32) (sym map) loaded.map
@@ -141,7 +151,8 @@ module _ (d d' : DeviceState) (lawful : IsLawful d') (lawful_first : IsLawful d)
         record {
           newest = now;
           stands = subst (λ (c : Content). StandsAt c k m) (sym looks.untouched.content) st;
-          each = λ c left. subst (λ (x : Content). Keeps d'.content k x) (looks.untouched.content ∙ sym (durable keeps c left)) (keeps_itself d'.content k now);
+          each = λ c left. subst (λ (x : Content). Keeps d'.content k x) (looks.untouched.content ∙ sym (durable keeps c left))
+              (keeps_itself d'.content k now);
         }
 
     running : StandsAt d.content k m → Running d' (λ x. None) (tables_of v) k m m 1024 None
@@ -150,7 +161,8 @@ module _ (d d' : DeviceState) (lawful : IsLawful d') (lawful_first : IsLawful d)
         let to : d.content ≡ d'.content = sym looks.untouched.content in
         starting d' (tables_of v) k m 1024 most (are_sized d'.content lawful.now) (settled st)
         (mounted_tables d'.content k fits m (subst (λ (c : Content). StandsAt c k m) to st) v.map v.usage
-        usages (subst (λ (c : Content). SaysUsage c k ((k.segments + 63) / 64) v.usage) to (subst (SaysUsage d.content k ((k.segments + 63) / 64)) (sym usage) (has keeps).held.says.usage))
+        usages (subst (λ (c : Content). SaysUsage c k ((k.segments + 63) / 64) v.usage) to
+        (subst (SaysUsage d.content k ((k.segments + 63) / 64)) (sym usage) (has keeps).held.says.usage))
         maps (subst (λ (c : Content). SaysMap c k 32 v.map) to (subst (SaysMap d.content k 32) (sym map) (has keeps).held.says.map)))
         most
 
@@ -159,8 +171,10 @@ module _ (d d' : DeviceState) (lawful : IsLawful d') (lawful_first : IsLawful d)
         let none : length v.chunk.names ≡ 0 = ap length chunk in
         let w = subst (λ (bs : Blocks). Running d' (blocks_in bs) (tables_of v) k m m 1024 None) (sym dirty) (running st) in
         record {
-          running = as_chunk d' (blocks_of v.dirty) (tables_of v) k m m 1024 (segment_in v.chunk) None (chunk_in v.chunk) (sym (closed_segment v.chunk none)) (sym (closed_chunk v.chunk none)) w;
-          hidden = λ n low. (mounting d.content k m (let most = fits.segments.most in omega (arith, most)) (are_sized d.content lawful_first.now) st).2 n ∙ sym (maps.hidden n);
+          running = as_chunk d' (blocks_of v.dirty) (tables_of v) k m m 1024 (segment_in v.chunk) None (chunk_in v.chunk)
+              (sym (closed_segment v.chunk none)) (sym (closed_chunk v.chunk none)) w;
+          hidden = λ n low. (mounting d.content k m (let most = fits.segments.most in omega (arith, most))
+              (are_sized d.content lawful_first.now) st).2 n ∙ sym (maps.hidden n);
           segments = usages.size;
           tight = λ x b there. absurd (let none = empty x in cc);
         }
@@ -171,7 +185,8 @@ module _ (d d' : DeviceState) (lawful : IsLawful d') (lawful_first : IsLawful d)
   pub opens : Opens d d' v t.version t.number
   opens m keeps is =
       let one = one_checkpoint d m (k keeps m) is (has keeps).held.newest in (
-        subst (λ (x : CheckpointValue). IsLog d' v x m m) (sym one) (log_at keeps m (subst (λ (x : CheckpointValue). StandsAt d.content x m) one is.stands)),
+        subst (λ (x : CheckpointValue). IsLog d' v x m m) (sym one)
+            (log_at keeps m (subst (λ (x : CheckpointValue). StandsAt d.content x m) one is.stands)),
         ap (λ (x : CheckpointValue). x.number) one ∙ (has keeps).held.says.number,
         is.stands.holds.version ∙ ap layout_version one ∙ (has keeps).held.says.version,
       )
@@ -181,7 +196,8 @@ module _ (d d' : DeviceState) (lawful : IsLawful d') (lawful_first : IsLawful d)
   untaken keeps =
       let h = has keeps in
       (mounted_tables d.content h.held.checkpoint h.held.fits h.held.log h.stands v.map v.usage (usages keeps h.held.log)
-      (subst (SaysUsage d.content h.held.checkpoint ((h.held.checkpoint.segments + 63) / 64)) (sym usage) h.held.says.usage) (maps keeps h.held.log)
+      (subst (SaysUsage d.content h.held.checkpoint ((h.held.checkpoint.segments + 63) / 64)) (sym usage) h.held.says.usage)
+      (maps keeps h.held.log)
       (subst (SaysMap d.content h.held.checkpoint 32) (sym map) h.held.says.map)).kept
 
   -- and an eighth of the segments is clean at least
@@ -190,26 +206,32 @@ module _ (d d' : DeviceState) (lawful : IsLawful d') (lawful_first : IsLawful d)
   many keeps =
       let h = has keeps in
       let tables = mounted_tables d.content h.held.checkpoint h.held.fits h.held.log h.stands v.map v.usage (usages keeps h.held.log)
-      (subst (SaysUsage d.content h.held.checkpoint ((h.held.checkpoint.segments + 63) / 64)) (sym usage) h.held.says.usage) (maps keeps h.held.log)
+      (subst (SaysUsage d.content h.held.checkpoint ((h.held.checkpoint.segments + 63) / 64)) (sym usage) h.held.says.usage)
+      (maps keeps h.held.log)
       (subst (SaysMap d.content h.held.checkpoint 32) (sym map) h.held.says.map) in
       let size = (usages keeps h.held.log).size in
-      let same = count_up_same (is_clean_in v.usage.segments) (is_clean (view d.content h.held.checkpoint)) h.held.checkpoint.segments (λ s low. ap (λ (n : ℕ). n == 0) (tables.used s)) in
+      let same = count_up_same (is_clean_in v.usage.segments) (is_clean (view d.content h.held.checkpoint)) h.held.checkpoint.segments
+      (λ s low. ap (λ (n : ℕ). n == 0) (tables.used s)) in
       let enough = subst (λ (n : ℕ). h.held.checkpoint.segments ≤ 8 * n) (sym same) h.stands.clean in
       subst (λ (n : ℕ). n ≤ 8 * count_up (is_clean_in v.usage.segments) n) (sym size) enough
 
   -- and these are its totals
-  pub counts_opened : (totals : BlockTotals) → totals.data_blocks ≡ t.data_blocks → totals.meta_blocks ≡ t.meta_blocks → CountsOpened d d' totals
+  pub counts_opened : (totals : BlockTotals) → totals.data_blocks ≡ t.data_blocks → totals.meta_blocks ≡ t.meta_blocks
+      → CountsOpened d d' totals
   counts_opened totals blocks others m keeps is =
       let h = has keeps in
-      let same = single_log d.content h.held.log m (record { checkpoint = h.held.checkpoint; newest = h.held.newest; stands = h.stands }) is in
+      let same =
+      single_log d.content h.held.log m (record { checkpoint = h.held.checkpoint; newest = h.held.newest; stands = h.stands }) is in
       let counted = subst (λ (x : LogMap). IsCounted x t.data_blocks t.meta_blocks) same h.held.counted in
       record { stored = blocks ∙ counted.stored; above = others ∙ counted.above }
 
 pub has_log_map : (d d' : DeviceState) (t : Tables) → (d'.keeps_model → HasTables d.content t) → HasLogMap d d'
-has_log_map d d' t has keeps = let h = has keeps in (h.held.log, record { checkpoint = h.held.checkpoint; newest = h.held.newest; stands = h.stands })
+has_log_map d d' t has keeps = let h = has keeps in
+    (h.held.log, record { checkpoint = h.held.checkpoint; newest = h.held.newest; stands = h.stands })
 
 -- the log that has it is ready
-pub ready : (d : DeviceState) (v : LogMemory) (before : UsageTable) → IsOpened v d.size → length before.segments ≡ length v.usage.segments → IsReadyToPass d v before
+pub ready : (d : DeviceState) (v : LogMemory) (before : UsageTable) → IsOpened v d.size → length before.segments ≡ length v.usage.segments
+    → IsReadyToPass d v before
 ready d v before is saved = record {
   running = record {
     memory = is.memory;
@@ -225,22 +247,27 @@ ready d v before is saved = record {
 -- ---- behind a walk, which only read
 module _ {D : Type 0} (state : D → DeviceState) (d d' : D) (looks : Looks (state d) (state d')) where
   -- what the walk's tables say of the device before it, they say of it after
-  pub tables_behind : (t : Tables) → ((state d').keeps_model → HasTables (state d).content t) → (state d').keeps_model → HasTables (state d').content t
+  pub tables_behind : (t : Tables) → ((state d').keeps_model → HasTables (state d).content t) → (state d').keeps_model
+      → HasTables (state d').content t
   tables_behind t has keeps = subst (λ (c : Content). HasTables c t) (sym looks.untouched.content) (has keeps)
 
-  pub only_behind : ((state d').keeps_model → Only (state d).content (state d')) → (state d').keeps_model → Only (state d').content (state d')
+  pub only_behind : ((state d').keeps_model → Only (state d).content (state d')) → (state d').keeps_model
+      → Only (state d').content (state d')
   only_behind durable keeps = subst (λ (c : Content). Only c (state d')) (sym looks.untouched.content) (durable keeps)
 
 module _ {D : Type 0} (state : D → DeviceState) (d d' : D) (looks : Looks (state d) (state d')) (h : Held D) (same : h.device ≡ d') where
   pub mounts_behind : Mounts state d' h → Mounts state d h
   mounts_behind mounts =
-      subst (λ (c : Content). (m : LogMap) → (state h.device).keeps_model → (is : StandsLog c m) → Holds state h is.checkpoint m m) looks.untouched.content mounts
+      subst (λ (c : Content). (m : LogMap) → (state h.device).keeps_model → (is : StandsLog c m) → Holds state h is.checkpoint m m)
+      looks.untouched.content mounts
 
   pub counts_behind : CountsOpened (state d') (state h.device) h.totals → CountsOpened (state d) (state h.device) h.totals
   counts_behind counts =
-      subst (λ (c : Content). (m : LogMap) → (state h.device).keeps_model → StandsLog c m → IsCounted m h.totals.data_blocks h.totals.meta_blocks) looks.untouched.content counts
+      subst (λ (c : Content). (m : LogMap) → (state h.device).keeps_model → StandsLog c m
+      → IsCounted m h.totals.data_blocks h.totals.meta_blocks) looks.untouched.content counts
 
-  pub durable_behind : ((state d').keeps_model → Only (state d).content (state d')) → (state h.device).keeps_model → Only (state d).content (state h.device)
+  pub durable_behind : ((state d').keeps_model → Only (state d).content (state d')) → (state h.device).keeps_model
+      → Only (state d).content (state h.device)
   durable_behind durable = subst (λ (x : D). (state x).keeps_model → Only (state d).content (state x)) (sym same) durable
 
   pub log_behind : (t : Tables) → ((state d').keeps_model → HasTables (state d).content t) → HasLogMap (state d) (state h.device)

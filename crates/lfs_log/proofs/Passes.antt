@@ -28,17 +28,11 @@ use Rattle.lfs_log.proofs.Cleaned.{at_one, emptied_least, limited_log}
 pub fewer_taken : (blocks count : ℕ) → 2 ≤ count → blocks ≤ most_brought count → segments_for blocks ≤ count - 1
 fewer_taken blocks count least few = omega (arith, least, few)
 
-module _ (d d' : DeviceState) (v v' : LogMemory) (vs : List ℕ) (may : MayClean v vs) (apart : AreApart vs) (one : Empties d d' v v' vs) (few : length v'.dirty.blocks ≤ most_brought (length vs)) where
+module _ (d d' : DeviceState) (v v' : LogMemory) (vs : List ℕ) (may : MayClean v vs) (apart : AreApart vs) (one : Empties d d' v v' vs)
+    (few : length v'.dirty.blocks ≤ most_brought (length vs)) where
   pub pass_emptied : length vs ≤ emptied_in v'.usage.segments
-  pass_emptied = emptied_least v'.usage vs apart (λ i lt. let low = (may.each i lt).inside in let size = one.segments in omega (arith, low, size)) one.emptied
-
-  pub pass_clean : segments_for (length v'.dirty.blocks) ≤ clean_in v'.usage.segments
-  pass_clean =
-      let taken = fewer_taken (length v'.dirty.blocks) (length vs) may.least few in
-      let most = may.most in
-      let many = may.many in
-      let clean = one.clean in
-      omega (arith, taken, most, many, clean)
+  pass_emptied = emptied_least v'.usage vs apart
+      (λ i lt. let low = (may.each i lt).inside in let size = one.segments in omega (arith, low, size)) one.emptied
 
   pub pass_spared : IsSpared v'
   pass_spared =
@@ -50,51 +44,58 @@ module _ (d d' : DeviceState) (v v' : LogMemory) (vs : List ℕ) (may : MayClean
       let gone = pass_emptied in
       omega (arith, taken, least, many, clean, size, gone)
 
-  pub pass_room : HasRoom d v → HasRoom d' v'
-  pass_room room = let size = one.looks.carries.size in let same = one.segments in omega (arith, room, size, same)
-
--- what a pass may bring is within memory
-pub pass_few : (v : LogMemory) (vs : List ℕ) → MayClean v vs → most_brought (length vs) + 48 ≤ 63 * (length v.usage.segments / 8)
-pass_few v vs may = let least = may.least in let most = may.most in omega (arith, least, most)
-
-pub pass_reserved : (v : LogMemory) (vs : List ℕ) → MayClean v vs → v.dirty.capacity.room + 48 ≡ 63 * (length v.usage.segments / 8) → most_brought (length vs) ≤ v.dirty.capacity.room
-pass_reserved v vs may room = let few = pass_few v vs may in omega (arith, few, room)
-
-pub pass_victims : (v : LogMemory) (vs : List ℕ) → IsMemory v → MayClean v vs → length vs ≤ 129
-pass_victims v vs memory may = let most = may.most in let count = memory.count.most in omega (arith, most, count)
-
 -- ---- the whole pass
 module _ {D : Type 0} (state : D → DeviceState) where
-  pub reads_looks : (h h' : Held D) → Looks (state h.device) (state h'.device) → h'.memory ≡ h.memory → h'.number ≡ h.number → h'.version ≡ h.version → h'.upgraded ≡ h.upgraded → h'.halted ≡ h.halted → h'.totals ≡ h.totals → Reads state h h'
-  reads_looks h h' looks memory number version upgraded halted totals = record { looks = looks; memory = memory; number = number; version = version; upgraded = upgraded; halted = halted; totals = totals }
-
-  module _ (h : Held D) (middle : DeviceState) (v : LogMemory) (vs : List ℕ) (lawful : IsLawful (state h.device)) (one : Empties (state h.device) middle h.memory v vs) where
-    acknowledged : (k : CheckpointValue) (m0 m : LogMap) → middle.keeps_model → Holds state h k m0 m → IsLogMap (dropped m) → IsAcknowledged middle v h.version h.number k m0 m
+  module _ (h : Held D) (middle : DeviceState) (v : LogMemory) (vs : List ℕ) (lawful : IsLawful (state h.device))
+      (one : Empties (state h.device) middle h.memory v vs) where
+    acknowledged : (k : CheckpointValue) (m0 m : LogMap) → middle.keeps_model → Holds state h k m0 m → IsLogMap (dropped m)
+        → IsAcknowledged middle v h.version h.number k m0 m
     acknowledged k m0 m keeps is map = record { log = one.log k m0 m keeps is.log; map = map; same = is.number; same_version = is.version }
 
-    moment_then : (d : DeviceState) (k : CheckpointValue) (m0 m : LogMap) → middle.keeps_model → Holds state h k m0 m → LeavesOnly middle d (StandsForOn k.segments m0 (dropped m))
+    moment_then : (d : DeviceState) (k : CheckpointValue) (m0 m : LogMap) → middle.keeps_model → Holds state h k m0 m
+        → LeavesOnly middle d (StandsForOn k.segments m0 (dropped m))
         → LeavesOnly (state h.device) d (StandsForOn k.segments m0 (dropped m))
     moment_then d k m0 m keeps is moment =
         let P : Content → Type 0 = λ x. StandsOn k.segments x m0 in
         let Q : Content → Type 0 = StandsForOn k.segments m0 (dropped m) in
-        joined (state h.device) middle d P Q Q (looks_quiet (state h.device) middle h.memory k m0 m lawful one.looks (loose (state h.device) h.memory k m0 m is.log)) moment (λ x s. inl s) (λ x s. s)
+        joined (state h.device) middle d P Q Q (looks_quiet (state h.device) middle h.memory k m0 m lawful one.looks
+        (loose (state h.device) h.memory k m0 m is.log)) moment (λ x s. inl s) (λ x s. s)
 
-    pub pass_halts : (device : D) (after : LogMemory) → middle.failures ≡ (state h.device).failures → CommitFails middle (state device) v h.version h.number
-        → Halts state h (record { device = device; memory = after; number = h.number; version = h.version; upgraded = h.upgraded; halted = true; totals = h.totals })
+    pub pass_halts : (device : D) (after : LogMemory) → middle.failures ≡ (state h.device).failures
+        → CommitFails middle (state device) v h.version h.number
+        → Halts state h (record {
+          device = device;
+          memory = after;
+          number = h.number;
+          version = h.version;
+          upgraded = h.upgraded;
+          halted = true;
+          totals = h.totals;
+        })
     pass_halts device after unfailed fails = record {
       carries = carries_then (state h.device) middle (state device) one.looks.carries fails.carries;
       halted = refl;
       number = refl;
-      cause = λ k m0 m keeps is. (let rose = fails.cause k m0 m keeps (one.log k m0 m (fails.carries.kept_before keeps) is.log) in omega (arith, rose, unfailed));
+      cause = λ k m0 m keeps is.
+          (let rose = fails.cause k m0 m keeps (one.log k m0 m (fails.carries.kept_before keeps) is.log) in omega (arith, rose, unfailed));
       left = λ k m0 m keeps is map. fails.left k m0 m keeps (acknowledged k m0 m (fails.carries.kept_before keeps) is map);
       moment = λ k m0 m keeps is map.
           let back = fails.carries.kept_before keeps in
           moment_then (state device) k m0 m back is (fails.moment k m0 m keeps (acknowledged k m0 m back is map));
     }
 
-    pub pass_done : MayClean h.memory vs → AreApart vs → length v.dirty.blocks ≤ most_brought (length vs) → (device : D) (w : LogMemory) (t : TableValue) (halted : Bool) → halted ≡ false → t.blocks ≡ w.dirty.blocks
+    pub pass_done : MayClean h.memory vs → AreApart vs → length v.dirty.blocks ≤ most_brought (length vs)
+        → (device : D) (w : LogMemory) (t : TableValue) (halted : Bool) → halted ≡ false → t.blocks ≡ w.dirty.blocks
         → middle.failures ≡ (state h.device).failures → CommitsAll middle (state device) v w h.version h.number
-        → Cleans state h (record { device = device; memory = record { map = w.map; usage = w.usage; dirty = t; chunk = w.chunk }; number = h.number + 1; version = h.version; upgraded = false; halted = halted; totals = h.totals }) vs
+        → Cleans state h (record {
+          device = device;
+          memory = record { map = w.map; usage = w.usage; dirty = t; chunk = w.chunk };
+          number = h.number + 1;
+          version = h.version;
+          upgraded = false;
+          halted = halted;
+          totals = h.totals;
+        }) vs
     pass_done may apart few device w t halted on same unfailed done = record {
       carries = carries_then (state h.device) middle (state device) one.looks.carries done.carries;
       running = on;
@@ -118,14 +119,31 @@ module _ {D : Type 0} (state : D → DeviceState) where
           let own = n.1.log.segments in
           let size = done.segments ∙ one.segments in
           let was = is.log.segments in
-          subst (λ (l : ℕ). AllLeft (state device) (λ c. StandsOn l c (dropped m))) (omega (arith, own, size, was)) (settled_stands (state device) n.0 (dropped m) n.1.log.running.settled);
+          subst (λ (l : ℕ). AllLeft (state device) (λ c. StandsOn l c (dropped m))) (omega (arith, own, size, was))
+          (settled_stands (state device) n.0 (dropped m) n.1.log.running.settled);
       moment = λ k m0 m keeps is map.
           let back = done.carries.kept_before keeps in
           moment_then (state device) k m0 m back is (done.moment k m0 m keeps (acknowledged k m0 m back is map));
     }
       where
         holds : (k : CheckpointValue) (m0 m : LogMap) → (state device).keeps_model → Holds state h k m0 m → IsLogMap (dropped m)
-            → (next : CheckpointValue) × Holds state (record { device = device; memory = record { map = w.map; usage = w.usage; dirty = t; chunk = w.chunk }; number = h.number + 1; version = h.version; upgraded = false; halted = halted; totals = h.totals }) next (dropped m) m
+            → (next : CheckpointValue)
+            × Holds state (record {
+              device = device;
+              memory = record { map = w.map; usage = w.usage; dirty = t; chunk = w.chunk };
+              number = h.number + 1;
+              version = h.version;
+              upgraded = false;
+              halted = halted;
+              totals = h.totals;
+            }) next (dropped m) m
         holds k m0 m keeps is map =
-            let n = done.log k m0 m keeps (acknowledged k m0 m (done.carries.kept_before keeps) is map) in
-            (n.0, record { log = limited_log w t same (state device) n.0 (dropped m) m n.2; number = n.1; version = is.version; running = on })
+            let n = done.log k m0 m keeps (acknowledged k m0 m (done.carries.kept_before keeps) is map) in (
+              n.0,
+              record {
+                log = limited_log w t same (state device) n.0 (dropped m) m n.2;
+                number = n.1;
+                version = is.version;
+                running = on;
+              },
+            )

@@ -1,12 +1,14 @@
 -- The end of a commit: what its device calls leave of the log.
-use Rattle.std.proofs.Common.{◌≡◌, ◌<◌, ◌≤◌, ◌⊎◌, inl, ⊎_elim, ◌+◌, ◌*◌, ◌/◌, ◌%◌, ◌==◌, ◌&&◌, cond, eq-eqb, eqb-true, Bool, true, false, ℕ, List, [], length, get_or, None, refl, sym, ◌∙◌, ap, subst, arith}
+use Rattle.std.proofs.Common.{◌≡◌, ◌<◌, ◌≤◌, ◌⊎◌, inl, ⊎_elim, ◌+◌, ◌*◌, ◌/◌, ◌%◌, ◌==◌, ◌&&◌, cond, eq-eqb, eqb-true, Bool, true, false, ℕ}
+use Rattle.std.proofs.Common.{List, [], length, get_or, None, refl, sym, ◌∙◌, ap, subst, arith}
 use Rattle.std.proofs.lemmas.Bool.{cases_eq, cases_lt, cond-true, cond-false, false_from_ne_true}
 use Rattle.std.proofs.lemmas.List.{get_or_past}
 use Rattle.lfs_model.specs.Entry.{Inode, Map, Usage}
 use Rattle.lfs_model.specs.Checkpoint.{CheckpointValue, IsSegmentCount, checkpoint_sector}
 use Rattle.lfs_model.specs.Content.{Content}
 use Rattle.lfs_model.specs.Crash.{StandsForOn}
-use Rattle.lfs_model.specs.Device.{DeviceState, IsLawful, IsUntouched, MayWrite, Carries, Elapses, Only, AllLeft, LeavesOnly, ComesFrom, put}
+use Rattle.lfs_model.specs.Device.{DeviceState, IsLawful, IsUntouched, MayWrite, Carries, Elapses, Only, AllLeft, LeavesOnly, ComesFrom}
+use Rattle.lfs_model.specs.Device.{put}
 use Rattle.lfs_model.specs.Stands.{LogMap, count_up}
 use Rattle.lfs_model.specs.TreeOf.{dropped}
 use Rattle.lfs_model.specs.Memory.{Memory, is_shown}
@@ -19,7 +21,8 @@ use Rattle.lfs_model.proofs.Leaving.{staying}
 use Rattle.lfs_model.proofs.Moments.{carries_then, started, goes_on, joined}
 use Rattle.lfs_model.proofs.Publishing.{planning, resting}
 use Rattle.lfs_model.proofs.Settled.{settled_stands, settled_still, slot_torn, acknowledged}
-use Rattle.lfs_memory.specs.segments.Table.{SegmentNumbers, PlaceInSegment, UsageTable, no_segment, no_place, used_of, live_of, held_of, address_of}
+use Rattle.lfs_memory.specs.segments.Table.{SegmentNumbers, PlaceInSegment, UsageTable, no_segment, no_place, used_of, live_of, held_of}
+use Rattle.lfs_memory.specs.segments.Table.{address_of}
 use Rattle.lfs_memory.specs.segments.Steps.{Releases, is_empty}
 use Rattle.lfs_memory.specs.segments.Spare.{spare_in}
 use Rattle.lfs_memory.specs.inodes.Blocks.{Blocks, blocks_in, blocks_of}
@@ -31,7 +34,8 @@ use Rattle.lfs_memory.proofs.Opened.{closed_segment, closed_chunk, as_chunk}
 use Rattle.lfs_log.proofs.UsageWrites.{table_same}
 
 -- ---- counts
-many_clean : (t : UsageTable) (n : ℕ) → length t.segments ≡ n → length t.segments ≤ 8 * spare_in t.segments → n ≤ 8 * count_up (λ s. cond (live_of t s == 0) 0 (used_of t s) == 0) n
+many_clean : (t : UsageTable) (n : ℕ) → length t.segments ≡ n → length t.segments ≤ 8 * spare_in t.segments
+    → n ≤ 8 * count_up (λ s. cond (live_of t s == 0) 0 (used_of t s) == 0) n
 unfolding spare_in
 many_clean t n same many = subst (λ (i : ℕ). i ≤ 8 * count_up (λ s. cond (live_of t s == 0) 0 (used_of t s) == 0) i) same many
 
@@ -45,7 +49,9 @@ both_zero l h a b = and_true (l == 0) (h == 0) (eq-eqb l 0 a) (eq-eqb h 0 b)
     and_true false b p q = p
 
 some_left : (l h : ℕ) → (0 < l) ⊎ (0 < h) → ((l == 0) && (h == 0)) ≡ false
-some_left l h some = false_from_ne_true ((l == 0) && (h == 0)) (λ both. let z = and_both (l == 0) (h == 0) both in let a = eqb-true l 0 z.0 in let b = eqb-true h 0 z.1 in ⊎_elim (λ (lt : 0 < l). absurd (omega arith)) (λ (lt : 0 < h). absurd (omega arith)) some)
+some_left l h some =
+    false_from_ne_true ((l == 0) && (h == 0)) (λ both. let z = and_both (l == 0) (h == 0) both in let a = eqb-true l 0 z.0 in
+    let b = eqb-true h 0 z.1 in ⊎_elim (λ (lt : 0 < l). absurd (omega arith)) (λ (lt : 0 < h). absurd (omega arith)) some)
   where
     and_both : (a b : Bool) → (a && b) ≡ true → (a ≡ true) × (b ≡ true)
     and_both true true e = (refl, refl)
@@ -59,8 +65,10 @@ module _ (v : LogMemory) (u : UsageTable) (go : Releases v.usage u) where
   pub is_released : IsReleased (tables_of v) (tables_of (record v { usage = u }))
   is_released = record {
     at = table_same v.map v.usage u (places_same (λ b. b.address));
-    gone = λ s l h. ap (λ (n : SegmentNumbers). n.used) (go.each s) ∙ cond-true (is_empty (get_or v.usage.segments s no_segment)) 0 (used_of v.usage s) (both_zero (live_of v.usage s) (held_of v.usage s) l h);
-    used = λ s some. ap (λ (n : SegmentNumbers). n.used) (go.each s) ∙ cond-false (is_empty (get_or v.usage.segments s no_segment)) 0 (used_of v.usage s) (some_left (live_of v.usage s) (held_of v.usage s) some);
+    gone = λ s l h. ap (λ (n : SegmentNumbers). n.used) (go.each s) ∙ cond-true (is_empty (get_or v.usage.segments s no_segment)) 0
+        (used_of v.usage s) (both_zero (live_of v.usage s) (held_of v.usage s) l h);
+    used = λ s some. ap (λ (n : SegmentNumbers). n.used) (go.each s) ∙ cond-false (is_empty (get_or v.usage.segments s no_segment)) 0
+        (used_of v.usage s) (some_left (live_of v.usage s) (held_of v.usage s) some);
     live = λ s. ap (λ (n : SegmentNumbers). n.live) (go.each s);
     held = λ s. ap (λ (n : SegmentNumbers). n.held) (go.each s);
     age = λ s some. ap (λ (n : SegmentNumbers). n.age) (go.each s);
@@ -90,7 +98,8 @@ map_past e m M o j laid settled ge = ⊎_elim
     let p = b.some high in
     let word = b.spells high p.0 p.1 in
     let lt = p.2 in
-    let there : 0 < M.at (Inode (128 * j + p.0)) = least_shown (is_shown m (Inode (128 * j + p.0))) (M.at (Inode (128 * j + p.0))) (omega arith) in
+    let there : 0 < M.at (Inode (128 * j + p.0)) =
+    least_shown (is_shown m (Inode (128 * j + p.0))) (M.at (Inode (128 * j + p.0))) (omega arith) in
     let file = (laid.spells (Inode (128 * j + p.0)) there).formed in
     let own = file.own in
     let most = file.fits.number.1 in
@@ -107,14 +116,16 @@ usage_past e m M o j laid ge = ⊎_elim
     (cases_eq (M.at (Usage j)) 0)
 
 -- an array of addresses, which has all that there are
-array_is : (xs : List ℕ) (n : ℕ) (f : ℕ → ℕ) → length xs ≡ n → ((j : ℕ) → j < n → get_or xs j 0 ≡ f j) → ((j : ℕ) → n ≤ j → f j ≡ 0) → (j : ℕ) → get_or xs j 0 ≡ f j
+array_is : (xs : List ℕ) (n : ℕ) (f : ℕ → ℕ) → length xs ≡ n → ((j : ℕ) → j < n → get_or xs j 0 ≡ f j) → ((j : ℕ) → n ≤ j → f j ≡ 0)
+    → (j : ℕ) → get_or xs j 0 ≡ f j
 array_is xs n f long inside past j = ⊎_elim
     (λ (lt : j < n). inside j lt)
     (λ (ge : n ≤ j). get_or_past xs j 0 (omega arith) ∙ sym (past j ge))
     (cases_lt j n)
 
 -- ---- the sync
-module _ (d d1 : DeviceState) (v : LogMemory) (version number : ℕ) (lawful : IsLawful d) (same : IsUntouched d d1) (carries : Carries d d1) (time : Elapses d d1) where
+module _ (d d1 : DeviceState) (v : LogMemory) (version number : ℕ) (lawful : IsLawful d) (same : IsUntouched d d1) (carries : Carries d d1)
+    (time : Elapses d d1) where
   synced : (k : CheckpointValue) (m0 m : LogMap) → IsLog d v k m0 m → IsLog d1 v k m0 m
   synced k m0 m log = record {
     running = staying d d1 _ (tables_of v) k m0 m (segment_in v.chunk) (chunk_in v.chunk) log.running same;
@@ -128,7 +139,8 @@ module _ (d d1 : DeviceState) (v : LogMemory) (version number : ℕ) (lawful : I
 
   sync_moment : (k : CheckpointValue) (m0 m : LogMap) → IsLog d v k m0 m → LeavesOnly d d1 (StandsForOn k.segments m0 (dropped m))
   sync_moment k m0 m log =
-      goes_on d d d1 (StandsForOn k.segments m0 (dropped m)) (started d (StandsForOn k.segments m0 (dropped m)) lawful (λ c left. inl (settled_stands d k m0 log.running.settled c left))) carries time (sync_left k m0 m log)
+      goes_on d d d1 (StandsForOn k.segments m0 (dropped m)) (started d (StandsForOn k.segments m0 (dropped m)) lawful
+      (λ c left. inl (settled_stands d k m0 log.running.settled c left))) carries time (sync_left k m0 m log)
 
   pub sync_fails : d.failures < d1.failures → PublishFails d d1 v version number
   sync_fails failed = record {
@@ -139,14 +151,17 @@ module _ (d d1 : DeviceState) (v : LogMemory) (version number : ℕ) (lawful : I
   }
 
   -- ---- the next checkpoint
-  module _ (d2 : DeviceState) (next : CheckpointValue) (good : IsMemory v) (out : IsAllOut v) (is : IsNext v version number next) (only : d1.keeps_model → Only d1.content d1) (unfailed : d1.failures ≡ d.failures)
-      (moment : LeavesOnly d1 d2 (ComesFrom d1 (MayWrite (next.number % 2) (checkpoint_sector next)))) (left : AllLeft d2 (ComesFrom d1 (MayWrite (next.number % 2) (checkpoint_sector next)))) (more : Carries d1 d2) where
+  module _ (d2 : DeviceState) (next : CheckpointValue) (good : IsMemory v) (out : IsAllOut v) (is : IsNext v version number next)
+      (only : d1.keeps_model → Only d1.content d1) (unfailed : d1.failures ≡ d.failures)
+      (moment : LeavesOnly d1 d2 (ComesFrom d1 (MayWrite (next.number % 2) (checkpoint_sector next))))
+      (left : AllLeft d2 (ComesFrom d1 (MayWrite (next.number % 2) (checkpoint_sector next)))) (more : Carries d1 d2) where
     no_chunk : length v.chunk.names ≡ 0
     no_chunk = ap length out.chunk
 
     module _ (k : CheckpointValue) (m0 m : LogMap) (held : IsAcknowledged d v version number k m0 m) where
       running : Running d1 (blocks_of v.dirty) (tables_of v) k m0 m 1024 None
-      running = as_chunk d1 (blocks_of v.dirty) (tables_of v) k m0 m (segment_in v.chunk) 1024 (chunk_in v.chunk) None (closed_segment v.chunk no_chunk) (closed_chunk v.chunk no_chunk) (synced k m0 m held.log).running
+      running = as_chunk d1 (blocks_of v.dirty) (tables_of v) k m0 m (segment_in v.chunk) 1024 (chunk_in v.chunk) None
+          (closed_segment v.chunk no_chunk) (closed_chunk v.chunk no_chunk) (synced k m0 m held.log).running
 
       log : Running d (blocks_of v.dirty) (tables_of v) k m0 m (segment_in v.chunk) (chunk_in v.chunk)
       log = held.log.running
@@ -156,7 +171,8 @@ module _ (d d1 : DeviceState) (v : LogMemory) (version number : ℕ) (lawful : I
         empty = λ x. ap (λ (es : Blocks). blocks_in es x) out.dirty;
         maps = out.maps;
         usages = λ j one. ⊎_elim
-            (λ (low : j < (length v.usage.segments + 63) / 64). let bad : true ≡ false = sym (good.usages j one) ∙ out.fresh j low in absurd (cc))
+            (λ (low : j < (length v.usage.segments + 63) / 64). let bad : true ≡ false = sym (good.usages j one) ∙ out.fresh j low in
+            absurd (cc))
             (λ (high : (length v.usage.segments + 63) / 64 ≤ j).
             let at : log.memory.at (Usage j) ≡ address_of v.usage j = log.tables.at (Usage j) refl in
             let some : 0 < log.memory.at (Usage j) = omega (arith, at, one) in
@@ -177,21 +193,27 @@ module _ (d d1 : DeviceState) (v : LogMemory) (version number : ℕ) (lawful : I
         segments = is.segments ∙ held.log.segments;
         same = is.same_version ∙ sym held.same_version;
         map = array_is next.map 32 (block_in v.map) is.fits.map_length is.map
-            (λ j ge. let at = running.tables.at (Map j) refl in sym at ∙ map_past d1.content m running.memory 1024 j running.laid (λ one. out.maps j (sym at ∙ one)) ge);
+            (λ j ge. let at = running.tables.at (Map j) refl in
+            sym at ∙ map_past d1.content m running.memory 1024 j running.laid (λ one. out.maps j (sym at ∙ one)) ge);
         usage = array_is next.usage 16 (address_of v.usage) is.fits.usage_length is.usage
             (λ j ge. sym (running.tables.at (Usage j) refl) ∙ usage_past d1.content m running.memory 1024 j running.laid ge);
       }
 
       planned : IsPlanned k d1.content (next.number % 2) (checkpoint_sector next) next (dropped m)
-      planned = planning d1 (blocks_of v.dirty) (tables_of v) k next m0 m 1024 (next.number % 2) (checkpoint_sector next) running held.map all_out many leads (checkpoint_some (checkpoint_sector next) next is.fits refl) refl
+      planned = planning d1 (blocks_of v.dirty) (tables_of v) k next m0 m 1024 (next.number % 2)
+          (checkpoint_sector next) running held.map all_out many leads (checkpoint_some (checkpoint_sector next) next is.fits refl) refl
 
-      torn : d2.keeps_model → (c : Content) → ComesFrom d1 (MayWrite (next.number % 2) (checkpoint_sector next)) c → StandsForOn k.segments m0 (dropped m) c
+      torn : d2.keeps_model → (c : Content) → ComesFrom d1 (MayWrite (next.number % 2) (checkpoint_sector next)) c
+          → StandsForOn k.segments m0 (dropped m) c
       torn keeps c from =
-          slot_torn d1 (record d1 { may_leave = ComesFrom d1 (MayWrite (next.number % 2) (checkpoint_sector next)) }) k next m0 (dropped m) (next.number % 2) (checkpoint_sector next) running.settled planned
+          slot_torn d1 (record d1 { may_leave = ComesFrom d1 (MayWrite (next.number % 2) (checkpoint_sector next)) }) k next m0 (dropped m)
+          (next.number % 2) (checkpoint_sector next) running.settled planned
           leads.segments (only (more.kept_before keeps)) (λ c f. f) c from
 
       either : d2.keeps_model → LeavesOnly d d2 (StandsForOn k.segments m0 (dropped m))
-      either keeps = joined d d1 d2 (StandsForOn k.segments m0 (dropped m)) (ComesFrom d1 (MayWrite (next.number % 2) (checkpoint_sector next))) (StandsForOn k.segments m0 (dropped m)) (sync_moment k m0 m held.log) moment (λ c s. s) (torn keeps)
+      either keeps =
+          joined d d1 d2 (StandsForOn k.segments m0 (dropped m)) (ComesFrom d1 (MayWrite (next.number % 2) (checkpoint_sector next)))
+          (StandsForOn k.segments m0 (dropped m)) (sync_moment k m0 m held.log) moment (λ c s. s) (torn keeps)
 
     pub replace_fails : d1.failures < d2.failures → PublishFails d d2 v version number
     replace_fails failed = record {
@@ -201,15 +223,20 @@ module _ (d d1 : DeviceState) (v : LogMemory) (version number : ℕ) (lawful : I
       moment = λ k m0 m keeps held. either k m0 m held keeps;
     }
 
-    module _ (u : UsageTable) (go : Releases v.usage u) (content : d2.keeps_model → d2.content ≡ put d1.content (next.number % 2) (checkpoint_sector next)) (durable : d2.keeps_model → Only d2.content d2)
+    module _ (u : UsageTable) (go : Releases v.usage u) (content : d2.keeps_model
+        → d2.content ≡ put d1.content (next.number % 2) (checkpoint_sector next)) (durable : d2.keeps_model → Only d2.content d2)
         (same_failures : d2.failures ≡ d1.failures) where
-      rested : (k : CheckpointValue) (m0 m : LogMap) → d2.keeps_model → IsAcknowledged d v version number k m0 m → IsLog d2 (record v { usage = u }) next (dropped m) m
+      rested : (k : CheckpointValue) (m0 m : LogMap) → d2.keeps_model → IsAcknowledged d v version number k m0 m
+          → IsLog d2 (record v { usage = u }) next (dropped m) m
       rested k m0 m keeps held =
-          let settled = acknowledged d1 d2 k next m0 (dropped m) (next.number % 2) (checkpoint_sector next) (running k m0 m held).settled (planned k m0 m held) (content keeps) (durable keeps) in
-          let r = resting d1 d2 (blocks_of v.dirty) (tables_of v) (tables_of (record v { usage = u })) k next m0 m 1024 (next.number % 2) (checkpoint_sector next) (running k m0 m held) (all_out k m0 m held) (many k m0 m held) (leads k m0 m held)
+          let settled = acknowledged d1 d2 k next m0 (dropped m) (next.number % 2) (checkpoint_sector next) (running k m0 m held).settled
+          (planned k m0 m held) (content keeps) (durable keeps) in
+          let r = resting d1 d2 (blocks_of v.dirty) (tables_of v) (tables_of (record v { usage = u })) k next m0 m 1024 (next.number % 2)
+          (checkpoint_sector next) (running k m0 m held) (all_out k m0 m held) (many k m0 m held) (leads k m0 m held)
           (omega arith) (content keeps) settled (is_released v u go) in
           record {
-            running = as_chunk d2 (blocks_of v.dirty) (tables_of (record v { usage = u })) next (dropped m) m 1024 (segment_in v.chunk) None (chunk_in v.chunk)
+            running = as_chunk d2 (blocks_of v.dirty) (tables_of (record v { usage = u })) next (dropped m) m 1024 (segment_in v.chunk) None
+                (chunk_in v.chunk)
                 (sym (closed_segment v.chunk no_chunk)) (sym (closed_chunk v.chunk no_chunk)) r;
             hidden = held.log.hidden;
             segments = go.size ∙ sym is.segments;

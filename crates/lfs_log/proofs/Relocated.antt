@@ -23,7 +23,16 @@ use Rattle.lfs_log.specs.Relocating.{HasLeft, IsNoBlock, Relocates}
 
 -- ---- one call after the other
 pub relocates_looks : (d d' : DeviceState) (v : LogMemory) → IsMemory v → Looks d d' → Relocates d d' v v
-relocates_looks d d' v memory looks = record { looks = looks; memory = memory; segments = refl; clean = refl; chunk = refl; capacity = refl; stay = λ x there. there; gathers = gathers_looks d d' v looks }
+relocates_looks d d' v memory looks = record {
+  looks = looks;
+  memory = memory;
+  segments = refl;
+  clean = refl;
+  chunk = refl;
+  capacity = refl;
+  stay = λ x there. there;
+  gathers = gathers_looks d d' v looks;
+}
 
 pub relocates_of : (d d' : DeviceState) (v v' : LogMemory) (n : ℕ) → Prepares d d' v v' n → Gathers d d' v v' → Relocates d d' v v'
 relocates_of d d' v v' n one gathers = record {
@@ -37,7 +46,8 @@ relocates_of d d' v v' n one gathers = record {
   gathers = gathers;
 }
 
-pub relocates_then : (a b c : DeviceState) (v v' v'' : LogMemory) → IsLawful a → Relocates a b v v' → Relocates b c v' v'' → Relocates a c v v''
+pub relocates_then : (a b c : DeviceState) (v v' v'' : LogMemory) → IsLawful a → Relocates a b v v' → Relocates b c v' v''
+    → Relocates a c v v''
 relocates_then a b c v v' v'' lawful one two = record {
   looks = looks_then a b c lawful one.looks two.looks;
   memory = two.memory;
@@ -49,7 +59,8 @@ relocates_then a b c v v' v'' lawful one two = record {
   gathers = gathers_then a b c v v' v'' two.looks.carries.kept_before one.gathers two.gathers;
 }
 
-pub relocated_excused : (a b c : DeviceState) (v v' : LogMemory) → Relocates a b v v' → Looks b c → FailsFromDevice b c v' → FailsFromDevice a c v
+pub relocated_excused : (a b c : DeviceState) (v v' : LogMemory) → Relocates a b v v' → Looks b c → FailsFromDevice b c v'
+    → FailsFromDevice a c v
 relocated_excused a b c v v' one two failed k m0 m keeps is =
     let rose = failed k m0 m keeps (one.gathers.traces k m0 m (two.carries.kept_before keeps) is).0 in
     let before = one.looks.carries.failures in
@@ -67,14 +78,19 @@ top_inode (Usage j) f file top = absurd (cc)
 pub below_above : (c up : ℕ) → IsCode c → IsCode up → c < up → entry_at up ≡ parent (entry_at c) → parent (entry_at c) ≡ entry_at c → ⊥
 below_above c up formed formed_up less named top = differ c up formed formed_up less (sym top ∙ sym named)
 
-pub located_top : (d : DeviceState) (v : LogMemory) (x : Entry) (f a : ℕ) → file_of x ≡ Some f → parent x ≡ x → a ≡ address_in v.map f → AnswersAddress d d v x a
-located_top d v x f a file top found k m0 m keeps is = ap is.running.memory.at (top_inode x f file top) ∙ inode_at d v k m0 m is f ∙ sym found
+pub located_top : (d : DeviceState) (v : LogMemory) (x : Entry) (f a : ℕ) → file_of x ≡ Some f → parent x ≡ x → a ≡ address_in v.map f
+    → AnswersAddress d d v x a
+located_top d v x f a file top found k m0 m keeps is = ap is.running.memory.at (top_inode x f file top) ∙ inode_at d v k m0 m is f
+    ∙ sym found
 
-pub located_none : (a b : DeviceState) (v : LogMemory) (x up : Entry) (address : ℕ) → up ≡ parent x → address ≡ 0 → AnswersAddress a b v up address → AnswersAddress a b v x 0
+pub located_none : (a b : DeviceState) (v : LogMemory) (x up : Entry) (address : ℕ) → up ≡ parent x → address ≡ 0
+    → AnswersAddress a b v up address → AnswersAddress a b v x 0
 located_none a b v x up address named none answer k m0 m keeps is =
-    (reading a.content m is.running.memory (segment_in v.chunk) is.running.laid).no_pointer x (ap is.running.memory.at (sym named) ∙ answer k m0 m keeps is ∙ none)
+    (reading a.content m is.running.memory (segment_in v.chunk) is.running.laid).no_pointer x
+    (ap is.running.memory.at (sym named) ∙ answer k m0 m keeps is ∙ none)
 
-module _ (a b c : DeviceState) (v : LogMemory) (up : Entry) (address : ℕ) (one : Looks a b) (two : Looks b c) (file : IsOfFile up) (answer : AnswersAddress a b v up address) (some : 0 < address) where
+module _ (a b c : DeviceState) (v : LogMemory) (up : Entry) (address : ℕ) (one : Looks a b) (two : Looks b c) (file : IsOfFile up)
+    (answer : AnswersAddress a b v up address) (some : 0 < address) where
   pub located_found : (x : Entry) (out : List ℕ) (r : ℕ) → up ≡ parent x → (parent x ≡ x → ⊥) → ((n q : ℕ) → x ≡ Leaf n q → q ≤ 128)
       → (c.keeps_model → out ≡ present b.content (blocks_of v.dirty) up address) → word out (pointer x) ≡ r → AnswersAddress a c v x r
   located_found x out r named below low read found k m0 m keeps is =
@@ -86,7 +102,8 @@ module _ (a b c : DeviceState) (v : LogMemory) (up : Entry) (address : ℕ) (one
       sym ((reading a.content m is.running.memory (segment_in v.chunk) is.running.laid).pointer x below low (omega (arith, above, some)))
       ∙ ap (λ (b : List ℕ). word b (pointer x)) (sym bytes) ∙ found
 
-  pub located_failed : (c.keeps_model → (b.failures < c.failures) ⊎ IsMissing b.content (blocks_of v.dirty) up address) → FailsFromDevice a c v
+  pub located_failed : (c.keeps_model → (b.failures < c.failures) ⊎ IsMissing b.content (blocks_of v.dirty) up address)
+      → FailsFromDevice a c v
   located_failed unread k m0 m keeps is = ⊎_elim
       (λ (failed : b.failures < c.failures). excused_then a b c v one two failed k m0 m keeps is)
       (λ (missing : IsMissing b.content (blocks_of v.dirty) up address).
@@ -95,23 +112,31 @@ module _ (a b c : DeviceState) (v : LogMemory) (up : Entry) (address : ℕ) (one
       (unread keeps)
 
 -- ---- a block that isn't stored
-pub no_inode_there : (d : DeviceState) (v : LogMemory) (x : Entry) (f : ℕ) → file_of x ≡ Some f → parent x ≡ x → address_in v.map f ≡ 0 → IsNoBlock d v x
+pub no_inode_there : (d : DeviceState) (v : LogMemory) (x : Entry) (f : ℕ) → file_of x ≡ Some f → parent x ≡ x → address_in v.map f ≡ 0
+    → IsNoBlock d v x
 no_inode_there d v x f file top none k m0 m keeps is = ap is.running.memory.at (top_inode x f file top) ∙ inode_at d v k m0 m is f ∙ none
 
 pub no_block_above : (d : DeviceState) (v : LogMemory) (x up : Entry) → up ≡ parent x → IsNoBlock d v up → IsNoBlock d v x
 no_block_above d v x up named none k m0 m keeps is =
-    (reading d.content m is.running.memory (segment_in v.chunk) is.running.laid).no_pointer x (ap is.running.memory.at (sym named) ∙ none k m0 m keeps is)
+    (reading d.content m is.running.memory (segment_in v.chunk) is.running.laid).no_pointer x
+    (ap is.running.memory.at (sym named) ∙ none k m0 m keeps is)
 
 pub no_pointer_there : (d : DeviceState) (v : LogMemory) (x : Entry) → IsAtAddress (blocks_of v.dirty) (tables_of v) x 0 → IsNoBlock d v x
-no_pointer_there d v x at k m0 m keeps is = address_at d (blocks_of v.dirty) (tables_of v) k m0 m (segment_in v.chunk) (chunk_in v.chunk) x 0 is.running at
+no_pointer_there d v x at k m0 m keeps is =
+    address_at d (blocks_of v.dirty) (tables_of v) k m0 m (segment_in v.chunk) (chunk_in v.chunk) x 0 is.running at
 
 -- ---- a block that has left its address
-pub elsewhere : (d d' : DeviceState) (v v' : LogMemory) (x : Entry) (there address : ℕ) → AnswersAddress d d' v x there → (there ≡ address → ⊥) → 2 ≤ address → HasLeft d d' v v' x address
+pub elsewhere : (d d' : DeviceState) (v v' : LogMemory) (x : Entry) (there address : ℕ) → AnswersAddress d d' v x there
+    → (there ≡ address → ⊥) → 2 ≤ address → HasLeft d d' v v' x address
 elsewhere d d' v v' x there address answer ne above k m0 m keeps is is' traces at =
     ne (sym (answer k m0 m keeps is) ∙ traces x (omega (arith, above, at)) ∙ at)
 
-pub left_inside : (d d' : DeviceState) (v v' : LogMemory) (x : Entry) (address : ℕ) → IsInMemory v' x → 2 ≤ address → HasLeft d d' v v' x address
-left_inside d d' v v' x address inside above k m0 m keeps is is' traces at = let one = (is'.running.cached.cached x inside.0 inside.1).1 in absurd (omega (arith, one, at, above))
+pub left_inside : (d d' : DeviceState) (v v' : LogMemory) (x : Entry) (address : ℕ) → IsInMemory v' x → 2 ≤ address
+    → HasLeft d d' v v' x address
+left_inside d d' v v' x address inside above k m0 m keeps is is' traces at = let one = (is'.running.cached.cached x inside.0 inside.1).1 in
+    absurd (omega (arith, one, at, above))
 
-pub left_nowhere : (d d' : DeviceState) (v v' : LogMemory) (x : Entry) (address : ℕ) → IsNoBlock d' v' x → 2 ≤ address → HasLeft d d' v v' x address
-left_nowhere d d' v v' x address none above k m0 m keeps is is' traces at = let zero_there = none k m0 m keeps is' in absurd (omega (arith, zero_there, at, above))
+pub left_nowhere : (d d' : DeviceState) (v v' : LogMemory) (x : Entry) (address : ℕ) → IsNoBlock d' v' x → 2 ≤ address
+    → HasLeft d d' v v' x address
+left_nowhere d d' v v' x address none above k m0 m keeps is is' traces at = let zero_there = none k m0 m keeps is' in
+    absurd (omega (arith, zero_there, at, above))

@@ -22,7 +22,8 @@ use Rattle.lfs_memory.proofs.Rooms.{room_none, room_some}
 use Rattle.lfs_log.proofs.Cleaned.{emptied_clean}
 
 -- a commit of so many blocks, begun with no chunk, takes no more segments than these want
-pub segments_taken : (v v' : LogMemory) (blocks : ℕ) → v.chunk.names ≡ [] → IsMemory v' → room_of v ≤ room_of v' + (blocks + 48) → clean_in v.usage.segments ≤ clean_in v'.usage.segments + segments_for blocks
+pub segments_taken : (v v' : LogMemory) (blocks : ℕ) → v.chunk.names ≡ [] → IsMemory v' → room_of v ≤ room_of v' + (blocks + 48)
+    → clean_in v.usage.segments ≤ clean_in v'.usage.segments + segments_for blocks
 segments_taken v v' blocks closed memory room =
     let none = room_none v.chunk (ap length closed) in
     let few : room_in v'.chunk ≤ 62 = ⊎_elim
@@ -36,38 +37,48 @@ pub room_there : (v : LogMemory) (blocks : ℕ) → segments_for blocks ≤ clea
 room_there v blocks clean = omega (arith, clean)
 
 -- in an eighth of the segments nothing lives then
-pub many_spare : (v v' : LogMemory) (blocks : ℕ) → length v'.usage.segments ≡ length v.usage.segments → ((s : ℕ) → IsEmptied v.usage s → IsEmptied v'.usage s)
-    → length v.usage.segments + 8 * segments_for blocks ≤ 8 * (clean_in v.usage.segments + emptied_in v.usage.segments) → clean_in v.usage.segments ≤ clean_in v'.usage.segments + segments_for blocks
+pub many_spare : (v v' : LogMemory) (blocks : ℕ) → length v'.usage.segments ≡ length v.usage.segments
+    → ((s : ℕ) → IsEmptied v.usage s → IsEmptied v'.usage s)
+    → length v.usage.segments + 8 * segments_for blocks ≤ 8 * (clean_in v.usage.segments + emptied_in v.usage.segments)
+    → clean_in v.usage.segments ≤ clean_in v'.usage.segments + segments_for blocks
     → length v'.usage.segments ≤ 8 * spare_in v'.usage.segments
 many_spare v v' blocks size stay spare taken =
     let there = spare_there v'.usage in
     let more = emptied_stay v.usage v'.usage size stay in
     omega (arith, size, spare, taken, there, more)
 
-acknowledged_on : (a b : DeviceState) (v v' : LogMemory) (n version number : ℕ) → Goes a b v v' n → b.keeps_model → (k : CheckpointValue) (m0 m : LogMap) → IsAcknowledged a v version number k m0 m → IsAcknowledged b v' version number k m0 m
-acknowledged_on a b v v' n version number goes keeps k m0 m is = record { log = goes.log k m0 m keeps is.log; map = is.map; same = is.same; same_version = is.same_version }
+acknowledged_on : (a b : DeviceState) (v v' : LogMemory) (n version number : ℕ) → Goes a b v v' n → b.keeps_model
+    → (k : CheckpointValue) (m0 m : LogMap) → IsAcknowledged a v version number k m0 m → IsAcknowledged b v' version number k m0 m
+acknowledged_on a b v v' n version number goes keeps k m0 m is =
+    record { log = goes.log k m0 m keeps is.log; map = is.map; same = is.same; same_version = is.same_version }
 
-either_then : (a b c : DeviceState) (v v' : LogMemory) (n version number : ℕ) → Goes a b v v' n → (c.keeps_model → b.keeps_model) → LeavesEither b c v' version number → LeavesEither a c v version number
+either_then : (a b c : DeviceState) (v v' : LogMemory) (n version number : ℕ) → Goes a b v v' n → (c.keeps_model → b.keeps_model)
+    → LeavesEither b c v' version number → LeavesEither a c v version number
 either_then a b c v v' n version number goes back moment k m0 m keeps is =
     let P : Content → Type 0 = λ x. StandsOn k.segments x m0 in
     let Q : Content → Type 0 = StandsForOn k.segments m0 (dropped m) in
-    joined a b c P Q Q (goes.quiet k m0 m (back keeps) is.log) (moment k m0 m keeps (acknowledged_on a b v v' n version number goes (back keeps) k m0 m is)) (λ x h. inl h) (λ x h. h)
+    joined a b c P Q Q (goes.quiet k m0 m (back keeps) is.log)
+    (moment k m0 m keeps (acknowledged_on a b v v' n version number goes (back keeps) k m0 m is)) (λ x h. inl h) (λ x h. h)
 
-pub out_stops : (d d' : DeviceState) (v : LogMemory) (version number : ℕ) → length d'.told + 3 ≤ length d.told + orders_for (length v.dirty.blocks) → Stops d d' v → CommitFails d d' v version number
+pub out_stops : (d d' : DeviceState) (v : LogMemory) (version number : ℕ)
+    → length d'.told + 3 ≤ length d.told + orders_for (length v.dirty.blocks) → Stops d d' v → CommitFails d d' v version number
 out_stops d d' v version number told stops = record {
   carries = stops.carries;
   cause = stops.cause;
   left = λ k m0 m keeps is c left. inl (settled_stands d' k m0 (stops.settled k m0 m keeps is.log) c left);
-  moment = λ k m0 m keeps is. weaker d d' (λ x. StandsOn k.segments x m0) (StandsForOn k.segments m0 (dropped m)) (λ x h. inl h) (stops.quiet k m0 m keeps is.log);
+  moment = λ k m0 m keeps is.
+      weaker d d' (λ x. StandsOn k.segments x m0) (StandsForOn k.segments m0 (dropped m)) (λ x h. inl h) (stops.quiet k m0 m keeps is.log);
   told = omega (arith, told);
 }
 
 pub publish_fails : (a b c : DeviceState) (v v' : LogMemory) (n version number : ℕ) → Goes a b v v' n
-    → length b.told + 3 ≤ length a.told + orders_for (length v.dirty.blocks) → length c.told ≤ length b.told + 3 → PublishFails b c v' version number → CommitFails a c v version number
+    → length b.told + 3 ≤ length a.told + orders_for (length v.dirty.blocks) → length c.told ≤ length b.told + 3
+    → PublishFails b c v' version number → CommitFails a c v version number
 publish_fails a b c v v' n version number goes told more fails = record {
   carries = carries_then a b c goes.carries fails.carries;
   cause = λ k m0 m keeps is. (let worse = fails.failed in let same = goes.no_failure in omega (arith, worse, same));
-  left = λ k m0 m keeps is. fails.left k m0 m keeps (acknowledged_on a b v v' n version number goes (fails.carries.kept_before keeps) k m0 m is);
+  left = λ k m0 m keeps is.
+      fails.left k m0 m keeps (acknowledged_on a b v v' n version number goes (fails.carries.kept_before keeps) k m0 m is);
   moment = either_then a b c v v' n version number goes fails.carries.kept_before fails.moment;
   told = omega (arith, told, more);
 }
@@ -76,20 +87,23 @@ pub commits : (a b c : DeviceState) (v v' v'' : LogMemory) (n version number : �
     → clean_in v.usage.segments ≤ clean_in v'.usage.segments + segments_for (length v.dirty.blocks)
     → length v.usage.segments + 8 * segments_for (length v.dirty.blocks) ≤ 8 * (clean_in v.usage.segments + emptied_in v.usage.segments)
     → v''.chunk.names ≡ [] → v''.dirty.blocks ≡ [] → v''.dirty.capacity ≡ v.dirty.capacity
-    → length b.told + 3 ≤ length a.told + orders_for (length v.dirty.blocks) → length c.told ≤ length b.told + 3 → CommitsAll a c v v'' version number
+    → length b.told + 3 ≤ length a.told + orders_for (length v.dirty.blocks) → length c.told ≤ length b.told + 3
+    → CommitsAll a c v v'' version number
 commits a b c v v' v'' n version number goes done taken spare chunk dirty capacity told more = record {
   carries = carries_then a b c goes.carries done.carries;
   memory = done.memory;
   chunk = chunk;
   dirty = dirty;
-  untaken = λ s. ap (λ (n : SegmentNumbers). n.kept) (done.released.each s) ∙ sym (ap (λ (n : SegmentNumbers). n.used) (done.released.each s));
+  untaken = λ s. ap (λ (n : SegmentNumbers). n.kept) (done.released.each s)
+      ∙ sym (ap (λ (n : SegmentNumbers). n.used) (done.released.each s));
   capacity = capacity;
   segments = done.segments ∙ goes.segments;
   gains = gains;
   many = let size = done.segments ∙ goes.segments in omega (arith, size, spare, gains);
   cleaned = λ s is. emptied_clean v'.usage v''.usage s done.released (goes.emptied s is);
   no_failure = done.no_failure ∙ goes.no_failure;
-  log = λ k m0 m keeps is. done.log k m0 m keeps (acknowledged_on a b v v' n version number goes (done.carries.kept_before keeps) k m0 m is);
+  log = λ k m0 m keeps is.
+      done.log k m0 m keeps (acknowledged_on a b v v' n version number goes (done.carries.kept_before keeps) k m0 m is);
   moment = either_then a b c v v' n version number goes done.carries.kept_before done.moment;
   told = omega (arith, told, more);
 }

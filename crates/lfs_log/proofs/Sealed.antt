@@ -18,7 +18,8 @@ use Rattle.lfs_memory.proofs.Rooms.{room_none}
 
 module _ (d d' : DeviceState) (v : LogMemory) (memory : IsMemoryUpTo 63 v) (some : 0 < length v.chunk.names) (lawful : IsLawful d)
     (spelt : entries_in (summary_sector v.chunk.names) ≡ Some (entries_of v.chunk))
-    (crash : CrashWrites (2 + 64 * v.chunk.segment + v.chunk.start) (summary_sector v.chunk.names) d d') (carries : Carries d d') (time : Elapses d d') where
+    (crash : CrashWrites (2 + 64 * v.chunk.segment + v.chunk.start) (summary_sector v.chunk.names) d d') (carries : Carries d d')
+    (time : Elapses d d') where
   abbrev at : ℕ
   at = 2 + 64 * v.chunk.segment + v.chunk.start
 
@@ -28,16 +29,20 @@ module _ (d d' : DeviceState) (v : LogMemory) (memory : IsMemoryUpTo 63 v) (some
       let o = memory.opened some in
       let short = memory.short some in
       let inside : v.chunk.segment < k.segments = let i = o.inside in let e = is.segments in omega (arith, i, e) in
-      taken_free d (blocks_of v.dirty) (tables_of v) k m0 m v.chunk.segment (Some (entries_of v.chunk)) w v.chunk.segment v.chunk.start inside o.free (omega (arith, short))
+      taken_free d (blocks_of v.dirty) (tables_of v) k m0 m v.chunk.segment (Some (entries_of v.chunk)) w v.chunk.segment v.chunk.start
+      inside o.free (omega (arith, short))
 
   module _ (may : d'.keeps_model → MayWrite at (summary_sector v.chunk.names) d.content d'.content) where
     pub settled_sealed : (k : CheckpointValue) (m0 m : LogMap) → d'.keeps_model → IsLog d v k m0 m → IsSettled d' k m0
-    settled_sealed k m0 m keeps is = stays_settled d d' k m0 at (summary_sector v.chunk.names) is.running.settled (free k m0 m is) (may keeps) crash
+    settled_sealed k m0 m keeps is =
+        stays_settled d d' k m0 at (summary_sector v.chunk.names) is.running.settled (free k m0 m is) (may keeps) crash
 
     pub quiet_sealed : Quiet d d' v
-    quiet_sealed k m0 m keeps is = stays_quiet d d' k m0 at (summary_sector v.chunk.names) is.running.settled (free k m0 m is) (may keeps) crash lawful carries time
+    quiet_sealed k m0 m keeps is =
+        stays_quiet d d' k m0 at (summary_sector v.chunk.names) is.running.settled (free k m0 m is) (may keeps) crash lawful carries time
 
-  pub seal_stops : (d'.keeps_model → MayWrite at (summary_sector v.chunk.names) d.content d'.content) → d.failures < d'.failures → Stops d d' v
+  pub seal_stops : (d'.keeps_model → MayWrite at (summary_sector v.chunk.names) d.content d'.content) → d.failures < d'.failures
+      → Stops d d' v
   seal_stops may failed = record {
     carries = carries;
     cause = λ k m0 m keeps is. failed;
@@ -45,7 +50,8 @@ module _ (d d' : DeviceState) (v : LogMemory) (memory : IsMemoryUpTo 63 v) (some
     quiet = quiet_sealed may;
   }
 
-  module _ (c : Chunk) (ended : c.names ≡ []) (no_failure : d'.failures ≡ d.failures) (is_put : d'.keeps_model → d'.content ≡ put d.content at (summary_sector v.chunk.names)) where
+  module _ (c : Chunk) (ended : c.names ≡ []) (no_failure : d'.failures ≡ d.failures)
+      (is_put : d'.keeps_model → d'.content ≡ put d.content at (summary_sector v.chunk.names)) where
     abbrev v' : LogMemory
     v' = record { map = v.map; usage = v.usage; dirty = v.dirty; chunk = c }
 
@@ -57,10 +63,12 @@ module _ (d d' : DeviceState) (v : LogMemory) (memory : IsMemoryUpTo 63 v) (some
         let few : k.segments ≤ 1024 = let e = is.segments in let most = memory.count.most in omega (arith, e, most) in
         let long = length-map v.chunk.names entry_of in
         let used = (memory.opened some).used in
-        let w = closing d d' (blocks_of v.dirty) (tables_of v) k m0 m v.chunk.segment v.chunk.start (entries_of v.chunk) (summary_sector v.chunk.names) 1024
+        let w = closing d d' (blocks_of v.dirty) (tables_of v) k m0 m v.chunk.segment v.chunk.start (entries_of v.chunk)
+        (summary_sector v.chunk.names) 1024
         (is_open d v k m0 m is some) (omega (arith, long, used)) spelt (record { content = is_put keeps; crash = crash }) few in
         record {
-          running = as_chunk d' (blocks_of v.dirty) (tables_of v) k m0 m 1024 (segment_in c) None (chunk_in c) (sym (closed_segment c none)) (sym (closed_chunk c none)) w;
+          running = as_chunk d' (blocks_of v.dirty) (tables_of v) k m0 m 1024 (segment_in c) None (chunk_in c) (sym (closed_segment c none))
+              (sym (closed_chunk c none)) w;
           hidden = is.hidden;
           segments = is.segments;
           tight = is.tight;

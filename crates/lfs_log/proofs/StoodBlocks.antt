@@ -1,5 +1,6 @@
 -- Blocks that stand in some segments: they are no more than those that live there and those that hold them.
-use Rattle.std.proofs.Common.{◌≡◌, ◌<◌, ◌≤◌, ◌⊎◌, ⊎_elim, ◌+◌, ◌==◌, ◌&&◌, not, cond, ℕ, suc, Bool, true, false, List, [], ◌∷◌, length, refl, sym, ◌∙◌, ap, subst, arith, inl, inr}
+use Rattle.std.proofs.Common.{◌≡◌, ◌<◌, ◌≤◌, ◌⊎◌, ⊎_elim, ◌+◌, ◌==◌, ◌&&◌, not, cond, ℕ, suc, Bool, true, false, List, [], ◌∷◌, length}
+use Rattle.std.proofs.Common.{refl, sym, ◌∙◌, ap, subst, arith, inl, inr}
 use Rattle.std.specs.Prelude.{sum_by}
 use Rattle.std.proofs.lemmas.Bool.{cases_eq}
 use Rattle.std.proofs.lemmas.List.Sums.{sum_by-cons}
@@ -57,7 +58,8 @@ but_other p x y ne = and_same (p y) (is_left (same_entry y x)) (right_is (same_e
 -- ---- counts over some segments
 module _ (e : Content) (m : LogMap) (M : Memory) (opened_at : ℕ) (laid : IsLaid e m M opened_at) where
   one_less : (p : Entry → Bool) (x : Entry) → p x ≡ true → 2 ≤ M.at x → (vs : List ℕ)
-      → (IsIn vs (segment_of (M.at x)) → sum_by (count_of (but p x) M) vs + 1 ≤ sum_by (count_of p M) vs) × (sum_by (count_of (but p x) M) vs ≤ sum_by (count_of p M) vs)
+      → (IsIn vs (segment_of (M.at x)) → sum_by (count_of (but p x) M) vs + 1 ≤ sum_by (count_of p M) vs)
+      × (sum_by (count_of (but p x) M) vs ≤ sum_by (count_of p M) vs)
   one_less p x on above [] = (λ is. absurd is, omega arith)
   one_less p x on above (v ∷ vs) =
       let rest = one_less p x on above vs in
@@ -67,11 +69,13 @@ module _ (e : Content) (m : LogMap) (M : Memory) (opened_at : ℕ) (laid : IsLai
       let most = rest.1 in
       ⊎_elim
       (λ (here : v ≡ segment_of (M.at x)).
-      let up : count_of p M v ≡ suc (count_of (but p x) M v) = subst (λ (s : ℕ). count_of p M s ≡ suc (count_of (but p x) M s)) (sym here) (more.0 above) in
+      let up : count_of p M v ≡ suc (count_of (but p x) M v) =
+      subst (λ (s : ℕ). count_of p M s ≡ suc (count_of (but p x) M s)) (sym here) (more.0 above) in
       (λ is. omega (arith, a, b, up, most), omega (arith, a, b, up, most)))
       (λ (away : v ≡ segment_of (M.at x) → ⊥).
       let same = more.1 v (λ above e. away e) in (
-        λ is. (let less = rest.0 (⊎_elim (λ (h : segment_of (M.at x) ≡ v). absurd (away (sym h))) (λ (later : IsIn vs (segment_of (M.at x))). later) is) in omega (arith, a, b, same, less)),
+        λ is. (let less = rest.0 (⊎_elim (λ (h : segment_of (M.at x) ≡ v). absurd (away (sym h)))
+            (λ (later : IsIn vs (segment_of (M.at x))). later) is) in omega (arith, a, b, same, less)),
         omega (arith, a, b, same, most),
       ))
       (cases_eq v (segment_of (M.at x)))
@@ -82,7 +86,8 @@ module _ (e : Content) (m : LogMap) (M : Memory) (opened_at : ℕ) (laid : IsLai
   stood_counted (x ∷ xs) apart p on vs there =
       let own = there x (inl refl) in
       let less = (one_less p x (on x (inl refl)) own.0 vs).0 own.1 in
-      let rest = stood_counted xs apart.1 (but p x) (λ y is. but_other p x y (λ h. apart.0 (subst (IsIn xs) h is)) ∙ on y (inr is)) vs (λ y is. there y (inr is)) in
+      let rest = stood_counted xs apart.1 (but p x) (λ y is. but_other p x y (λ h. apart.0 (subst (IsIn xs) h is)) ∙ on y (inr is)) vs
+      (λ y is. there y (inr is)) in
       omega (arith, less, rest)
 
   -- what lives somewhere or holds it is all that stands there
@@ -90,7 +95,8 @@ module _ (e : Content) (m : LogMap) (M : Memory) (opened_at : ℕ) (laid : IsLai
   all_counted s = counts_sum (is_shown m) (is_held m) (λ x. true) M M M refl refl (λ x a lt. split x a lt (is_shown m x) refl) s
     where
       split : (x : Entry) (a : ℕ) → 0 < a → (b : Bool) → is_shown m x ≡ b
-          → one_if (settled_at (those (is_shown m) M.at x) == a) + one_if (settled_at (those (is_held m) M.at x) == a) ≡ one_if (settled_at (M.at x) == a)
+          → one_if (settled_at (those (is_shown m) M.at x) == a) + one_if (settled_at (those (is_held m) M.at x) == a)
+          ≡ one_if (settled_at (M.at x) == a)
       split x a lt true is =
           let z = nowhere a 0 lt refl in
           let l = ap (λ (b : Bool). one_if (settled_at (cond {A = ℕ} b (M.at x) 0) == a)) is in

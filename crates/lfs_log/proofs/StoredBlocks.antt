@@ -52,7 +52,8 @@ module _ (d : DeviceState) (v : LogMemory) (k : CheckpointValue) (m0 m : LogMap)
   has_leaf_at n q has =
       let lt = has.1 in
       let same : (112 + 128 * q + has.0 - 112) / 128 ≡ q = omega (arith, lt) in
-      let up : parent (Data n (112 + 128 * q + has.0)) ≡ Leaf n q = data_parent_high n (112 + 128 * q + has.0) (omega arith) ∙ ap (Leaf n) same in
+      let up : parent (Data n (112 + 128 * q + has.0)) ≡ Leaf n q = data_parent_high n (112 + 128 * q + has.0) (omega arith)
+      ∙ ap (Leaf n) same in
       subst (λ (x : Entry). 0 < M.at x) up (laid.down (Data n (112 + 128 * q + has.0)) ((laid.blocks n (112 + 128 * q + has.0)).0 has.2))
 
   pub leaf_test : IsTight (blocks_of v.dirty) → (n q a : ℕ) → M.at (Leaf n q) ≡ a → has_leaf m n q ≡ not (a == 0)
@@ -91,14 +92,21 @@ module _ (d : DeviceState) (v : LogMemory) (k : CheckpointValue) (m0 m : LogMap)
 
 -- ---- what calls tell
 module _ {D : Type 0} (state : D → DeviceState) where
-  pub tells_block : (h h' : Held D) (n i address : ℕ) → AnswersAddress (state h.device) (state h'.device) h.memory (Data n i) address → TellsBlock state h h' n i (not (address == 0))
-  tells_block h h' n i address answers k m0 m keeps is = block_test (state h.device) h.memory k m0 m (loose (state h.device) h.memory k m0 m is.log) n i address (answers k m0 m keeps (loose (state h.device) h.memory k m0 m is.log))
+  pub tells_block : (h h' : Held D) (n i address : ℕ) → AnswersAddress (state h.device) (state h'.device) h.memory (Data n i) address
+      → TellsBlock state h h' n i (not (address == 0))
+  tells_block h h' n i address answers k m0 m keeps is = block_test (state h.device) h.memory k m0 m
+      (loose (state h.device) h.memory k m0 m is.log) n i address (answers k m0 m keeps (loose (state h.device) h.memory k m0 m is.log))
 
-  pub tells_leaf : (h h' : Held D) (n q address : ℕ) → AnswersAddress (state h.device) (state h'.device) h.memory (Leaf n q) address → TellsLeaf state h h' n q (not (address == 0))
-  tells_leaf h h' n q address answers k m0 m keeps is = leaf_test (state h.device) h.memory k m0 m (loose (state h.device) h.memory k m0 m is.log) is.log.tight n q address (answers k m0 m keeps (loose (state h.device) h.memory k m0 m is.log))
+  pub tells_leaf : (h h' : Held D) (n q address : ℕ) → AnswersAddress (state h.device) (state h'.device) h.memory (Leaf n q) address
+      → TellsLeaf state h h' n q (not (address == 0))
+  tells_leaf h h' n q address answers k m0 m keeps is = leaf_test (state h.device) h.memory k m0 m (loose (state h.device) h.memory k m0 m
+      is.log) is.log.tight n q address (answers k m0 m keeps (loose (state h.device) h.memory k m0 m is.log))
 
-  pub tells_double : (h h' : Held D) (n address : ℕ) → AnswersAddress (state h.device) (state h'.device) h.memory (Double n) address → TellsDouble state h h' n (not (address == 0))
-  tells_double h h' n address answers k m0 m keeps is = double_test (state h.device) h.memory k m0 m (loose (state h.device) h.memory k m0 m is.log) is.log.tight n address (answers k m0 m keeps (loose (state h.device) h.memory k m0 m is.log))
+  pub tells_double : (h h' : Held D) (n address : ℕ) → AnswersAddress (state h.device) (state h'.device) h.memory (Double n) address
+      → TellsDouble state h h' n (not (address == 0))
+  tells_double h h' n address answers k m0 m keeps is = double_test (state h.device) h.memory k m0 m (loose (state h.device) h.memory k m0 m
+      is.log) is.log.tight n address (answers k m0 m keeps (loose (state h.device) h.memory k m0 m is.log))
 
-  pub counts_blocks : (h h' : Held D) (n from to count : ℕ) → AnswersCount (state h.device) (state h'.device) h.memory n from to count → CountsBlocks state h h' n from to count
+  pub counts_blocks : (h h' : Held D) (n from to count : ℕ) → AnswersCount (state h.device) (state h'.device) h.memory n from to count
+      → CountsBlocks state h h' n from to count
   counts_blocks h h' n from to count answers k m0 m keeps is = answers k m0 m keeps (loose (state h.device) h.memory k m0 m is.log)

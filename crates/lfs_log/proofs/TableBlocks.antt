@@ -1,5 +1,6 @@
 -- Blocks of the tables that leave their addresses, to be written by the next commit.
-use Rattle.std.proofs.Common.{◌≡◌, ◌<◌, ◌≤◌, ◌⊎◌, ⊎_elim, ◌+◌, ◌/◌, ℕ, true, false, List, length, get_or, Some, refl, sym, ◌∙◌, ap, subst, suc, arith}
+use Rattle.std.proofs.Common.{◌≡◌, ◌<◌, ◌≤◌, ◌⊎◌, ⊎_elim, ◌+◌, ◌/◌, ℕ, true, false, List, length, get_or, Some, refl, sym, ◌∙◌, ap, subst}
+use Rattle.std.proofs.Common.{suc, arith}
 use Rattle.std.proofs.lemmas.Bool.{cases_eq}
 use Rattle.lfs_model.specs.Checkpoint.{CheckpointValue, IsSegmentCount}
 use Rattle.lfs_model.specs.Counting.{segment_of}
@@ -14,7 +15,8 @@ use Rattle.lfs_model.proofs.Outgoing.{usage_lifting}
 use Rattle.lfs_model.proofs.Running.{pick, pick_yes, pick_no, taken_memory, is_taken, lifted_tables, lifted_fresh, part_same, kept_same}
 use Rattle.lfs_model.proofs.Tables.{usage_table}
 use Rattle.lfs_memory.specs.segments.Chunk.{Chunk}
-use Rattle.lfs_memory.specs.segments.Table.{SegmentNumbers, UsageTable, no_segment, used_of, live_of, held_of, age_of, kept_of, address_of, stale_of, clean_in}
+use Rattle.lfs_memory.specs.segments.Table.{SegmentNumbers, UsageTable, no_segment, used_of, live_of, held_of, age_of, kept_of, address_of}
+use Rattle.lfs_memory.specs.segments.Table.{stale_of, clean_in}
 use Rattle.lfs_memory.specs.inodes.Blocks.{TableValue, blocks_of}
 use Rattle.lfs_memory.specs.inodes.MapValue.{MapValue, address_in, block_in}
 use Rattle.lfs_memory.specs.declared.memory.LogMemory.{LogMemory}
@@ -35,20 +37,17 @@ pub map_dirty : (v v' : LogMemory) (j : ℕ) → (v' ≡ v) ⊎ MapLifts v v' j 
 map_dirty v v' j go = ⊎_elim (λ (same : v' ≡ v). ap (λ (v : LogMemory). v.dirty) same) (λ (lifts : MapLifts v v' j). lifts.dirty) go
 
 pub usage_dirty : (v v' : LogMemory) (j : ℕ) → (v' ≡ v) ⊎ UsageLeavesIn v v' j → v'.dirty ≡ v.dirty
-usage_dirty v v' j go = ⊎_elim (λ (same : v' ≡ v). ap (λ (v : LogMemory). v.dirty) same) (λ (leaves : UsageLeavesIn v v' j). leaves.dirty) go
-
-pub map_left : (d d' : DeviceState) (v v' : LogMemory) (j address : ℕ) → (block_in v'.map j ≡ address → ⊥) → HasLeft d d' v v' (Map j) address
-map_left d d' v v' j address ne k m0 m keeps is is' traces at = ne (sym (is'.running.tables.at (Map j) refl) ∙ at)
-
-pub usage_left : (d d' : DeviceState) (v v' : LogMemory) (j address : ℕ) → (address_of v'.usage j ≡ address → ⊥) → HasLeft d d' v v' (Usage j) address
-usage_left d d' v v' j address ne k m0 m keeps is is' traces at = ne (sym (is'.running.tables.at (Usage j) refl) ∙ at)
+usage_dirty v v' j go =
+    ⊎_elim (λ (same : v' ≡ v). ap (λ (v : LogMemory). v.dirty) same) (λ (leaves : UsageLeavesIn v v' j). leaves.dirty) go
 
 -- ---- a usage block
 pub usage_lost : (d : DeviceState) (v : LogMemory) (j : ℕ) → IsUsageLost v j → FailsFromDevice d d v
 usage_lost d v j gone k m0 m keeps is = absurd (gone.lost (record {
   above = gone.above;
-  inside = let s = at in let w = is.running.laid.within (Usage j) there in let n = is.running.segments in let l = is.segments in let up = gone.above in omega (arith, s, w, n, l, up);
-  live = λ on. let c = counts in let e = ap (λ (a : ℕ). count_of (is_shown m) is.running.memory (segment_of a)) at in let t = is.running.tables.live (segment_of (address_of v.usage j)) in omega (arith, c, e, t);
+  inside = let s = at in let w = is.running.laid.within (Usage j) there in let n = is.running.segments in let l = is.segments in
+      let up = gone.above in omega (arith, s, w, n, l, up);
+  live = λ on. let c = counts in let e = ap (λ (a : ℕ). count_of (is_shown m) is.running.memory (segment_of a)) at in
+      let t = is.running.tables.live (segment_of (address_of v.usage j)) in omega (arith, c, e, t);
   held = λ off. absurd (cc);
 }))
   where
@@ -60,7 +59,8 @@ usage_lost d v j gone k m0 m keeps is = absurd (gone.lost (record {
 
     counts : 0 < count_of (is_shown m) is.running.memory (segment_of (is.running.memory.at (Usage j)))
     counts =
-        let c = (taken_counts d.content m is.running.memory (segment_in v.chunk) (Usage j) 1 (taken_memory is.running.memory (Usage j) 1 is.running.memory.bytes) is.running.laid there
+        let c = (taken_counts d.content m is.running.memory (segment_in v.chunk) (Usage j) 1
+        (taken_memory is.running.memory (Usage j) 1 is.running.memory.bytes) is.running.laid there
         (is_taken is.running.memory (Usage j) 1 is.running.memory.bytes (omega arith)) (is_shown m)).0 refl in
         omega (arith, c)
 
@@ -71,7 +71,8 @@ module _ (v v' : LogMemory) (j : ℕ) (go : UsageLeavesIn v v' j) where
   seg : ℕ
   seg = segment_of (address_of v.usage j)
 
-  numbers : {X : Type 0} (f : SegmentNumbers → X) (s : ℕ) → f (get_or v'.usage.segments s no_segment) ≡ f (get_or go.usage.lifted.segments s no_segment)
+  numbers : {X : Type 0} (f : SegmentNumbers → X) (s : ℕ)
+      → f (get_or v'.usage.segments s no_segment) ≡ f (get_or go.usage.lifted.segments s no_segment)
   numbers f s = ap (λ (x : List SegmentNumbers). f (get_or x s no_segment)) go.usage.puts.segments
 
   size : length v'.usage.segments ≡ length v.usage.segments
@@ -80,7 +81,8 @@ module _ (v v' : LogMemory) (j : ℕ) (go : UsageLeavesIn v v' j) where
   stale_still : (i : ℕ) → stale_of v.usage i ≡ true → stale_of v'.usage i ≡ true
   stale_still i on = ⊎_elim
       (λ (here : i ≡ j). ap (stale_of v'.usage) here ∙ go.usage.puts.stale.own)
-      (λ (ne : i ≡ j → ⊥). go.usage.puts.stale.others i ne ∙ stays_stale v.usage go.usage.lifted (segment_of (address_of v.usage j) / 64) i go.usage.lifts.blocks on)
+      (λ (ne : i ≡ j → ⊥). go.usage.puts.stale.others i ne
+      ∙ stays_stale v.usage go.usage.lifted (segment_of (address_of v.usage j) / 64) i go.usage.lifts.blocks on)
       (cases_eq i j)
 
   address_other : (i : ℕ) → (i ≡ j → ⊥) → address_of v'.usage i ≡ address_of v.usage i
@@ -94,8 +96,10 @@ module _ (v v' : LogMemory) (j : ℕ) (go : UsageLeavesIn v v' j) where
         let s = ap (λ (c : Chunk). c.segment) go.chunk in
         record {
           inside = let i = o.inside in let l = size in omega (arith, i, s, l);
-          used = ap (used_of v'.usage) s ∙ numbers (λ x. x.used) v.chunk.segment ∙ go.usage.lifts.used v.chunk.segment ∙ o.used ∙ sym (ap (λ (c : Chunk). c.start + suc (length c.names)) go.chunk);
-          free = let a = ap (kept_of v'.usage) s in let b = numbers (λ x. x.kept) v.chunk.segment in let k = go.usage.lifts.kept v.chunk.segment in let f = o.free in let c = ap (λ (c : Chunk). c.start) go.chunk in omega (arith, a, b, k, f, c);
+          used = ap (used_of v'.usage) s ∙ numbers (λ x. x.used) v.chunk.segment ∙ go.usage.lifts.used v.chunk.segment ∙ o.used
+              ∙ sym (ap (λ (c : Chunk). c.start + suc (length c.names)) go.chunk);
+          free = let a = ap (kept_of v'.usage) s in let b = numbers (λ x. x.kept) v.chunk.segment in let k = go.usage.lifts.kept
+              v.chunk.segment in let f = o.free in let c = ap (λ (c : Chunk). c.start) go.chunk in omega (arith, a, b, k, f, c);
           last = go.usage.puts.last ∙ go.usage.lifts.last ∙ o.last ∙ ap (λ (n : ℕ). Some n) (sym s);
         };
     short = subst (λ (c : Chunk). 0 < length c.names → c.start + length c.names ≤ 62) (sym go.chunk) memory.short;
@@ -130,11 +134,14 @@ module _ (v v' : LogMemory) (j : ℕ) (go : UsageLeavesIn v v' j) where
   stale_now = record {
     own = ⊎_elim
         (λ (here : segment_of (address_of v.usage j) / 64 ≡ j). ap (stale_of v'.usage) here ∙ go.usage.puts.stale.own)
-        (λ (ne : segment_of (address_of v.usage j) / 64 ≡ j → ⊥). go.usage.puts.stale.others (segment_of (address_of v.usage j) / 64) ne ∙ go.usage.lifts.blocks.stale.own)
+        (λ (ne : segment_of (address_of v.usage j) / 64 ≡ j → ⊥). go.usage.puts.stale.others (segment_of (address_of v.usage j) / 64) ne
+        ∙ go.usage.lifts.blocks.stale.own)
         (cases_eq (segment_of (address_of v.usage j) / 64) j);
     others = λ i away. ⊎_elim
-        (λ (here : i ≡ j). ap (stale_of v'.usage) here ∙ go.usage.puts.stale.own ∙ sym (pick_yes (cases_eq i j) true (stale_of v.usage i) here))
-        (λ (ne : i ≡ j → ⊥). go.usage.puts.stale.others i ne ∙ go.usage.lifts.blocks.stale.others i away ∙ sym (pick_no (cases_eq i j) true (stale_of v.usage i) ne))
+        (λ (here : i ≡ j). ap (stale_of v'.usage) here ∙ go.usage.puts.stale.own
+        ∙ sym (pick_yes (cases_eq i j) true (stale_of v.usage i) here))
+        (λ (ne : i ≡ j → ⊥). go.usage.puts.stale.others i ne ∙ go.usage.lifts.blocks.stale.others i away
+        ∙ sym (pick_no (cases_eq i j) true (stale_of v.usage i) ne))
         (cases_eq i j);
   }
 
@@ -142,8 +149,10 @@ module _ (v v' : LogMemory) (j : ℕ) (go : UsageLeavesIn v v' j) where
   lifts_now m = record {
     at = record { own = λ top. go.usage.puts.address.own; others = λ y top ne. table_other y ne };
     used = λ i. numbers (λ x. x.used) i ∙ go.usage.lifts.used i;
-    live = subst (λ (x : List SegmentNumbers). CountsDown true (live_of v.usage) (λ i. (get_or x i no_segment).live) (segment_of (address_of v.usage j))) (sym go.usage.puts.segments) go.usage.lifts.live;
-    held = subst (λ (x : List SegmentNumbers). CountsDown false (held_of v.usage) (λ i. (get_or x i no_segment).held) (segment_of (address_of v.usage j))) (sym go.usage.puts.segments) go.usage.lifts.held;
+    live = subst (λ (x : List SegmentNumbers). CountsDown true (live_of v.usage) (λ i. (get_or x i no_segment).live)
+        (segment_of (address_of v.usage j))) (sym go.usage.puts.segments) go.usage.lifts.live;
+    held = subst (λ (x : List SegmentNumbers). CountsDown false (held_of v.usage) (λ i. (get_or x i no_segment).held)
+        (segment_of (address_of v.usage j))) (sym go.usage.puts.segments) go.usage.lifts.held;
     age = λ i. numbers (λ x. x.age) i ∙ go.usage.lifts.age i;
     kept = λ i. numbers (λ x. x.kept) i ∙ go.usage.lifts.kept i;
     stale = stale_now;
@@ -174,8 +183,10 @@ module _ (v v' : LogMemory) (j : ℕ) (go : UsageLeavesIn v v' j) where
     gone : (w' : Running d (blocks_of v.dirty) (tables_of v') k m0 m (segment_in v.chunk) (chunk_in v.chunk)) × HasTraces w.memory w'.memory
     unfolding left_memory taken_memory
     gone =
-        let p = left_taken d (blocks_of v.dirty) (tables_of v) (tables_of v') k m0 m (segment_in v.chunk) (chunk_in v.chunk) w (Usage j) (usage_table j) 1 (omega arith) in
-        let next = left_memory d (blocks_of v.dirty) (tables_of v) (tables_of v') k m0 m (segment_in v.chunk) (chunk_in v.chunk) w (Usage j) (usage_table j) 1 (omega arith) in
+        let p = left_taken d (blocks_of v.dirty) (tables_of v) (tables_of v') k m0 m (segment_in v.chunk) (chunk_in v.chunk) w (Usage j)
+        (usage_table j) 1 (omega arith) in
+        let next = left_memory d (blocks_of v.dirty) (tables_of v) (tables_of v') k m0 m (segment_in v.chunk) (chunk_in v.chunk) w (Usage j)
+        (usage_table j) 1 (omega arith) in
         let there = was_there in
         let go_now = lifts_now m in (
           record {
@@ -183,15 +194,18 @@ module _ (v v' : LogMemory) (j : ℕ) (go : UsageLeavesIn v v' j) where
             laid = usage_lifting d.content m w.memory (segment_in v.chunk) j next w.laid (record { taken = p; was = there; bytes = refl });
             segments = w.segments;
             settled = w.settled;
-            cached = left_cached d (blocks_of v.dirty) (tables_of v) (tables_of v') k m0 m (segment_in v.chunk) (chunk_in v.chunk) w (Usage j) (usage_table j) 1 (omega arith);
-            tables = lifted_tables d.content m w.memory (segment_in v.chunk) (Usage j) 1 next marked (tables_of v') w.laid there p marked_tables
+            cached = left_cached d (blocks_of v.dirty) (tables_of v) (tables_of v') k m0 m (segment_in v.chunk) (chunk_in v.chunk) w
+                (Usage j) (usage_table j) 1 (omega arith);
+            tables =
+                lifted_tables d.content m w.memory (segment_in v.chunk) (Usage j) 1 next marked (tables_of v') w.laid there p marked_tables
                 (subst (λ (a : ℕ). IsLifted m marked (tables_of v') (Usage j) 1 (segment_of a)) (sym same) go_now);
             fresh = λ i off low.
                 let no = lifted_fresh m marked (tables_of v') (Usage j) 1 (segment_of (address_of v.usage j)) go_now i off in
                 no.1 (w.memory.bytes (Usage i)) (marked_spells i (w.memory.bytes (Usage i)) (w.fresh i (never_marked i no.0) low));
             part = part_same (tables_of v) (tables_of v') go_now.used go_now.kept w.part;
             kept = kept_same d.content k (tables_of v) (tables_of v') go_now.kept w.kept;
-            opened = still_open d (blocks_of v.dirty) (tables_of v) (tables_of v') k m0 m (segment_in v.chunk) (chunk_in v.chunk) w (Usage j) (usage_table j) 1 (omega arith) (chunk_in v.chunk) w.opened go_now.kept;
+            opened = still_open d (blocks_of v.dirty) (tables_of v) (tables_of v') k m0 m (segment_in v.chunk) (chunk_in v.chunk) w
+                (Usage j) (usage_table j) 1 (omega arith) (chunk_in v.chunk) w.opened go_now.kept;
           },
           taken_traced w.memory (Usage j) next p,
         )

@@ -1,5 +1,6 @@
 -- The blocks of a table in memory as a list of entries, no two of them the same; and which one comes in as the table grows by one.
-use Rattle.std.proofs.Common.{◌≡◌, ◌<◌, ◌≤◌, ◌⊎◌, ⊎_elim, ◌+◌, ℕ, suc, List, [], ◌∷◌, length, get_or, Some, None, refl, sym, ◌∙◌, ap, subst, arith, inl, inr}
+use Rattle.std.proofs.Common.{◌≡◌, ◌<◌, ◌≤◌, ◌⊎◌, ⊎_elim, ◌+◌, ℕ, suc, List, [], ◌∷◌, length, get_or, Some, None, refl, sym, ◌∙◌, ap, subst}
+use Rattle.std.proofs.Common.{arith, inl, inr}
 use Rattle.std.specs.Prelude.{T, Option}
 use Rattle.std.specs.Ordering.{nat_cmp}
 use Rattle.std.specs.FinMap.{find, is_sorted}
@@ -39,7 +40,8 @@ numbers_apart : (es : Blocks) → T (is_sorted nat_cmp es) → AreApart (numbers
 unfolding numbers
 numbers_apart [] sorted = tt
 numbers_apart (e ∷ es) sorted = (
-  λ is. (let r = number_there es e.0 is in let lt = r.1 in let same = r.2 in let less = rises (e ∷ es) sorted 0 (suc r.0) (omega arith) (omega (arith, lt)) in omega (arith, less, same)),
+  λ is. (let r = number_there es e.0 is in let lt = r.1 in let same = r.2 in
+      let less = rises (e ∷ es) sorted 0 (suc r.0) (omega arith) (omega (arith, lt)) in omega (arith, less, same)),
   numbers_apart es (T_right (below_all nat_cmp e.0 es) _ sorted),
 )
 
@@ -66,14 +68,18 @@ module _ (t : TableValue) (order : IsInOrder t) where
   has_number : (c : ℕ) → IsIn (numbers t.blocks) c → Has t (entry_at c)
   has_number c is =
       let r = number_there t.blocks c is in
-      let there : HasNumberAt t.blocks c r.0 = record { within = r.1; number = r.2 } in
-      ((get_or t.blocks r.0 (0, [])).1, ap (λ (c : ℕ). find nat_cmp c t.blocks) (code_entry c (formed c is)) ∙ find_at t.blocks order.sorted c r.0 there)
+      let there : HasNumberAt t.blocks c r.0 = record { within = r.1; number = r.2 } in (
+        (get_or t.blocks r.0 (0, [])).1,
+        ap (λ (c : ℕ). find nat_cmp c t.blocks) (code_entry c (formed c is))
+            ∙ find_at t.blocks order.sorted c r.0 there,
+      )
 
   number_in : (c : ℕ) → IsCode c → Has t (entry_at c) → IsIn (numbers t.blocks) c
   number_in c is has = found_in t.blocks c has.0 (ap (λ (c : ℕ). find nat_cmp c t.blocks) (sym (code_entry c is)) ∙ has.1)
 
 -- As a table grows by one, and keeps what it has, nothing but this block comes in.
-pub one_came : (t t' : TableValue) (c : ℕ) → IsInOrder t → IsInOrder t' → IsCode c → ((x : Entry) → Has t x → Has t' x) → Has t' (entry_at c) → (Has t (entry_at c) → ⊥)
+pub one_came : (t t' : TableValue) (c : ℕ) → IsInOrder t → IsInOrder t' → IsCode c → ((x : Entry) → Has t x → Has t' x)
+    → Has t' (entry_at c) → (Has t (entry_at c) → ⊥)
     → length t'.blocks ≤ length t.blocks + 1 → (x : Entry) → Has t' x → Has t x ⊎ (x ≡ entry_at c)
 one_came t t' c order order' is stay inside new few x has = ⊎_elim
     (λ (was : Has t x). inl was)
@@ -81,7 +87,8 @@ one_came t t' c order order' is stay inside new few x has = ⊎_elim
     (λ (own : x ≡ entry_at c). inr own)
     (λ (other : x ≡ entry_at c → ⊥).
     let more = fewer (numbers t'.blocks) (code x ∷ c ∷ numbers t.blocks) (
-      λ there. ⊎_elim (λ (same : code x ≡ c). other (entry_of_code x c is same)) (λ (old : IsIn (numbers t.blocks) (code x)). not_in none old) there,
+      λ there. ⊎_elim (λ (same : code x ≡ c). other (entry_of_code x c is same))
+          (λ (old : IsIn (numbers t.blocks) (code x)). not_in none old) there,
       (λ there. new (has_number t order c there), numbers_apart t.blocks order.sorted),
     )
     (λ y there. ⊎_elim

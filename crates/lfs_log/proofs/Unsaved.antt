@@ -17,7 +17,8 @@ all_saved h is =
     omega (arith, blocks, sectors, version)
 
 -- where no block came into memory, no sector was taken, and the version stayed
-pub kept_saved : {D : Type 0} (h h' : Held D) → AreAllSaved h → length h'.memory.dirty.blocks ≤ length h.memory.dirty.blocks → h'.upgraded ≡ h.upgraded → AreUntaken h'.memory.usage → AreAllSaved h'
+pub kept_saved : {D : Type 0} (h h' : Held D) → AreAllSaved h → length h'.memory.dirty.blocks ≤ length h.memory.dirty.blocks
+    → h'.upgraded ≡ h.upgraded → AreUntaken h'.memory.usage → AreAllSaved h'
 kept_saved h h' is few same sectors = record {
   blocks = let none : length h.memory.dirty.blocks ≡ 0 = ap length is.blocks in none_left h'.memory.dirty.blocks (omega (arith, none, few));
   version = same ∙ is.version;

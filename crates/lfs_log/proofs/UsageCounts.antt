@@ -39,7 +39,8 @@ unfolding one_out
 out_no t j is = pick_no (anew_or t j) 0 1 is
 
 by_anew : (t : UsageTable) (j : ℕ) (P : Type 0) → (IsAnew t j → one_out t j ≡ 0 → P) → ((IsAnew t j → ⊥) → one_out t j ≡ 1 → P) → P
-by_anew t j P is_so is_not = ⊎_elim (λ (p : IsAnew t j). is_so p (out_yes t j p)) (λ (n : IsAnew t j → ⊥). is_not n (out_no t j n)) (anew_or t j)
+by_anew t j P is_so is_not =
+    ⊎_elim (λ (p : IsAnew t j). is_so p (out_yes t j p)) (λ (n : IsAnew t j → ⊥). is_not n (out_no t j n)) (anew_or t j)
 
 most_by : (t : UsageTable) (n : ℕ) → out_by t n ≤ n
 unfolding out_by
@@ -93,7 +94,8 @@ module _ (old new : UsageTable) (j : ℕ) (out : IsAnew old j → ⊥) (is : IsR
       let one = one_less n in
       let more = rest.1 in (
         λ lt. ⊎_elim
-            (λ (here : j ≡ n). let a = out_no old j out in let b = out_yes new j is.own in let c = ap (one_out old) here in let e = ap (one_out new) here in omega arith)
+            (λ (here : j ≡ n). let a = out_no old j out in let b = out_yes new j is.own in let c = ap (one_out old) here in
+            let e = ap (one_out new) here in omega arith)
             (λ (away : j ≡ n → ⊥). let r = rest.0 (omega arith) in omega arith)
             (cases_eq j n),
         omega arith,

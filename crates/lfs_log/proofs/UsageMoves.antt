@@ -1,5 +1,7 @@
 -- A usage block gets a new place: what that leaves of the log.
-use Rattle.std.proofs.Common.{◌≡◌, ◌<◌, ◌≤◌, ◌⊎◌, inl, inr, ⊎_elim, ◌+◌, ◌-◌, ◌*◌, ◌/◌, ◌%◌, true, false, ℕ, suc, List, [], ◌∷◌, ◌++◌, length, map, get_or, Option, Some, None, refl, sym, ◌∙◌, ap, subst, arith, length-append, Result, Ok, Err, OnOk}
+use Rattle.std.proofs.Common.{◌≡◌, ◌<◌, ◌≤◌, ◌⊎◌, inl, inr, ⊎_elim, ◌+◌, ◌-◌, ◌*◌, ◌/◌, ◌%◌, true, false, ℕ, suc, List, [], ◌∷◌, ◌++◌}
+use Rattle.std.proofs.Common.{length, map, get_or, Option, Some, None, refl, sym, ◌∙◌, ap, subst, arith, length-append, Result, Ok, Err}
+use Rattle.std.proofs.Common.{OnOk}
 use Rattle.std.proofs.Math.Path.{fun_ext}
 use Rattle.std.proofs.lemmas.Bool.{cases_eq}
 use Rattle.lfs_model.specs.Entry.{Entry, Data, Leaf, Double, Inode, Map, Usage, entry_of}
@@ -17,7 +19,8 @@ use Rattle.lfs_model.proofs.Counting.{taken_counts}
 use Rattle.lfs_model.proofs.Running.{pick, pick_yes, pick_no, taken_memory, is_taken}
 use Rattle.lfs_model.proofs.Leaving.{beginning, going_on, usage_leaving}
 use Rattle.lfs_model.proofs.Stepping.{usage_settling}
-use Rattle.lfs_memory.specs.segments.Table.{SegmentNumbers, UsageTable, no_segment, used_of, live_of, held_of, age_of, kept_of, address_of, stale_of, clean_in}
+use Rattle.lfs_memory.specs.segments.Table.{SegmentNumbers, UsageTable, no_segment, used_of, live_of, held_of, age_of, kept_of, address_of}
+use Rattle.lfs_memory.specs.segments.Table.{stale_of, clean_in}
 use Rattle.lfs_memory.specs.segments.Chunk.{Chunk, IsOpenChunk, entries_of}
 use Rattle.lfs_memory.specs.segments.Steps.{Lifts, TakesSegment, GoesOn, Begins}
 use Rattle.lfs_memory.specs.segments.Emptied.{IsEmptied}
@@ -26,7 +29,8 @@ use Rattle.lfs_memory.proofs.of_segments.StaysEmptied.{stays_emptied}
 use Rattle.lfs_memory.specs.inodes.Blocks.{TableValue, blocks_of}
 use Rattle.lfs_memory.specs.inodes.MapValue.{MapValue, address_in, block_in}
 use Rattle.lfs_memory.specs.declared.memory.LogMemory.{LogMemory}
-use Rattle.lfs_memory.specs.Memory.{table_at, tables_by, tables_of, segment_in, chunk_in, room_of, IsMemoryUpTo, IsMemory, AreHidden, IsLog, Goes, Stops}
+use Rattle.lfs_memory.specs.Memory.{table_at, tables_by, tables_of, segment_in, chunk_in, room_of, IsMemoryUpTo, IsMemory, AreHidden, IsLog}
+use Rattle.lfs_memory.specs.Memory.{Goes, Stops}
 use Rattle.lfs_memory.proofs.Opened.{open_segment, open_chunk, closed_segment, closed_chunk, as_chunk}
 use Rattle.lfs_memory.proofs.Rooms.{room_none, room_some}
 use Rattle.lfs_memory.proofs.Stales.{stays_stale}
@@ -53,20 +57,25 @@ one_longer names x = length-append names (x ∷ []) ∙ plus_one (length names)
     plus_one n = omega arith
 
 -- a chunk begins, or it goes on
-pub goes_into : (d : DeviceState) (dirty : Dirty) (t t' : Tables) (k : CheckpointValue) (m0 m : LogMap) (c : Chunk) (seg : ℕ) → Running d dirty t k m0 m (segment_in c) (chunk_in c)
-    → (length c.names ≡ 0 → (seg < k.segments) × (IsTakenFrom t t' seg ⊎ GoesOnIn t t' seg)) → ((length c.names ≡ 0 → ⊥) → (t' ≡ t) × (seg ≡ c.segment))
+pub goes_into : (d : DeviceState) (dirty : Dirty) (t t' : Tables) (k : CheckpointValue) (m0 m : LogMap) (c : Chunk) (seg : ℕ)
+    → Running d dirty t k m0 m (segment_in c) (chunk_in c)
+    → (length c.names ≡ 0 → (seg < k.segments) × (IsTakenFrom t t' seg ⊎ GoesOnIn t t' seg))
+    → ((length c.names ≡ 0 → ⊥) → (t' ≡ t) × (seg ≡ c.segment))
     → Running d dirty t' k m0 m seg (Some (entries_of c))
 goes_into d dirty t t' k m0 m c seg w begins goes = ⊎_elim
     (λ (z : length c.names ≡ 0).
     let b = begins z in
-    let none : Running d dirty t k m0 m 1024 None = as_chunk d dirty t k m0 m (segment_in c) 1024 (chunk_in c) None (closed_segment c z) (closed_chunk c z) w in
+    let none : Running d dirty t k m0 m 1024 None =
+    as_chunk d dirty t k m0 m (segment_in c) 1024 (chunk_in c) None (closed_segment c z) (closed_chunk c z) w in
     subst (λ (es : List Entry). Running d dirty t' k m0 m seg (Some es)) (sym (no_names c.names z))
-    (⊎_elim (λ (takes : IsTakenFrom t t' seg). beginning d dirty t t' k m0 m 1024 seg none b.0 takes) (λ (g : GoesOnIn t t' seg). going_on d dirty t t' k m0 m 1024 seg none b.0 g) b.1))
+    (⊎_elim (λ (takes : IsTakenFrom t t' seg). beginning d dirty t t' k m0 m 1024 seg none b.0 takes)
+    (λ (g : GoesOnIn t t' seg). going_on d dirty t t' k m0 m 1024 seg none b.0 g) b.1))
     (λ (ne : length c.names ≡ 0 → ⊥).
     let g = goes ne in
     subst (λ (u : Tables). Running d dirty u k m0 m seg (Some (entries_of c))) (sym g.0)
     (subst (λ (s : ℕ). Running d dirty t k m0 m s (Some (entries_of c))) (sym g.1)
-    (as_chunk d dirty t k m0 m (segment_in c) c.segment (chunk_in c) (Some (entries_of c)) (open_segment c (omega arith)) (open_chunk c (omega arith)) w)))
+    (as_chunk d dirty t k m0 m (segment_in c) c.segment (chunk_in c) (Some (entries_of c)) (open_segment c (omega arith))
+    (open_chunk c (omega arith)) w)))
     (cases_eq (length c.names) 0)
 
 -- ---- the tables
@@ -92,11 +101,14 @@ table_other v v' u u' j e same (Inode n) ne = ap (λ (v : MapValue). address_in 
 table_other v v' u u' j e same (Map i) ne = ap (λ (v : MapValue). block_in v i) e
 table_other v v' u u' j e same (Usage i) ne = same i (λ h. ne (ap Usage h))
 
-without_same : (v : MapValue) (u u' : UsageTable) (j : ℕ) → ((i : ℕ) → address_of u' i ≡ address_of u i) → (y : Entry) → (without v u' j).at y ≡ (without v u j).at y
+without_same : (v : MapValue) (u u' : UsageTable) (j : ℕ) → ((i : ℕ) → address_of u' i ≡ address_of u i) → (y : Entry)
+    → (without v u' j).at y ≡ (without v u j).at y
 without_same v u u' j same y = ⊎_elim
-    (λ (here : y ≡ Usage j). pick_yes (same_entry y (Usage j)) 1 (table_at v u' y) here ∙ sym (pick_yes (same_entry y (Usage j)) 1 (table_at v u y) here))
+    (λ (here : y ≡ Usage j). pick_yes (same_entry y (Usage j)) 1 (table_at v u' y) here
+    ∙ sym (pick_yes (same_entry y (Usage j)) 1 (table_at v u y) here))
     (λ (ne : y ≡ Usage j → ⊥).
-    pick_no (same_entry y (Usage j)) 1 (table_at v u' y) ne ∙ table_other v v u u' j refl (λ i away. same i) y ne ∙ sym (pick_no (same_entry y (Usage j)) 1 (table_at v u y) ne))
+    pick_no (same_entry y (Usage j)) 1 (table_at v u' y) ne ∙ table_other v v u u' j refl (λ i away. same i) y ne
+    ∙ sym (pick_no (same_entry y (Usage j)) 1 (table_at v u y) ne))
     (same_entry y (Usage j))
 
 -- where usage block j has left its address, that changes nothing
@@ -104,11 +116,20 @@ without_left : (map : MapValue) (usage : UsageTable) (j : ℕ) → address_of us
 without_left map usage j one = ap (λ (at : Entry → ℕ). by_at at) (fun_ext (λ x. sym (same x)))
   where
     by_at : (Entry → ℕ) → Tables
-    by_at at = record { at = at; used = used_of usage; live = live_of usage; held = held_of usage; age = age_of usage; kept = kept_of usage; stale = stale_of usage }
+    by_at at = record {
+      at = at;
+      used = used_of usage;
+      live = live_of usage;
+      held = held_of usage;
+      age = age_of usage;
+      kept = kept_of usage;
+      stale = stale_of usage;
+    }
 
     same : (x : Entry) → pick (same_entry x (Usage j)) 1 (table_at map usage x) ≡ table_at map usage x
     same x = ⊎_elim
-        (λ (here : x ≡ Usage j). pick_yes (same_entry x (Usage j)) 1 (table_at map usage x) here ∙ sym one ∙ ap (table_at map usage) (sym here))
+        (λ (here : x ≡ Usage j). pick_yes (same_entry x (Usage j)) 1 (table_at map usage x) here ∙ sym one
+        ∙ ap (table_at map usage) (sym here))
         (λ (ne : x ≡ Usage j → ⊥). pick_no (same_entry x (Usage j)) 1 (table_at map usage x) ne)
         (same_entry x (Usage j))
 
@@ -124,30 +145,37 @@ module _ (v v' : LogMemory) (j number : ℕ) (good : IsMemory v) (old : stale_of
       → (0 < length v.chunk.names → r.places.middle ≡ r.lifted → r.placed.chunk.segment ≡ v.chunk.segment → P) → P
   by_case P begun on = ⊎_elim
       (λ (z : length v.chunk.names ≡ 0). begun z (r.places.begun z))
-      (λ (ne : length v.chunk.names ≡ 0 → ⊥). let lt : 0 < length v.chunk.names = omega arith in let g = r.places.went_on lt in on lt g.0 g.1)
+      (λ (ne : length v.chunk.names ≡ 0 → ⊥). let lt : 0 < length v.chunk.names = omega arith in let g = r.places.went_on lt in
+      on lt g.0 g.1)
       (cases_eq (length v.chunk.names) 0)
 
   -- it has left its address before, or leaves it now
-  if_left : (P : Type 0) → (r.lifted ≡ v.usage → P) → (2 ≤ address_of v.usage j → Lifts v.usage r.lifted (segment_of (address_of v.usage j)) true → P) → P
+  if_left : (P : Type 0) → (r.lifted ≡ v.usage → P)
+      → (2 ≤ address_of v.usage j → Lifts v.usage r.lifted (segment_of (address_of v.usage j)) true → P) → P
   if_left P before now = ⊎_elim
       (λ (one : address_of v.usage j ≡ 1). before (r.leaves.left one))
       (λ (ne : address_of v.usage j ≡ 1 → ⊥). now (r.leaves.above ne) (r.leaves.lifts ne))
       (cases_eq (address_of v.usage j) 1)
 
   lifted_size : length r.lifted.segments ≡ length v.usage.segments
-  lifted_size = if_left (length r.lifted.segments ≡ length v.usage.segments) (λ same. ap (λ (u : UsageTable). length u.segments) same) (λ above go. go.size)
+  lifted_size = if_left (length r.lifted.segments ≡ length v.usage.segments) (λ same. ap (λ (u : UsageTable). length u.segments) same)
+      (λ above go. go.size)
 
   lifted_address : (i : ℕ) → address_of r.lifted i ≡ address_of v.usage i
-  lifted_address i = if_left (address_of r.lifted i ≡ address_of v.usage i) (λ same. ap (λ (u : UsageTable). address_of u i) same) (λ above go. go.blocks.address i)
+  lifted_address i = if_left (address_of r.lifted i ≡ address_of v.usage i) (λ same. ap (λ (u : UsageTable). address_of u i) same)
+      (λ above go. go.blocks.address i)
 
   lifted_clean : clean_in r.lifted.segments ≡ clean_in v.usage.segments
-  lifted_clean = if_left (clean_in r.lifted.segments ≡ clean_in v.usage.segments) (λ same. ap (λ (u : UsageTable). clean_in u.segments) same) (λ above go. go.clean)
+  lifted_clean = if_left (clean_in r.lifted.segments ≡ clean_in v.usage.segments)
+      (λ same. ap (λ (u : UsageTable). clean_in u.segments) same) (λ above go. go.clean)
 
   lifted_kept : (i : ℕ) → kept_of r.lifted i ≡ kept_of v.usage i
-  lifted_kept i = if_left (kept_of r.lifted i ≡ kept_of v.usage i) (λ same. ap (λ (u : UsageTable). kept_of u i) same) (λ above go. go.kept i)
+  lifted_kept i =
+      if_left (kept_of r.lifted i ≡ kept_of v.usage i) (λ same. ap (λ (u : UsageTable). kept_of u i) same) (λ above go. go.kept i)
 
   lifted_used : (i : ℕ) → used_of r.lifted i ≡ used_of v.usage i
-  lifted_used i = if_left (used_of r.lifted i ≡ used_of v.usage i) (λ same. ap (λ (u : UsageTable). used_of u i) same) (λ above go. go.used i)
+  lifted_used i =
+      if_left (used_of r.lifted i ≡ used_of v.usage i) (λ same. ap (λ (u : UsageTable). used_of u i) same) (λ above go. go.used i)
 
   mid_kept : (i : ℕ) → kept_of r.places.middle i ≡ kept_of v.usage i
   mid_kept i = by_case (kept_of r.places.middle i ≡ kept_of v.usage i)
@@ -227,7 +255,8 @@ module _ (v v' : LogMemory) (j number : ℕ) (good : IsMemory v) (old : stale_of
       (record {
         inside = subst (λ (x : List SegmentNumbers). r.placed.chunk.segment < length x) (sym r.puts.segments) o.inside;
         used = ap (λ (x : List SegmentNumbers). (get_or x r.placed.chunk.segment no_segment).used) r.puts.segments ∙ o.used;
-        free = subst (λ (x : List SegmentNumbers). (get_or x r.placed.chunk.segment no_segment).kept ≤ r.placed.chunk.start) (sym r.puts.segments) o.free;
+        free = subst (λ (x : List SegmentNumbers). (get_or x r.placed.chunk.segment no_segment).kept ≤ r.placed.chunk.start)
+            (sym r.puts.segments) o.free;
         last = r.puts.last ∙ o.last;
       })
 
@@ -248,10 +277,12 @@ module _ (v v' : LogMemory) (j number : ℕ) (good : IsMemory v) (old : stale_of
         let s = ap (λ (c : Chunk). c.start + length c.names) r.chunk in
         omega arith;
     usages = λ i one. ⊎_elim
-        (λ (here : i ≡ j). let a = r.puts.address.own in let b = r.places.address in let c = ap (address_of v'.usage) here in absurd (omega arith))
+        (λ (here : i ≡ j). let a = r.puts.address.own in let b = r.places.address in let c = ap (address_of v'.usage) here in
+        absurd (omega arith))
         (λ (ne : i ≡ j → ⊥). new_stale i (good.usages i (sym (mid_address i) ∙ sym (other_address i ne) ∙ one)))
         (cases_eq i j);
-    few = let f = good.few in let c = ap (λ (t : TableValue). t.capacity.limit) new_dirty in let size = new_size in omega (arith, f, c, size);
+    few = let f = good.few in let c = ap (λ (t : TableValue). t.capacity.limit) new_dirty in let size = new_size in
+        omega (arith, f, c, size);
   }
 
   pub resettled_room : room_of v ≤ room_of v' + 1
@@ -294,8 +325,10 @@ module _ (v v' : LogMemory) (j number : ℕ) (good : IsMemory v) (old : stale_of
       let names = ap (λ (c : Chunk). length c.names) r.chunk in
       let at : segment_of (address_of v'.usage j) ≡ r.placed.chunk.segment = omega arith in
       let here : (address_of v'.usage j - 2) % 64 ≡ used_of r.places.middle r.placed.chunk.segment = omega arith in
-      let free : kept_of v'.usage r.placed.chunk.segment ≤ r.placed.chunk.start = subst (λ (x : List SegmentNumbers). (get_or x r.placed.chunk.segment no_segment).kept ≤ r.placed.chunk.start) (sym r.puts.segments) p.free in
-      let kept : kept_of v'.usage (segment_of (address_of v'.usage j)) ≡ kept_of v'.usage r.placed.chunk.segment = ap (kept_of v'.usage) at in
+      let free : kept_of v'.usage r.placed.chunk.segment ≤ r.placed.chunk.start = subst (λ (x : List SegmentNumbers).
+      (get_or x r.placed.chunk.segment no_segment).kept ≤ r.placed.chunk.start) (sym r.puts.segments) p.free in
+      let kept : kept_of v'.usage (segment_of (address_of v'.usage j)) ≡ kept_of v'.usage r.placed.chunk.segment =
+      ap (kept_of v'.usage) at in
       record {
         own = (omega arith, omega arith, omega arith);
         others = λ i ne. other_address i ne ∙ mid_address i;
@@ -304,11 +337,13 @@ module _ (v v' : LogMemory) (j number : ℕ) (good : IsMemory v) (old : stale_of
       }
 
   module _ (m : LogMap) where
-    lifts_now : Lifts v.usage r.lifted (segment_of (address_of v.usage j)) true → IsLifted m (tables_of v) (without v.map r.lifted j) (Usage j) 1 (segment_of (address_of v.usage j))
+    lifts_now : Lifts v.usage r.lifted (segment_of (address_of v.usage j)) true
+        → IsLifted m (tables_of v) (without v.map r.lifted j) (Usage j) 1 (segment_of (address_of v.usage j))
     lifts_now go = record {
       at = record {
         own = λ top. pick_yes (same_entry (Usage j) (Usage j)) 1 (table_at v.map r.lifted (Usage j)) refl;
-        others = λ y top ne. pick_no (same_entry y (Usage j)) 1 (table_at v.map r.lifted y) ne ∙ table_other v.map v.map v.usage r.lifted j refl (λ i away. go.blocks.address i) y ne;
+        others = λ y top ne. pick_no (same_entry y (Usage j)) 1 (table_at v.map r.lifted y) ne
+            ∙ table_other v.map v.map v.usage r.lifted j refl (λ i away. go.blocks.address i) y ne;
       };
       used = go.used;
       live = go.live;
@@ -318,7 +353,8 @@ module _ (v v' : LogMemory) (j number : ℕ) (good : IsMemory v) (old : stale_of
       stale = go.blocks.stale;
     }
 
-    takes_now : TakesSegment r.lifted r.places.middle r.placed.chunk.segment number → IsTakenFrom (without v.map r.lifted j) (without v.map r.places.middle j) r.placed.chunk.segment
+    takes_now : TakesSegment r.lifted r.places.middle r.placed.chunk.segment number
+        → IsTakenFrom (without v.map r.lifted j) (without v.map r.places.middle j) r.placed.chunk.segment
     takes_now t = record {
       clean = t.clean;
       at = without_same v.map r.lifted r.places.middle j (λ i. (t.blocks i).1);
@@ -330,7 +366,8 @@ module _ (v v' : LogMemory) (j number : ℕ) (good : IsMemory v) (old : stale_of
       stale = λ i. (t.blocks i).0;
     }
 
-    goes_on_now : GoesOn r.lifted r.places.middle r.placed.chunk.segment number → GoesOnIn (without v.map r.lifted j) (without v.map r.places.middle j) r.placed.chunk.segment
+    goes_on_now : GoesOn r.lifted r.places.middle r.placed.chunk.segment number
+        → GoesOnIn (without v.map r.lifted j) (without v.map r.places.middle j) r.placed.chunk.segment
     goes_on_now g = record {
       some = g.begun;
       room = let r = g.room in omega arith;
@@ -347,7 +384,8 @@ module _ (v v' : LogMemory) (j number : ℕ) (good : IsMemory v) (old : stale_of
     stale_now = record {
       own = ⊎_elim
           (λ (here : r.placed.chunk.segment / 64 ≡ j). ap (stale_of v'.usage) here ∙ r.puts.stale.own)
-          (λ (ne : r.placed.chunk.segment / 64 ≡ j → ⊥). r.puts.stale.others (r.placed.chunk.segment / 64) ne ∙ r.places.noted.blocks.stale.own)
+          (λ (ne : r.placed.chunk.segment / 64 ≡ j → ⊥). r.puts.stale.others (r.placed.chunk.segment / 64) ne
+          ∙ r.places.noted.blocks.stale.own)
           (cases_eq (r.placed.chunk.segment / 64) j);
       others = λ i away. ⊎_elim
           (λ (here : i ≡ j). ap (stale_of v'.usage) here ∙ r.puts.stale.own ∙ sym mid_stale ∙ ap (stale_of r.places.middle) (sym here))
@@ -355,15 +393,20 @@ module _ (v v' : LogMemory) (j number : ℕ) (good : IsMemory v) (old : stale_of
           (cases_eq i j);
     }
 
-    notes_now : IsNoted m (without v.map r.places.middle j) (tables_of v') (Usage j) (place_of (without v.map r.places.middle j) r.placed.chunk.segment) r.placed.chunk.segment
+    notes_now : IsNoted m (without v.map r.places.middle j) (tables_of v') (Usage j)
+        (place_of (without v.map r.places.middle j) r.placed.chunk.segment) r.placed.chunk.segment
     notes_now = record {
       at = record {
         own = λ top. new_address;
-        others = λ y top ne. table_other v.map v'.map r.places.middle v'.usage j new_map other_address y ne ∙ sym (pick_no (same_entry y (Usage j)) 1 (table_at v.map r.places.middle y) ne);
+        others = λ y top ne. table_other v.map v'.map r.places.middle v'.usage j new_map other_address y ne
+            ∙ sym (pick_no (same_entry y (Usage j)) 1 (table_at v.map r.places.middle y) ne);
       };
-      used = subst (λ (x : List SegmentNumbers). IsSet (used_of r.places.middle) (λ i. (get_or x i no_segment).used) r.placed.chunk.segment (suc (used_of r.places.middle r.placed.chunk.segment))) (sym r.puts.segments) r.places.noted.used;
-      live = subst (λ (x : List SegmentNumbers). CountsUp true (live_of r.places.middle) (λ i. (get_or x i no_segment).live) r.placed.chunk.segment) (sym r.puts.segments) r.places.noted.live;
-      held = subst (λ (x : List SegmentNumbers). CountsUp false (held_of r.places.middle) (λ i. (get_or x i no_segment).held) r.placed.chunk.segment) (sym r.puts.segments) r.places.noted.held;
+      used = subst (λ (x : List SegmentNumbers). IsSet (used_of r.places.middle) (λ i. (get_or x i no_segment).used) r.placed.chunk.segment
+          (suc (used_of r.places.middle r.placed.chunk.segment))) (sym r.puts.segments) r.places.noted.used;
+      live = subst (λ (x : List SegmentNumbers). CountsUp true (live_of r.places.middle)
+          (λ i. (get_or x i no_segment).live) r.placed.chunk.segment) (sym r.puts.segments) r.places.noted.live;
+      held = subst (λ (x : List SegmentNumbers). CountsUp false (held_of r.places.middle)
+          (λ i. (get_or x i no_segment).held) r.placed.chunk.segment) (sym r.puts.segments) r.places.noted.held;
       age = λ i ne. ap (λ (x : List SegmentNumbers). (get_or x i no_segment).age) r.puts.segments ∙ r.places.noted.age i;
       kept = λ i. ap (λ (x : List SegmentNumbers). (get_or x i no_segment).kept) r.puts.segments ∙ r.places.noted.kept i;
       stale = stale_now;
@@ -373,14 +416,18 @@ module _ (v v' : LogMemory) (j number : ℕ) (good : IsMemory v) (old : stale_of
       left_now : Running d (blocks_of v.dirty) (without v.map r.lifted j) k m0 m (segment_in v.chunk) (chunk_in v.chunk)
       left_now = ⊎_elim
           (λ (one : address_of v.usage j ≡ 1).
-          subst (λ (u : UsageTable). Running d (blocks_of v.dirty) (without v.map u j) k m0 m (segment_in v.chunk) (chunk_in v.chunk)) (sym (r.leaves.left one))
-          (subst (λ (t : Tables). Running d (blocks_of v.dirty) t k m0 m (segment_in v.chunk) (chunk_in v.chunk)) (without_left v.map v.usage j one) log.running))
+          subst (λ (u : UsageTable). Running d (blocks_of v.dirty) (without v.map u j) k m0 m (segment_in v.chunk) (chunk_in v.chunk))
+          (sym (r.leaves.left one))
+          (subst (λ (t : Tables). Running d (blocks_of v.dirty) t k m0 m (segment_in v.chunk) (chunk_in v.chunk))
+          (without_left v.map v.usage j one) log.running))
           (λ (ne : address_of v.usage j ≡ 1 → ⊥).
-          usage_leaving d (blocks_of v.dirty) (tables_of v) (without v.map r.lifted j) k m0 m (segment_in v.chunk) (chunk_in v.chunk) j log.running (r.leaves.above ne) old (lifts_now (r.leaves.lifts ne)))
+          usage_leaving d (blocks_of v.dirty) (tables_of v) (without v.map r.lifted j) k m0 m (segment_in v.chunk)
+          (chunk_in v.chunk) j log.running (r.leaves.above ne) old (lifts_now (r.leaves.lifts ne)))
           (cases_eq (address_of v.usage j) 1)
 
       open_now : Running d (blocks_of v.dirty) (without v.map r.places.middle j) k m0 m r.placed.chunk.segment (Some (entries_of v.chunk))
-      open_now = goes_into d (blocks_of v.dirty) (without v.map r.lifted j) (without v.map r.places.middle j) k m0 m v.chunk r.placed.chunk.segment left_now
+      open_now = goes_into d (blocks_of v.dirty) (without v.map r.lifted j)
+          (without v.map r.places.middle j) k m0 m v.chunk r.placed.chunk.segment left_now
           (λ z.
           let t = r.places.begun z in
           let s = log.segments in
@@ -390,7 +437,8 @@ module _ (v v' : LogMemory) (j number : ℕ) (good : IsMemory v) (old : stale_of
           (λ ne. let g = r.places.went_on (omega arith) in (ap (λ (u : UsageTable). without v.map u j) g.0, g.1))
 
       settled_now : Running d (blocks_of v.dirty) (tables_of v') k m0 m r.placed.chunk.segment (Some (entries_of v.chunk ++ Usage j ∷ []))
-      settled_now = usage_settling d (blocks_of v.dirty) (without v.map r.places.middle j) (tables_of v') k m0 m r.placed.chunk.segment (entries_of v.chunk) j open_now
+      settled_now = usage_settling d (blocks_of v.dirty) (without v.map r.places.middle j) (tables_of v') k m0 m r.placed.chunk.segment
+          (entries_of v.chunk) j open_now
           mid_room
           (pick_yes (same_entry (Usage j) (Usage j)) 1 (table_at v.map r.places.middle (Usage j)) refl)
           mid_stale
@@ -399,10 +447,13 @@ module _ (v v' : LogMemory) (j number : ℕ) (good : IsMemory v) (old : stale_of
       running_now : Running d (blocks_of v'.dirty) (tables_of v') k m0 m (segment_in v'.chunk) (chunk_in v'.chunk)
       running_now =
           let s : segment_in v'.chunk ≡ r.placed.chunk.segment = open_segment v'.chunk new_some ∙ ap (λ (c : Chunk). c.segment) r.chunk in
-          let o : chunk_in v'.chunk ≡ Some (entries_of v.chunk ++ Usage j ∷ []) = open_chunk v'.chunk new_some ∙ ap (λ (names : List BlockNameValue). Some (map entry_of names)) new_names ∙ ap Some (names_end v.chunk.names (usage_name j)) in
-          subst (λ (t : TableValue). Running d (blocks_of t) (tables_of v') k m0 m (segment_in v'.chunk) (chunk_in v'.chunk)) (sym new_dirty)
+          let o : chunk_in v'.chunk ≡ Some (entries_of v.chunk ++ Usage j ∷ []) = open_chunk v'.chunk new_some ∙ ap
+          (λ (names : List BlockNameValue). Some (map entry_of names)) new_names ∙ ap Some (names_end v.chunk.names (usage_name j)) in
+          subst (λ (t : TableValue). Running d (blocks_of t) (tables_of v') k m0 m (segment_in v'.chunk) (chunk_in v'.chunk))
+          (sym new_dirty)
           (subst (λ (i : ℕ). Running d (blocks_of v.dirty) (tables_of v') k m0 m i (chunk_in v'.chunk)) (sym s)
-          (subst (λ (c : Option (List Entry)). Running d (blocks_of v.dirty) (tables_of v') k m0 m r.placed.chunk.segment c) (sym o) settled_now))
+          (subst (λ (c : Option (List Entry)). Running d (blocks_of v.dirty) (tables_of v') k m0 m r.placed.chunk.segment c)
+          (sym o) settled_now))
 
       pub resettled_log : IsLog d v' k m0 m
       resettled_log = record {
@@ -455,7 +506,8 @@ module _ (v v' : LogMemory) (j number : ℕ) (good : IsMemory v) (old : stale_of
   }
 
 -- ---- a usage block of the volume lives on the device, where it hasn't left its address
-pub usage_there : (d : DeviceState) (v : LogMemory) (k : CheckpointValue) (m0 m : LogMap) (j : ℕ) → (address_of v.usage j ≡ 1 → ⊥) → j < (length v.usage.segments + 63) / 64 → IsLog d v k m0 m → IsThere v.usage j
+pub usage_there : (d : DeviceState) (v : LogMemory) (k : CheckpointValue) (m0 m : LogMap) (j : ℕ) → (address_of v.usage j ≡ 1 → ⊥)
+    → j < (length v.usage.segments + 63) / 64 → IsLog d v k m0 m → IsThere v.usage j
 usage_there d v k m0 m j not_one low log =
     let w = log.running in
     let same : w.memory.at (Usage j) ≡ address_of v.usage j = w.tables.at (Usage j) refl in
@@ -464,7 +516,8 @@ usage_there d v k m0 m j not_one low log =
     let above : 2 ≤ address_of v.usage j = omega arith in
     let there : 2 ≤ w.memory.at (Usage j) = omega arith in
     let within = w.laid.within (Usage j) there in
-    let counts = (taken_counts d.content m w.memory (segment_in v.chunk) (Usage j) 1 (taken_memory w.memory (Usage j) 1 w.memory.bytes) w.laid there (is_taken w.memory (Usage j) 1 w.memory.bytes (omega arith)) (is_shown m)).0 refl in
+    let counts = (taken_counts d.content m w.memory (segment_in v.chunk) (Usage j) 1 (taken_memory w.memory (Usage j) 1 w.memory.bytes)
+    w.laid there (is_taken w.memory (Usage j) 1 w.memory.bytes (omega arith)) (is_shown m)).0 refl in
     let live = w.tables.live (segment_of (w.memory.at (Usage j))) in
     record {
       above = above;
@@ -473,7 +526,8 @@ usage_there d v k m0 m j not_one low log =
     }
 
 -- so a part of a commit doesn't end where it would not
-pub not_there : (d : DeviceState) (v : LogMemory) (j : ℕ) → j < (length v.usage.segments + 63) / 64 → IsNowhere v.usage j → Carries d d → Stops d d v
+pub not_there : (d : DeviceState) (v : LogMemory) (j : ℕ) → j < (length v.usage.segments + 63) / 64 → IsNowhere v.usage j → Carries d d
+    → Stops d d v
 not_there d v j low none carries = record {
   carries = carries;
   cause = λ k m0 m keeps log. absurd (none.lost (usage_there d v k m0 m j none.stayed low log));

@@ -1,5 +1,6 @@
 -- A usage block is written where it stands: what that leaves of the log.
-use Rattle.std.proofs.Common.{◌≡◌, ◌<◌, ◌≤◌, ⊎_elim, ◌+◌, ◌-◌, ◌*◌, ◌/◌, ◌%◌, true, false, ℕ, List, length, get_or, refl, sym, ◌∙◌, ap, subst, arith}
+use Rattle.std.proofs.Common.{◌≡◌, ◌<◌, ◌≤◌, ⊎_elim, ◌+◌, ◌-◌, ◌*◌, ◌/◌, ◌%◌, true, false, ℕ, List, length, get_or, refl, sym, ◌∙◌, ap}
+use Rattle.std.proofs.Common.{subst, arith}
 use Rattle.std.proofs.lemmas.Bool.{cases_eq}
 use Rattle.lfs_model.specs.Entry.{Entry, Data, Leaf, Double, Inode, Map, Usage}
 use Rattle.lfs_model.specs.Checkpoint.{CheckpointValue, IsSegmentCount}
@@ -21,12 +22,15 @@ use Rattle.lfs_memory.proofs.Opened.{stays_settled, stays_quiet, taken_free}
 use Rattle.lfs_log.specs.Settling.{IsAnew, AreAnew, IsFilled}
 
 -- a sector that the acknowledged checkpoint doesn't need is free
-place_free : (d : DeviceState) (v : LogMemory) (k : CheckpointValue) (m0 m : LogMap) (at : ℕ) → IsLog d v k m0 m → 2 ≤ at → segment_of at < length v.usage.segments → IsUnkeptBy v.usage at → IsFreeSector d.content k at
+place_free : (d : DeviceState) (v : LogMemory) (k : CheckpointValue) (m0 m : LogMap) (at : ℕ) → IsLog d v k m0 m → 2 ≤ at
+    → segment_of at < length v.usage.segments → IsUnkeptBy v.usage at → IsFreeSector d.content k at
 place_free d v k m0 m at log above inside on =
     subst (λ (a : ℕ). IsFreeSector d.content k a) (omega arith)
-    (taken_free d (blocks_of v.dirty) (tables_of v) k m0 m (segment_in v.chunk) (chunk_in v.chunk) log.running (segment_of at) ((at - 2) % 64) (let e = log.segments in omega arith) on (omega arith))
+    (taken_free d (blocks_of v.dirty) (tables_of v) k m0 m (segment_in v.chunk) (chunk_in v.chunk) log.running (segment_of at)
+    ((at - 2) % 64) (let e = log.segments in omega arith) on (omega arith))
 
-pub table_same : (map : MapValue) (u u' : UsageTable) → ((i : ℕ) → address_of u' i ≡ address_of u i) → (y : Entry) → table_at map u' y ≡ table_at map u y
+pub table_same : (map : MapValue) (u u' : UsageTable) → ((i : ℕ) → address_of u' i ≡ address_of u i) → (y : Entry)
+    → table_at map u' y ≡ table_at map u y
 table_same map u u' same (Data n i) = refl
 table_same map u u' same (Leaf n q) = refl
 table_same map u u' same (Double n) = refl
@@ -34,7 +38,8 @@ table_same map u u' same (Inode n) = refl
 table_same map u u' same (Map i) = refl
 table_same map u u' same (Usage i) = same i
 
-module _ (v : LogMemory) (j : ℕ) (u : UsageTable) (good : IsMemory v) (is : IsAnew v.usage j) (puts : PutsPlace v.usage u j (address_of v.usage j) false) where
+module _ (v : LogMemory) (j : ℕ) (u : UsageTable) (good : IsMemory v) (is : IsAnew v.usage j)
+    (puts : PutsPlace v.usage u j (address_of v.usage j) false) where
   abbrev after : LogMemory
   after = record v { usage = u }
 
@@ -44,7 +49,8 @@ module _ (v : LogMemory) (j : ℕ) (u : UsageTable) (good : IsMemory v) (is : Is
       (λ (ne : i ≡ j → ⊥). puts.address.others i ne)
       (cases_eq i j)
 
-  same_numbers : {X : Type 0} (f : SegmentNumbers → X) (i : ℕ) → f (get_or u.segments i no_segment) ≡ f (get_or v.usage.segments i no_segment)
+  same_numbers : {X : Type 0} (f : SegmentNumbers → X) (i : ℕ)
+      → f (get_or u.segments i no_segment) ≡ f (get_or v.usage.segments i no_segment)
   same_numbers f i = ap (λ (x : List SegmentNumbers). f (get_or x i no_segment)) puts.segments
 
   fresh_now : IsFresh (tables_of v) (tables_of (record v { usage = u })) j
@@ -71,21 +77,24 @@ module _ (v : LogMemory) (j : ℕ) (u : UsageTable) (good : IsMemory v) (is : Is
         };
     short = good.short;
     usages = λ i one. ⊎_elim
-        (λ (here : i ≡ j). let own = is.0 in let there = put_address i ∙ ap (address_of v.usage) here in absurd (omega (arith, own, there, one)))
+        (λ (here : i ≡ j). let own = is.0 in let there = put_address i ∙ ap (address_of v.usage) here in
+        absurd (omega (arith, own, there, one)))
         (λ (ne : i ≡ j → ⊥). puts.stale.others i ne ∙ good.usages i (sym (put_address i) ∙ one))
         (cases_eq i j);
     few = subst (λ (x : List SegmentNumbers). v.dirty.capacity.limit + 48 ≤ 63 * (length x / 8)) (sym puts.segments) good.few;
   }
 
   module _ (d d' : DeviceState) (bytes : List ℕ) (spells : SpellsBlock v.usage j bytes) (lawful : IsLawful d)
-      (written : d'.keeps_model → d'.content ≡ put d.content (address_of v.usage j) bytes) (crash : CrashWrites (address_of v.usage j) bytes d d') (same : d'.failures ≡ d.failures)
+      (written : d'.keeps_model → d'.content ≡ put d.content (address_of v.usage j) bytes)
+      (crash : CrashWrites (address_of v.usage j) bytes d d') (same : d'.failures ≡ d.failures)
       (carries : Carries d d') (time : Elapses d d') where
     spells_now : SpellsUsage (tables_of v) j bytes
     spells_now = record { long = spells.long; used = spells.used; live = spells.live; age = spells.age }
 
     log_now : (k : CheckpointValue) (m0 m : LogMap) → d'.keeps_model → IsLog d v k m0 m → IsLog d' (record v { usage = u }) k m0 m
     log_now k m0 m keeps log = record {
-      running = usage_filling d d' (blocks_of v.dirty) (tables_of v) (tables_of (record v { usage = u })) k m0 m (segment_in v.chunk) (chunk_in v.chunk) j bytes log.running is.0 is.2 spells_now
+      running = usage_filling d d' (blocks_of v.dirty) (tables_of v) (tables_of (record v { usage = u })) k m0 m (segment_in v.chunk)
+          (chunk_in v.chunk) j bytes log.running is.0 is.2 spells_now
           (record { content = written keeps; crash = crash }) fresh_now;
       hidden = log.hidden;
       segments = ap length puts.segments ∙ log.segments;
@@ -101,33 +110,45 @@ module _ (v : LogMemory) (j : ℕ) (u : UsageTable) (good : IsMemory v) (is : Is
       no_failure = same;
       emptied = λ s was. (stays_emptied v.usage u s was).3 j (address_of v.usage j) false puts;
       log = log_now;
-      quiet = λ k m0 m keeps log. stays_quiet d d' k m0 (address_of v.usage j) bytes log.running.settled (place_free d v k m0 m (address_of v.usage j) log is.0 is.1 is.2) (left_new (written keeps)) crash lawful carries time;
+      quiet = λ k m0 m keeps log. stays_quiet d d' k m0 (address_of v.usage j) bytes log.running.settled
+          (place_free d v k m0 m (address_of v.usage j) log is.0 is.1 is.2) (left_new (written keeps)) crash lawful carries time;
     }
 
-pub write_stops : (d d' : DeviceState) (v : LogMemory) (at : ℕ) (bytes : List ℕ) → IsLawful d → 2 ≤ at → segment_of at < length v.usage.segments → IsUnkeptBy v.usage at
-    → (d'.keeps_model → MayWrite at bytes d.content d'.content) → CrashWrites at bytes d d' → d.failures < d'.failures → Carries d d' → Elapses d d' → Stops d d' v
+pub write_stops : (d d' : DeviceState) (v : LogMemory) (at : ℕ) (bytes : List ℕ) → IsLawful d → 2 ≤ at
+    → segment_of at < length v.usage.segments → IsUnkeptBy v.usage at
+    → (d'.keeps_model → MayWrite at bytes d.content d'.content) → CrashWrites at bytes d d' → d.failures < d'.failures → Carries d d'
+    → Elapses d d' → Stops d d' v
 write_stops d d' v at bytes lawful above inside on may crash failed carries time = record {
   carries = carries;
   cause = λ k m0 m keeps log. failed;
-  settled = λ k m0 m keeps log. stays_settled d d' k m0 at bytes log.running.settled (place_free d v k m0 m at log above inside on) (may keeps) crash;
-  quiet = λ k m0 m keeps log. stays_quiet d d' k m0 at bytes log.running.settled (place_free d v k m0 m at log above inside on) (may keeps) crash lawful carries time;
+  settled = λ k m0 m keeps log.
+      stays_settled d d' k m0 at bytes log.running.settled (place_free d v k m0 m at log above inside on) (may keeps) crash;
+  quiet = λ k m0 m keeps log. stays_quiet d d' k m0 at bytes log.running.settled (place_free d v k m0 m at log above inside on)
+      (may keeps) crash lawful carries time;
 }
 
 -- the same with the address by another name
-pub fill_goes_at : (v : LogMemory) (j at : ℕ) (u : UsageTable) → IsMemory v → IsAnew v.usage j → address_of v.usage j ≡ at → PutsPlace v.usage u j at false
+pub fill_goes_at : (v : LogMemory) (j at : ℕ) (u : UsageTable) → IsMemory v → IsAnew v.usage j → address_of v.usage j ≡ at
+    → PutsPlace v.usage u j at false
     → (d d' : DeviceState) (bytes : List ℕ) → SpellsBlock v.usage j bytes → IsLawful d
-    → (d'.keeps_model → d'.content ≡ put d.content at bytes) → CrashWrites at bytes d d' → d'.failures ≡ d.failures → Carries d d' → Elapses d d' → Goes d d' v (record v { usage = u }) 0
+    → (d'.keeps_model → d'.content ≡ put d.content at bytes) → CrashWrites at bytes d d' → d'.failures ≡ d.failures → Carries d d'
+    → Elapses d d' → Goes d d' v (record v { usage = u }) 0
 fill_goes_at v j at u good is e =
     subst
-    (λ (at : ℕ). PutsPlace v.usage u j at false → (d d' : DeviceState) (bytes : List ℕ) → SpellsBlock v.usage j bytes → IsLawful d → (d'.keeps_model → d'.content ≡ put d.content at bytes)
+    (λ (at : ℕ). PutsPlace v.usage u j at false → (d d' : DeviceState) (bytes : List ℕ) → SpellsBlock v.usage j bytes → IsLawful d
+    → (d'.keeps_model → d'.content ≡ put d.content at bytes)
     → CrashWrites at bytes d d' → d'.failures ≡ d.failures → Carries d d' → Elapses d d' → Goes d d' v (record v { usage = u }) 0)
     e
-    (λ puts d d' bytes spells lawful written crash same carries time. fill_goes v j u good is puts d d' bytes spells lawful written crash same carries time)
+    (λ puts d d' bytes spells lawful written crash same carries time.
+    fill_goes v j u good is puts d d' bytes spells lawful written crash same carries time)
 
-pub write_stops_at : (d d' : DeviceState) (v : LogMemory) (j at : ℕ) (bytes : List ℕ) → IsLawful d → IsAnew v.usage j → address_of v.usage j ≡ at
-    → (d'.keeps_model → MayWrite at bytes d.content d'.content) → CrashWrites at bytes d d' → d.failures < d'.failures → Carries d d' → Elapses d d' → Stops d d' v
+pub write_stops_at : (d d' : DeviceState) (v : LogMemory) (j at : ℕ) (bytes : List ℕ) → IsLawful d → IsAnew v.usage j
+    → address_of v.usage j ≡ at
+    → (d'.keeps_model → MayWrite at bytes d.content d'.content) → CrashWrites at bytes d d' → d.failures < d'.failures → Carries d d'
+    → Elapses d d' → Stops d d' v
 write_stops_at d d' v j at bytes lawful is e may crash failed carries time =
-    write_stops d d' v at bytes lawful (subst (λ (a : ℕ). 2 ≤ a) e is.0) (subst (λ (a : ℕ). segment_of a < length v.usage.segments) e is.1) (subst (λ (a : ℕ). IsUnkeptBy v.usage a) e is.2) may crash failed carries time
+    write_stops d d' v at bytes lawful (subst (λ (a : ℕ). 2 ≤ a) e is.0) (subst (λ (a : ℕ). segment_of a < length v.usage.segments) e is.1)
+    (subst (λ (a : ℕ). IsUnkeptBy v.usage a) e is.2) may crash failed carries time
 
 -- block j isn't stale any more
 module _ (old new : UsageTable) (j : ℕ) (is : IsFilled old new j) where
@@ -141,13 +162,15 @@ module _ (old new : UsageTable) (j : ℕ) (is : IsFilled old new j) where
   filled_anew anew i low stale = ⊎_elim
       (λ (here : i ≡ j). let bad : false ≡ true = sym is.stale.own ∙ ap (stale_of new) (sym here) ∙ stale in absurd (cc))
       (λ (ne : i ≡ j → ⊥).
-      let was = anew i (subst (λ (x : List SegmentNumbers). i < (length x + 63) / 64) is.segments low) (sym (is.stale.others i ne) ∙ stale) in
+      let was =
+      anew i (subst (λ (x : List SegmentNumbers). i < (length x + 63) / 64) is.segments low) (sym (is.stale.others i ne) ∙ stale) in
       let e = is.address i in
       let le = was.0 in
       let size = ap length is.segments in
       let inside = was.1 in (
         omega arith,
         omega arith,
-        subst (λ (a : ℕ). IsUnkeptBy new a) (sym e) (subst (λ (x : List SegmentNumbers). (get_or x (segment_of (address_of old i)) no_segment).kept ≤ (address_of old i - 2) % 64) (sym is.segments) was.2),
+        subst (λ (a : ℕ). IsUnkeptBy new a) (sym e) (subst (λ (x : List SegmentNumbers).
+            (get_or x (segment_of (address_of old i)) no_segment).kept ≤ (address_of old i - 2) % 64) (sym is.segments) was.2),
       ))
       (cases_eq i j)

@@ -1,5 +1,6 @@
 -- The blocks of a segment come into memory chunk by chunk: none is left there in the end.
-use Rattle.std.proofs.Common.{◌≡◌, ◌<◌, ◌≤◌, ⊎_elim, ◌⊎◌, ◌+◌, ◌-◌, ◌*◌, ◌/◌, ◌%◌, ℕ, List, [], length, get_or, Option, Some, None, sym, ◌∙◌, ap, subst, arith}
+use Rattle.std.proofs.Common.{◌≡◌, ◌<◌, ◌≤◌, ⊎_elim, ◌⊎◌, ◌+◌, ◌-◌, ◌*◌, ◌/◌, ◌%◌, ℕ, List, [], length, get_or, Option, Some, None, sym}
+use Rattle.std.proofs.Common.{◌∙◌, ap, subst, arith}
 use Rattle.std.proofs.lemmas.Bool.{cases_eq, cases_lt}
 use Rattle.lfs_model.specs.Checkpoint.{CheckpointValue}
 use Rattle.lfs_model.specs.Content.{Content, block, bytes_of}
@@ -25,8 +26,10 @@ use Rattle.lfs_log.proofs.RowLabels.{IsRowFrom, label_is, row_end, row_next, row
 pub leaves_none : (d : DeviceState) (v : LogMemory) (names : List BlockNameValue) (first : ℕ) → LeavesNames d d v v names first 0
 leaves_none d v names first k m0 m keeps is = (is, traces_none is.running.memory, λ i lt at. absurd (omega (arith, lt)))
 
-pub leaves_more : (a b c : DeviceState) (v v' v'' : LogMemory) (names : List BlockNameValue) (first place : ℕ) → 2 ≤ first → Relocates b c v' v''
-    → HasLeft b c v' v'' (entry_of (get_or names place no_block)) (first + place) → LeavesNames a b v v' names first place → LeavesNames a c v v'' names first (place + 1)
+pub leaves_more : (a b c : DeviceState) (v v' v'' : LogMemory) (names : List BlockNameValue) (first place : ℕ) → 2 ≤ first
+    → Relocates b c v' v''
+    → HasLeft b c v' v'' (entry_of (get_or names place no_block)) (first + place) → LeavesNames a b v v' names first place
+    → LeavesNames a c v v'' names first (place + 1)
 leaves_more a b c v v' v'' names first place above one left was k m0 m keeps is =
     let so_far = was k m0 m (one.looks.carries.kept_before keeps) is in
     let now = one.gathers.traces k m0 m keeps so_far.0 in (
@@ -36,7 +39,8 @@ leaves_more a b c v v' v'' names first place above one left was k m0 m keeps is 
           (λ (before : i < place). so_far.2 i before (now.1 (entry_of (get_or names i no_block)) (omega (arith, at, above)) ∙ at))
           (λ (last : place ≤ i).
           let same : i ≡ place = omega (arith, lt, last) in
-          left k m0 m keeps so_far.0 now.0 now.1 (subst (λ (j : ℕ). now.0.running.memory.at (entry_of (get_or names j no_block)) ≡ first + j) same at))
+          left k m0 m keeps so_far.0 now.0 now.1
+          (subst (λ (j : ℕ). now.0.running.memory.at (entry_of (get_or names j no_block)) ≡ first + j) same at))
           (cases_lt i place),
     )
 
@@ -46,7 +50,8 @@ abbrev pub ClearsTo : DeviceState → DeviceState → LogMemory → LogMemory �
 ClearsTo d d' v v' segment used at = (k : CheckpointValue) (m0 m : LogMap) → d'.keeps_model → (is : IsLoose d v k m0 m)
     → Traced d' v' k m0 m is.running.memory (IsVacantTo (2 + 64 * segment) (2 + 64 * segment + at)) × IsRowFrom d.content used segment at
 
-module _ (d : DeviceState) (v : LogMemory) (k : CheckpointValue) (m0 m : LogMap) (is : IsLoose d v k m0 m) (segment : ℕ) (closed : v.chunk.names ≡ []) (low : segment < length v.usage.segments) where
+module _ (d : DeviceState) (v : LogMemory) (k : CheckpointValue) (m0 m : LogMap) (is : IsLoose d v k m0 m) (segment : ℕ)
+    (closed : v.chunk.names ≡ []) (low : segment < length v.usage.segments) where
   abbrev M : Memory
   M = is.running.memory
 
@@ -73,17 +78,22 @@ module _ (d : DeviceState) (v : LogMemory) (k : CheckpointValue) (m0 m : LogMap)
       ∙ ap (λ (j : ℕ). get_or (M.rows j) ((M.at y - 2) % 64) None) (sym s)
       ∙ is.running.laid.named y (omega (arith, from))
 
-pub clears_start : (d : DeviceState) (v : LogMemory) (segment : ℕ) → v.chunk.names ≡ [] → segment < length v.usage.segments → ClearsTo d d v v segment (used_of v.usage segment) 0
-clears_start d v segment closed low k m0 m keeps is =
-    ((is, traces_none is.running.memory, λ y from to. absurd (omega (arith, from, to))), row_start d.content (used_of v.usage segment) segment (has_row d v k m0 m is segment closed low))
+pub clears_start : (d : DeviceState) (v : LogMemory) (segment : ℕ) → v.chunk.names ≡ [] → segment < length v.usage.segments
+    → ClearsTo d d v v segment (used_of v.usage segment) 0
+clears_start d v segment closed low k m0 m keeps is = (
+  (is, traces_none is.running.memory, λ y from to. absurd (omega (arith, from, to))),
+  row_start d.content (used_of v.usage segment) segment (has_row d v k m0 m is segment closed low),
+)
 
 -- ---- a summary is read
-module _ (a b c : DeviceState) (v v' : LogMemory) (segment used at : ℕ) (was : ClearsTo a b v v' segment used at) (here : Relocates a b v v') (looks : Looks b c)
+module _ (a b c : DeviceState) (v v' : LogMemory) (segment used at : ℕ) (was : ClearsTo a b v v' segment used at)
+    (here : Relocates a b v v') (looks : Looks b c)
     (long : 2 + 64 * segment + used ≤ length a.content) (lt : at < used) where
   row_then : (k : CheckpointValue) (m0 m : LogMap) → c.keeps_model → IsLoose a v k m0 m → IsRowFrom a.content used segment at
   row_then k m0 m keeps is = (was k m0 m (looks.carries.kept_before keeps) is).1
 
-  pub summary_missing : (c.keeps_model → (b.failures < c.failures) ⊎ (cell_at b.content (2 + 64 * segment + at) ≡ None)) → FailsFromDevice a c v
+  pub summary_missing : (c.keeps_model → (b.failures < c.failures) ⊎ (cell_at b.content (2 + 64 * segment + at) ≡ None))
+      → FailsFromDevice a c v
   summary_missing unread k m0 m keeps is = ⊎_elim
       (λ (failed : b.failures < c.failures). let before = here.looks.carries.failures in omega (arith, failed, before))
       (λ (missing : cell_at b.content (2 + 64 * segment + at) ≡ None).
@@ -99,18 +109,22 @@ module _ (a b c : DeviceState) (v v' : LogMemory) (segment used at : ℕ) (was :
 
     pub no_summary : None ≡ summary_in bytes → FailsFromDevice a c v
     no_summary none k m0 m keeps is =
-        absurd (no_chunk a.content used segment at long lt (ap entries_in (bytes_there keeps) ∙ entries_none bytes none) (row_then k m0 m keeps is).rest)
+        absurd (no_chunk a.content used segment at long lt (ap entries_in (bytes_there keeps) ∙ entries_none bytes none)
+        (row_then k m0 m keeps is).rest)
 
     module _ (names : List BlockNameValue) (exact : Some names ≡ summary_in bytes) where
       pub too_long : (count : ℕ) → count ≡ length names → used ≤ at + count → FailsFromDevice a c v
       too_long count is_count high k m0 m keeps is =
           absurd (cut_chunk a.content used segment at long lt count
-          (subst (λ (b : List ℕ). (es : List Entry) × (entries_in b ≡ Some es) × (length es ≡ count)) (sym (bytes_there keeps)) (names_of bytes names count exact is_count))
+          (subst (λ (b : List ℕ). (es : List Entry) × (entries_in b ≡ Some es) × (length es ≡ count)) (sym (bytes_there keeps))
+          (names_of bytes names count exact is_count))
           high (row_then k m0 m keeps is).rest)
 
       -- and its blocks come into memory
-      pub clears_more : v.chunk.names ≡ [] → segment < length v.usage.segments → used ≡ used_of v.usage segment → used ≤ 64 → at + length names < used
-          → (e : DeviceState) (w : LogMemory) → Relocates c e v' w → (first next : ℕ) → first ≡ 2 + 64 * segment + at + 1 → next ≡ at + 1 + length names → LeavesNames c e v' w names first (length names)
+      pub clears_more : v.chunk.names ≡ [] → segment < length v.usage.segments → used ≡ used_of v.usage segment → used ≤ 64
+          → at + length names < used
+          → (e : DeviceState) (w : LogMemory) → Relocates c e v' w → (first next : ℕ) → first ≡ 2 + 64 * segment + at + 1
+          → next ≡ at + 1 + length names → LeavesNames c e v' w names first (length names)
           → ClearsTo a e v w segment used next
       clears_more closed low is_used few room e w one first next is_first is_next left k m0 m keeps is =
           let back = one.looks.carries.kept_before keeps in
@@ -129,9 +143,11 @@ module _ (a b c : DeviceState) (v v' : LogMemory) (segment used at : ℕ) (was :
                   let up : 2 ≤ now.0.running.memory.at y = omega (arith, from) in
                   let same = all y up in
                   let place : place_in (row_by a.content used segment) (now.0.running.memory.at y - (2 + 64 * segment)) ≡ Some y =
-                  subst (λ (u : ℕ). place_in (row_by a.content u segment) (now.0.running.memory.at y - (2 + 64 * segment)) ≡ Some y) (sym is_used)
+                  subst (λ (u : ℕ). place_in (row_by a.content u segment) (now.0.running.memory.at y - (2 + 64 * segment)) ≡ Some y)
+                  (sym is_used)
                   (subst (λ (x : ℕ). place_in (row_by a.content (used_of v.usage segment) segment) (x - (2 + 64 * segment)) ≡ Some y) same
-                  (stands_named a v k m0 m is segment closed low y (omega (arith, same, from)) (omega (arith, same, to, is_next, room, few)))) in
+                  (stands_named a v k m0 m is segment closed low y (omega (arith, same, from))
+                  (omega (arith, same, to, is_next, room, few)))) in
                   ⊎_elim
                   (λ (earlier : now.0.running.memory.at y < 2 + 64 * segment + at).
                   let was_there = between y up in
@@ -139,16 +155,20 @@ module _ (a b c : DeviceState) (v v' : LogMemory) (segment used at : ℕ) (was :
                   (λ (later : 2 + 64 * segment + at ≤ now.0.running.memory.at y). ⊎_elim
                   (λ (summary : now.0.running.memory.at y ≡ 2 + 64 * segment + at).
                   let o : now.0.running.memory.at y - (2 + 64 * segment) ≡ at = omega (arith, summary) in
-                  let bad : Some y ≡ None = sym place ∙ ap (place_in (row_by a.content used segment)) o ∙ summary_place a.content used segment at long lt row in
+                  let bad : Some y ≡ None = sym place ∙ ap (place_in (row_by a.content used segment)) o
+                  ∙ summary_place a.content used segment at long lt row in
                   absurd (cc))
                   (λ (other : now.0.running.memory.at y ≡ 2 + 64 * segment + at → ⊥).
                   let i = now.0.running.memory.at y - first in
                   let small : now.0.running.memory.at y - first < length names = omega (arith, later, other, to, is_first, is_next) in
-                  let o : now.0.running.memory.at y - (2 + 64 * segment) ≡ at + 1 + (now.0.running.memory.at y - first) = omega (arith, later, other, is_first) in
+                  let o : now.0.running.memory.at y - (2 + 64 * segment) ≡ at + 1 + (now.0.running.memory.at y - first) =
+                  omega (arith, later, other, is_first) in
                   let label : Some y ≡ Some (entry_of (get_or names (now.0.running.memory.at y - first) no_block)) =
-                  sym place ∙ ap (place_in (row_by a.content used segment)) o ∙ label_is a.content used segment at long lt row bytes there names exact room (now.0.running.memory.at y - first) small in
+                  sym place ∙ ap (place_in (row_by a.content used segment)) o ∙ label_is a.content used segment at long lt row bytes there
+                  names exact room (now.0.running.memory.at y - first) small in
                   let own : y ≡ entry_of (get_or names (now.0.running.memory.at y - first) no_block) = cc in
-                  let whole : now.0.running.memory.at y ≡ first + (now.0.running.memory.at y - first) = omega (arith, later, other, is_first) in
+                  let whole : now.0.running.memory.at y ≡ first + (now.0.running.memory.at y - first) =
+                  omega (arith, later, other, is_first) in
                   now.2 (now.0.running.memory.at y - first) small (ap now.0.running.memory.at (sym own) ∙ whole))
                   (cases_eq (now.0.running.memory.at y) (2 + 64 * segment + at)))
                   (cases_lt (now.0.running.memory.at y) (2 + 64 * segment + at)),
@@ -157,8 +177,10 @@ module _ (a b c : DeviceState) (v v' : LogMemory) (segment used at : ℕ) (was :
           )
 
 -- ---- the whole of it
-pub all_cleared : (a b : DeviceState) (v v' : LogMemory) (segment used : ℕ) → v.chunk.names ≡ [] → segment < length v.usage.segments → used ≡ used_of v.usage segment
-    → 2 + 64 * segment + used ≤ length a.content → ClearsTo a b v v' segment used used → Vacates a b v v' (2 + 64 * segment) (66 + 64 * segment)
+pub all_cleared : (a b : DeviceState) (v v' : LogMemory) (segment used : ℕ) → v.chunk.names ≡ [] → segment < length v.usage.segments
+    → used ≡ used_of v.usage segment
+    → 2 + 64 * segment + used ≤ length a.content → ClearsTo a b v v' segment used used
+    → Vacates a b v v' (2 + 64 * segment) (66 + 64 * segment)
 all_cleared a b v v' segment used closed low is_used long was k m0 m keeps is =
     let here = was k m0 m keeps is in
     let now = here.0 in (
@@ -172,19 +194,22 @@ all_cleared a b v v' segment used closed low is_used long was k m0 m keeps is =
           subst (λ (u : ℕ). place_in (row_by a.content u segment) (now.0.running.memory.at y - (2 + 64 * segment)) ≡ Some y) (sym is_used)
           (subst (λ (x : ℕ). place_in (row_by a.content (used_of v.usage segment) segment) (x - (2 + 64 * segment)) ≡ Some y) same
           (stands_named a v k m0 m is segment closed low y (omega (arith, same, from)) (omega (arith, same, to)))) in
-          let bad : Some y ≡ None = sym place ∙ row_end a.content used segment long here.1 (now.0.running.memory.at y - (2 + 64 * segment)) (omega (arith, past)) in
+          let bad : Some y ≡ None = sym place
+          ∙ row_end a.content used segment long here.1 (now.0.running.memory.at y - (2 + 64 * segment)) (omega (arith, past)) in
           absurd (cc))
           (cases_lt (now.0.running.memory.at y) (2 + 64 * segment + used)),
     )
 
-pub long_there : (d : DeviceState) (v : LogMemory) (segment used : ℕ) → IsLawful d → HasRoom d v → segment < length v.usage.segments → used ≤ 64 → 2 + 64 * segment + used ≤ length d.content
+pub long_there : (d : DeviceState) (v : LogMemory) (segment used : ℕ) → IsLawful d → HasRoom d v → segment < length v.usage.segments
+    → used ≤ 64 → 2 + 64 * segment + used ≤ length d.content
 long_there d v segment used lawful room low few = let size = lawful.size in omega (arith, room, low, few, size)
 
 -- ---- one segment after the other
 pub vacates_none : (d : DeviceState) (v : LogMemory) (segments : List ℕ) → VacatesAll d d v v segments 0
 vacates_none d v segments k m0 m keeps is = (is, traces_none is.running.memory, λ i lt y from to. absurd (omega (arith, lt)))
 
-pub vacates_more : (a b c : DeviceState) (v v' v'' : LogMemory) (segments : List ℕ) (at segment : ℕ) → segment ≡ get_or segments at 0 → (c.keeps_model → b.keeps_model)
+pub vacates_more : (a b c : DeviceState) (v v' v'' : LogMemory) (segments : List ℕ) (at segment : ℕ) → segment ≡ get_or segments at 0
+    → (c.keeps_model → b.keeps_model)
     → Vacates b c v' v'' (2 + 64 * segment) (66 + 64 * segment) → VacatesAll a b v v' segments at → VacatesAll a c v v'' segments (at + 1)
 vacates_more a b c v v' v'' segments at segment is_segment back one was k m0 m keeps is =
     let so_far = was k m0 m (back keeps) is in

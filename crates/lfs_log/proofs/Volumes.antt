@@ -29,18 +29,22 @@ use Rattle.lfs_memory.proofs.Applied.{has_inode}
 use Rattle.lfs_memory.proofs.BlockSteps.{tightened_log}
 use Rattle.lfs_memory.proofs.Presents.{looks_none, no_inode, same_map}
 use Rattle.lfs_memory.proofs.Versions.{staged_version}
-use Rattle.lfs_log.specs.Held.{Held, Holds, Mounts, Saves, Halts, ReadsHeader, ReadsBlock, IsReadFault, Alters, IsStaged, IsRefused, IsStageFault, IsRemoved, IsKept, IsVacant, HasAll, HoldsOne}
+use Rattle.lfs_log.specs.Held.{Held, Holds, Mounts, Saves, Halts, ReadsHeader, ReadsBlock, IsReadFault, Alters, IsStaged, IsRefused}
+use Rattle.lfs_log.specs.Held.{IsStageFault, IsRemoved, IsKept, IsVacant, HasAll, HoldsOne}
 
 module _ {D : Type 0} (state : D → DeviceState) where
-  acknowledged : (h : Held D) (k : CheckpointValue) (m0 m : LogMap) → Holds state h k m0 m → IsLogMap (dropped m) → IsAcknowledged (state h.device) h.memory h.version h.number k m0 m
+  acknowledged : (h : Held D) (k : CheckpointValue) (m0 m : LogMap) → Holds state h k m0 m → IsLogMap (dropped m)
+      → IsAcknowledged (state h.device) h.memory h.version h.number k m0 m
   acknowledged h k m0 m holds map = record { log = holds.log; map = map; same = holds.number; same_version = holds.version }
 
   -- checkpoints over as many numbers in memory have as many segments
-  pub same_segments : (h h' : Held D) (k next : CheckpointValue) (m0 m m0' m' : LogMap) → length h'.memory.usage.segments ≡ length h.memory.usage.segments
+  pub same_segments : (h h' : Held D) (k next : CheckpointValue) (m0 m m0' m' : LogMap)
+      → length h'.memory.usage.segments ≡ length h.memory.usage.segments
       → Holds state h k m0 m → Holds state h' next m0' m' → next.segments ≡ k.segments
   same_segments h h' k next m0 m m0' m' same is is' = sym is'.log.segments ∙ same ∙ is.log.segments
 
-  pub saves : (h h' : Held D) → length h.memory.dirty.blocks ≤ 456 → CommitsAll (state h.device) (state h'.device) h.memory h'.memory h.version h.number → h'.number ≡ h.number + 1 → h'.version ≡ h.version → h'.upgraded ≡ false → h'.halted ≡ false → Saves state h h'
+  pub saves : (h h' : Held D) → length h.memory.dirty.blocks ≤ 456 → CommitsAll (state h.device) (state h'.device) h.memory h'.memory
+      h.version h.number → h'.number ≡ h.number + 1 → h'.version ≡ h.version → h'.upgraded ≡ false → h'.halted ≡ false → Saves state h h'
   saves h h' few c number version upgraded running = record {
     carries = c.carries;
     running = running;
@@ -56,17 +60,20 @@ module _ {D : Type 0} (state : D → DeviceState) where
     holds = holds;
     left = λ k m0 m keeps is map. (
         let n = holds k m0 m keeps is map in
-        subst (λ (l : ℕ). AllLeft (state h'.device) (λ c. StandsOn l c (dropped m))) (same_segments h h' k n.0 m0 m (dropped m) m c.segments is n.1)
+        subst (λ (l : ℕ). AllLeft (state h'.device) (λ c. StandsOn l c (dropped m)))
+        (same_segments h h' k n.0 m0 m (dropped m) m c.segments is n.1)
         (settled_stands (state h'.device) n.0 (dropped m) n.1.log.running.settled));
     moment = λ k m0 m keeps is map. c.moment k m0 m keeps (acknowledged h k m0 m is map);
   }
     where
-      holds : (k : CheckpointValue) (m0 m : LogMap) → (state h'.device).keeps_model → Holds state h k m0 m → IsLogMap (dropped m) → (next : CheckpointValue) × Holds state h' next (dropped m) m
+      holds : (k : CheckpointValue) (m0 m : LogMap) → (state h'.device).keeps_model → Holds state h k m0 m → IsLogMap (dropped m)
+          → (next : CheckpointValue) × Holds state h' next (dropped m) m
       holds k m0 m keeps is map =
           let n = c.log k m0 m keeps (acknowledged h k m0 m is map) in
           (n.0, record { log = n.2; number = n.1 ∙ sym number; version = is.version ∙ sym version; running = running })
 
-  pub halts : (h h' : Held D) → CommitFails (state h.device) (state h'.device) h.memory h.version h.number → h'.halted ≡ true → h'.number ≡ h.number → Halts state h h'
+  pub halts : (h h' : Held D) → CommitFails (state h.device) (state h'.device) h.memory h.version h.number → h'.halted ≡ true
+      → h'.number ≡ h.number → Halts state h h'
   halts h h' c halted number = record {
     carries = c.carries;
     halted = halted;
@@ -79,23 +86,35 @@ module _ {D : Type 0} (state : D → DeviceState) where
   pub mounts : (d : D) (h : Held D) → Opens (state d) (state h.device) h.memory h.version h.number → h.halted ≡ false → Mounts state d h
   mounts d h opens running m keeps is = let o = opens m keeps is in record { log = o.0; number = o.1; version = o.2; running = running }
 
-  pub reads_header : (h h' : Held D) (n : ℕ) (found : Option Header) → AnswersHeader (state h.device) (state h'.device) h.memory n found → ReadsHeader state h h' n found
+  pub reads_header : (h h' : Held D) (n : ℕ) (found : Option Header) → AnswersHeader (state h.device) (state h'.device) h.memory n found
+      → ReadsHeader state h h' n found
   reads_header h h' n found answers k m0 m keeps is = answers k m0 m keeps (loose (state h.device) h.memory k m0 m is.log)
 
-  pub reads_block : (h h' : Held D) (n i : ℕ) (out : List ℕ) (stored : Bool) → AnswersBlock (state h.device) (state h'.device) h.memory n i out stored → ReadsBlock state h h' n i out stored
+  pub reads_block : (h h' : Held D) (n i : ℕ) (out : List ℕ) (stored : Bool)
+      → AnswersBlock (state h.device) (state h'.device) h.memory n i out stored → ReadsBlock state h h' n i out stored
   reads_block h h' n i out stored answers k m0 m keeps is = answers k m0 m keeps (loose (state h.device) h.memory k m0 m is.log)
 
   pub read_fault : (h h' : Held D) → FailsFromDevice (state h.device) (state h'.device) h.memory → IsReadFault state h h'
   read_fault h h' excused k m0 m keeps is = excused k m0 m keeps (loose (state h.device) h.memory k m0 m is.log)
 
   -- ---- memory changes, and then blocks of pointers that lead nowhere leave it
-  held_tight : (h h' : Held D) (v : LogMemory) (k : CheckpointValue) (m0 m w : LogMap) → Holds state h k m0 m → h'.number ≡ h.number → (raised : Bool) → h'.version ≡ cond raised 2 h.version → w.version ≡ cond raised 2 m.version → h'.halted ≡ h.halted → Tightens v h'.memory
+  held_tight : (h h' : Held D) (v : LogMemory) (k : CheckpointValue) (m0 m w : LogMap) → Holds state h k m0 m → h'.number ≡ h.number
+      → (raised : Bool) → h'.version ≡ cond raised 2 h.version → w.version ≡ cond raised 2 m.version → h'.halted ≡ h.halted
+      → Tightens v h'.memory
       → IsLoose (state h'.device) v k m0 w → Holds state h' k m0 w
-  held_tight h h' v k m0 m w is number raised version same halted tight loose = record { log = tightened_log (state h'.device) v h'.memory k m0 w tight loose; number = is.number ∙ sym number; version = same ∙ ap (λ (n : ℕ). cond raised 2 n) is.version ∙ sym version; running = halted ∙ is.running }
+  held_tight h h' v k m0 m w is number raised version same halted tight loose =
+      record {
+        log = tightened_log (state h'.device) v h'.memory k m0 w tight loose;
+        number = is.number ∙ sym number;
+        version = same ∙ ap (λ (n : ℕ). cond raised 2 n) is.version ∙ sym version;
+        running = halted ∙ is.running;
+      }
 
-  module _ (h h' : Held D) (v : LogMemory) (number : h'.number ≡ h.number) (halted : h'.halted ≡ h.halted) (tight : Tightens v h'.memory) where
+  module _ (h h' : Held D) (v : LogMemory) (number : h'.number ≡ h.number) (halted : h'.halted ≡ h.halted)
+      (tight : Tightens v h'.memory) where
     module _ (c : Changes) where
-      stood : (raised : Bool) → h'.version ≡ cond raised 2 h.version → h'.upgraded ≡ (raised || h.upgraded) → StandsWithBatch (state h.device) (state h'.device) h.memory v c.headers.items c.blocks.items
+      stood : (raised : Bool) → h'.version ≡ cond raised 2 h.version → h'.upgraded ≡ (raised || h.upgraded)
+          → StandsWithBatch (state h.device) (state h'.device) h.memory v c.headers.items c.blocks.items
           → Alters state h h' (room_for c) raised
       stood raised version upgraded s = record {
         looks = s.looks;
@@ -109,14 +128,26 @@ module _ {D : Type 0} (state : D → DeviceState) where
         few = let x = s.few in let y = tight.stays.blocks in omega (arith, x, y);
       }
 
-      pub is_staged : h'.version ≡ version_after c.loss h.version → h'.upgraded ≡ (raises c.loss || h.upgraded) → TakesBatch (state h.device) (state h'.device) h.memory v c.loss c.headers.items c.blocks.items
+      pub is_staged : h'.version ≡ version_after c.loss h.version → h'.upgraded ≡ (raises c.loss || h.upgraded)
+          → TakesBatch (state h.device) (state h'.device) h.memory v c.loss c.headers.items c.blocks.items
           → IsStaged state h h' c
-      is_staged version upgraded s = record { alters = stood (raises c.loss) version upgraded s.stands; holds = λ k m0 m keeps is fits. held_tight h h' v k m0 m _ is number (raises c.loss) version (staged_version c m) halted tight (s.log k m0 m keeps (loose (state h.device) h.memory k m0 m is.log) fits) }
+      is_staged version upgraded s = record {
+        alters = stood (raises c.loss) version upgraded s.stands;
+        holds = λ k m0 m keeps is fits. held_tight h h' v k m0 m _ is number (raises c.loss) version (staged_version c m) halted tight
+            (s.log k m0 m keeps (loose (state h.device) h.memory k m0 m is.log) fits);
+      }
 
-      pub is_refused : h'.version ≡ h.version → h'.upgraded ≡ h.upgraded → RefusesBatch (state h.device) (state h'.device) h.memory v c.loss c.headers.items c.blocks.items → IsRefused state h h' c
-      is_refused version upgraded s = record { alters = stood false version upgraded s.stands; holds = λ k m0 m keeps is fits. held_tight h h' v k m0 m m is number false version refl halted tight (s.log k m0 m keeps (loose (state h.device) h.memory k m0 m is.log) fits) }
+      pub is_refused : h'.version ≡ h.version → h'.upgraded ≡ h.upgraded
+          → RefusesBatch (state h.device) (state h'.device) h.memory v c.loss c.headers.items c.blocks.items → IsRefused state h h' c
+      is_refused version upgraded s =
+          record {
+            alters = stood false version upgraded s.stands;
+            holds = λ k m0 m keeps is fits. held_tight h h' v k m0 m m is number
+                false version refl halted tight (s.log k m0 m keeps (loose (state h.device) h.memory k m0 m is.log) fits);
+          }
 
-    pub is_removed : h'.version ≡ h.version → h'.upgraded ≡ h.upgraded → (n : ℕ) → RemovesFile (state h.device) (state h'.device) h.memory v n → IsRemoved state h h' n
+    pub is_removed : h'.version ≡ h.version → h'.upgraded ≡ h.upgraded → (n : ℕ)
+        → RemovesFile (state h.device) (state h'.device) h.memory v n → IsRemoved state h h' n
     is_removed version upgraded n s = record {
       alters = record {
         looks = s.looks;
@@ -129,11 +160,14 @@ module _ {D : Type 0} (state : D → DeviceState) where
         capacity = tight.stays.capacity ∙ s.capacity;
         few = let x = s.few in let y = tight.stays.blocks in omega (arith, x, y);
       };
-      untaken = λ before segment. subst (λ (u : UsageTable). kept_of u segment ≡ used_of u segment) (sym tight.usage) (s.kept segment ∙ before segment ∙ sym (s.used segment));
-      holds = λ k m0 m keeps is. held_tight h h' v k m0 m _ is number false version refl halted tight (s.log k m0 m keeps (loose (state h.device) h.memory k m0 m is.log));
+      untaken = λ before segment. subst (λ (u : UsageTable). kept_of u segment ≡ used_of u segment) (sym tight.usage)
+          (s.kept segment ∙ before segment ∙ sym (s.used segment));
+      holds = λ k m0 m keeps is. held_tight h h' v k m0 m _ is number false version refl halted tight
+          (s.log k m0 m keeps (loose (state h.device) h.memory k m0 m is.log));
     }
 
-    pub is_kept : h'.version ≡ h.version → h'.upgraded ≡ h.upgraded → Prepares (state h.device) (state h'.device) h.memory v 0 → IsKept state h h'
+    pub is_kept : h'.version ≡ h.version → h'.upgraded ≡ h.upgraded → Prepares (state h.device) (state h'.device) h.memory v 0
+        → IsKept state h h'
     is_kept version upgraded s = record {
       alters = record {
         looks = s.looks;
@@ -146,19 +180,19 @@ module _ {D : Type 0} (state : D → DeviceState) where
         capacity = tight.stays.capacity ∙ s.capacity;
         few = let x = s.few in let y = tight.stays.blocks in omega (arith, x, y);
       };
-      untaken = λ before segment. subst (λ (u : UsageTable). kept_of u segment ≡ used_of u segment) (sym tight.usage) (s.kept segment ∙ before segment ∙ sym (s.used segment));
-      holds = λ k m0 m keeps is. held_tight h h' v k m0 m m is number false version refl halted tight (s.log k m0 m keeps (loose (state h.device) h.memory k m0 m is.log));
+      untaken = λ before segment. subst (λ (u : UsageTable). kept_of u segment ≡ used_of u segment) (sym tight.usage)
+          (s.kept segment ∙ before segment ∙ sym (s.used segment));
+      holds = λ k m0 m keeps is. held_tight h h' v k m0 m m is number false version refl halted tight
+          (s.log k m0 m keeps (loose (state h.device) h.memory k m0 m is.log));
     }
 
-  pub is_stage_fault : (h h' : Held D) (c : Changes) → IsBatchExcused (state h.device) (state h'.device) h.memory c.loss c.headers.items c.blocks.items → IsStageFault state h h' c
+  pub is_stage_fault : (h h' : Held D) (c : Changes)
+      → IsBatchExcused (state h.device) (state h'.device) h.memory c.loss c.headers.items c.blocks.items → IsStageFault state h h' c
   is_stage_fault h h' c failed k m0 m keeps is fits = failed k m0 m keeps (loose (state h.device) h.memory k m0 m is.log) fits
 
-  -- nothing happened
-  pub alters_none : (h : Held D) (more : ℕ) → Alters state h h more false
-  alters_none h more = record { looks = looks_none (state h.device); number = refl; version = refl; upgraded = refl; halted = refl; segments = refl; clean = refl; capacity = refl; few = omega arith }
-
   -- ---- numbers that no file has
-  has_there : (h : Held D) (k : CheckpointValue) (m0 m : LogMap) → Holds state h k m0 m → (l : ℕ) → 0 < address_in h.memory.map l → HasInode m l
+  has_there : (h : Held D) (k : CheckpointValue) (m0 m : LogMap) → Holds state h k m0 m → (l : ℕ) → 0 < address_in h.memory.map l
+      → HasInode m l
   has_there h k m0 m is l some = has_inode (state h.device) h.memory k m0 m (loose (state h.device) h.memory k m0 m is.log) l some
 
   pub is_vacant : (h : Held D) (n : ℕ) → IsUnusedNumber h.memory.map n → IsVacant state h n
@@ -176,8 +210,10 @@ module _ {D : Type 0} (state : D → DeviceState) where
   pub holds_one : (h : Held D) → HoldsOne state h
   holds_one h = record {
     present = λ k k' m0 m m0' m' is is'.
-        same_map (state h.device) h.memory k k' m0 m m0' m' (loose (state h.device) h.memory k m0 m is.log) (loose (state h.device) h.memory k' m0' m' is'.log) (is.version ∙ sym is'.version);
-    acknowledged = λ k k' m0 m m0' m' is is'. single_log (state h.device).content m0 m0' (stands_for h k m0 m is) (stands_for h k' m0' m' is');
+        same_map (state h.device) h.memory k k' m0 m m0' m' (loose (state h.device) h.memory k m0 m is.log)
+        (loose (state h.device) h.memory k' m0' m' is'.log) (is.version ∙ sym is'.version);
+    acknowledged = λ k k' m0 m m0' m' is is'.
+        single_log (state h.device).content m0 m0' (stands_for h k m0 m is) (stands_for h k' m0' m' is');
   }
     where
       stands_for : (h : Held D) (k : CheckpointValue) (m0 m : LogMap) → Holds state h k m0 m → StandsLog (state h.device).content m0

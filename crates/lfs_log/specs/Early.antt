@@ -37,8 +37,8 @@ pub record GoesEarly (v v' : LogMemory) (placed : ℕ) : Type 0 where
   pub fewer : length v'.dirty.blocks + placed ≡ length v.dirty.blocks
   pub due : blocks_due v' ≡ blocks_due v
 
--- Full chunks of data blocks went out: as many data blocks left memory as blocks. As many blocks are unsaved, and the next commit takes fewer segments and gives fewer orders, by
--- those that were taken and given here.
+-- Full chunks of data blocks went out: as many data blocks left memory as blocks. As many blocks are unsaved,
+-- and the next commit takes fewer segments and gives fewer orders, by those that were taken and given here.
 pub record WritesChunks (d d' : DeviceState) (v v' : LogMemory) : Type 0 where
   pub goes : (placed : ℕ) × Goes d d' v v' placed
   pub closed : v'.chunk.names ≡ []

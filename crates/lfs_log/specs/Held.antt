@@ -1,6 +1,7 @@
--- What contracts see of a log: its device, what memory holds, the number of the acknowledged checkpoint, the version of the layout, whether it was raised since,
--- whether a commit failed, and the blocks of all files.
-use Rattle.std.specs.Prelude.{◌≡◌, ◌⊎◌, ◌<◌, ◌≤◌, ◌+◌, ◌-◌, ◌*◌, ◌/◌, ◌^◌, ◌||◌, cond, ℕ, zero, suc, Bool, true, false, List, [], length, refl, Option, None}
+-- What contracts see of a log: its device, what memory holds, the number of the acknowledged checkpoint, the
+-- version of the layout, whether it was raised since, whether a commit failed, and the blocks of all files.
+use Rattle.std.specs.Prelude.{◌≡◌, ◌⊎◌, ◌<◌, ◌≤◌, ◌+◌, ◌-◌, ◌*◌, ◌/◌, ◌^◌, ◌||◌, cond, ℕ, zero, suc, Bool, true, false, List, [], length}
+use Rattle.std.specs.Prelude.{refl, Option, None}
 use Rattle.std.specs.Coded.{Coded, code_by, coded×, coded_ℕ, coded_bool, coded_list, coded_option}
 use Rattle.lfs_model.specs.declared.BlockKind.{BlockKind}
 use Rattle.lfs_model.specs.declared.BlockKind.TheVariants as kind
@@ -50,11 +51,13 @@ segment_code =
     (λ _. refl)
 
 abbrev pub place_code : Coded PlaceInSegment
-place_code = code_by (ℕ × Bool) (coded× coded_ℕ coded_bool) (λ p. (p.address, p.stale)) (λ p. record { address = p.0; stale = p.1 }) (λ _. refl)
+place_code =
+    code_by (ℕ × Bool) (coded× coded_ℕ coded_bool) (λ p. (p.address, p.stale)) (λ p. record { address = p.0; stale = p.1 }) (λ _. refl)
 
 abbrev pub usage_code : Coded UsageTable
 usage_code =
-    code_by (List SegmentNumbers × (List PlaceInSegment × Option ℕ)) (coded× (coded_list segment_code) (coded× (coded_list place_code) (coded_option coded_ℕ)))
+    code_by (List SegmentNumbers × (List PlaceInSegment × Option ℕ))
+    (coded× (coded_list segment_code) (coded× (coded_list place_code) (coded_option coded_ℕ)))
     (λ t. (t.segments, (t.blocks, t.last))) (λ p. record { segments = p.0; blocks = p.1.0; last = p.1.1 }) (λ _. refl)
 
 abbrev pub map_code : Coded MapValue
@@ -113,13 +116,23 @@ memory_code =
     (λ v. (v.map, (v.usage, (v.dirty, v.chunk)))) (λ p. record { map = p.0; usage = p.1.0; dirty = p.1.1.0; chunk = p.1.1.1 }) (λ _. refl)
 
 abbrev pub totals_code : Coded BlockTotals
-totals_code = code_by (ℕ × ℕ) (coded× coded_ℕ coded_ℕ) (λ t. (t.data_blocks, t.meta_blocks)) (λ p. record { data_blocks = p.0; meta_blocks = p.1 }) (λ _. refl)
+totals_code = code_by (ℕ × ℕ) (coded× coded_ℕ coded_ℕ) (λ t. (t.data_blocks, t.meta_blocks))
+    (λ p. record { data_blocks = p.0; meta_blocks = p.1 }) (λ _. refl)
 
 abbrev pub held_code : {D : Type 0} → Coded D → Coded (Held D)
 held_code {D} device =
-    code_by (D × (LogMemory × (ℕ × (ℕ × (Bool × (Bool × BlockTotals)))))) (coded× device (coded× memory_code (coded× coded_ℕ (coded× coded_ℕ (coded× coded_bool (coded× coded_bool totals_code))))))
+    code_by (D × (LogMemory × (ℕ × (ℕ × (Bool × (Bool × BlockTotals))))))
+    (coded× device (coded× memory_code (coded× coded_ℕ (coded× coded_ℕ (coded× coded_bool (coded× coded_bool totals_code))))))
     (λ h. (h.device, (h.memory, (h.number, (h.version, (h.upgraded, (h.halted, h.totals)))))))
-    (λ p. record { device = p.0; memory = p.1.0; number = p.1.1.0; version = p.1.1.1.0; upgraded = p.1.1.1.1.0; halted = p.1.1.1.1.1.0; totals = p.1.1.1.1.1.1 })
+    (λ p. record {
+      device = p.0;
+      memory = p.1.0;
+      number = p.1.1.0;
+      version = p.1.1.1.0;
+      upgraded = p.1.1.1.1.0;
+      halted = p.1.1.1.1.1.0;
+      totals = p.1.1.1.1.1.1;
+    })
     (λ _. refl)
 
 -- What a log keeps true over any device, until a commit failed. Its memory takes as many blocks as one commit may write.
@@ -176,7 +189,8 @@ module _ {D : Type 0} (state : D → DeviceState) where
 
   -- a stop at any moment leaves one of these
   abbrev pub LeavesSaved : Held D → Held D → Type 0
-  LeavesSaved h h' = (k : CheckpointValue) (m0 m : LogMap) → (state h'.device).keeps_model → Holds h k m0 m → IsLogMap (dropped m) → LeavesOnly (state h.device) (state h'.device) (IsSaved k.segments m0 m)
+  LeavesSaved h h' = (k : CheckpointValue) (m0 m : LogMap) → (state h'.device).keeps_model → Holds h k m0 m → IsLogMap (dropped m)
+      → LeavesOnly (state h.device) (state h'.device) (IsSaved k.segments m0 m)
 
   -- A commit: the present map, without its files of no links, is what is acknowledged.
   pub record Saves (h h' : Held D) : Type 0 where
@@ -194,8 +208,10 @@ module _ {D : Type 0} (state : D → DeviceState) where
     pub empty : AreAllSaved h'
     pub untaken : AreUntaken h'.memory.usage
     pub no_failure : (state h'.device).failures ≡ (state h.device).failures
-    pub holds : (k : CheckpointValue) (m0 m : LogMap) → (state h'.device).keeps_model → Holds h k m0 m → IsLogMap (dropped m) → (next : CheckpointValue) × Holds h' next (dropped m) m
-    pub left : (k : CheckpointValue) (m0 m : LogMap) → (state h'.device).keeps_model → Holds h k m0 m → IsLogMap (dropped m) → AllLeft (state h'.device) (λ c. StandsOn k.segments c (dropped m))
+    pub holds : (k : CheckpointValue) (m0 m : LogMap) → (state h'.device).keeps_model → Holds h k m0 m → IsLogMap (dropped m)
+        → (next : CheckpointValue) × Holds h' next (dropped m) m
+    pub left : (k : CheckpointValue) (m0 m : LogMap) → (state h'.device).keeps_model → Holds h k m0 m → IsLogMap (dropped m)
+        → AllLeft (state h'.device) (λ c. StandsOn k.segments c (dropped m))
     pub moment : LeavesSaved h h'
 
   -- One that a failure of the device ended.
@@ -203,8 +219,10 @@ module _ {D : Type 0} (state : D → DeviceState) where
     pub carries : Carries (state h.device) (state h'.device)
     pub halted : h'.halted ≡ true
     pub number : h'.number ≡ h.number
-    pub cause : (k : CheckpointValue) (m0 m : LogMap) → (state h'.device).keeps_model → Holds h k m0 m → (state h.device).failures < (state h'.device).failures
-    pub left : (k : CheckpointValue) (m0 m : LogMap) → (state h'.device).keeps_model → Holds h k m0 m → IsLogMap (dropped m) → AllLeft (state h'.device) (IsSaved k.segments m0 m)
+    pub cause : (k : CheckpointValue) (m0 m : LogMap) → (state h'.device).keeps_model → Holds h k m0 m
+        → (state h.device).failures < (state h'.device).failures
+    pub left : (k : CheckpointValue) (m0 m : LogMap) → (state h'.device).keeps_model → Holds h k m0 m → IsLogMap (dropped m)
+        → AllLeft (state h'.device) (IsSaved k.segments m0 m)
     pub moment : LeavesSaved h h'
 
   -- Full chunks of data blocks went to segments that the acknowledged checkpoint doesn't reach. What the log holds stays, what is
@@ -231,7 +249,8 @@ module _ {D : Type 0} (state : D → DeviceState) where
         ≤ length (state h.device).told + orders_for (length h.memory.dirty.blocks)
     pub no_failure : (state h'.device).failures ≡ (state h.device).failures
     pub holds : (k : CheckpointValue) (m0 m : LogMap) → (state h'.device).keeps_model → Holds h k m0 m → Holds h' k m0 m
-    pub moment : (k : CheckpointValue) (m0 m : LogMap) → (state h'.device).keeps_model → Holds h k m0 m → LeavesOnly (state h.device) (state h'.device) (λ c. StandsOn k.segments c m0)
+    pub moment : (k : CheckpointValue) (m0 m : LogMap) → (state h'.device).keeps_model → Holds h k m0 m
+        → LeavesOnly (state h.device) (state h'.device) (λ c. StandsOn k.segments c m0)
 
   -- A call that only reads: memory is as it was.
   pub record Reads (h h' : Held D) : Type 0 where
@@ -245,18 +264,21 @@ module _ {D : Type 0} (state : D → DeviceState) where
 
   -- a call of the device failed, where the log holds a map
   abbrev pub IsReadFault : Held D → Held D → Type 0
-  IsReadFault h h' = (k : CheckpointValue) (m0 m : LogMap) → (state h'.device).keeps_model → Holds h k m0 m → (state h.device).failures < (state h'.device).failures
+  IsReadFault h h' = (k : CheckpointValue) (m0 m : LogMap) → (state h'.device).keeps_model → Holds h k m0 m
+      → (state h.device).failures < (state h'.device).failures
 
   -- what is read is the log map's
   abbrev pub ReadsHeader : Held D → Held D → ℕ → Option Header → Type 0
   ReadsHeader h h' n found = (k : CheckpointValue) (m0 m : LogMap) → (state h'.device).keeps_model → Holds h k m0 m → HeaderAnswer m n found
 
   abbrev pub ReadsBlock : Held D → Held D → ℕ → ℕ → List ℕ → Bool → Type 0
-  ReadsBlock h h' n i out stored = (k : CheckpointValue) (m0 m : LogMap) → (state h'.device).keeps_model → Holds h k m0 m → BlockAnswer m n i out stored
+  ReadsBlock h h' n i out stored = (k : CheckpointValue) (m0 m : LogMap) → (state h'.device).keeps_model → Holds h k m0 m
+      → BlockAnswer m n i out stored
 
   -- whether block i of file n is stored, and whether one is below its leaf q of pointers
   abbrev pub TellsBlock : Held D → Held D → ℕ → ℕ → Bool → Type 0
-  TellsBlock h h' n i found = (k : CheckpointValue) (m0 m : LogMap) → (state h'.device).keeps_model → Holds h k m0 m → is_stored m n i ≡ found
+  TellsBlock h h' n i found = (k : CheckpointValue) (m0 m : LogMap) → (state h'.device).keeps_model → Holds h k m0 m
+      → is_stored m n i ≡ found
 
   abbrev pub TellsLeaf : Held D → Held D → ℕ → ℕ → Bool → Type 0
   TellsLeaf h h' n q found = (k : CheckpointValue) (m0 m : LogMap) → (state h'.device).keeps_model → Holds h k m0 m → has_leaf m n q ≡ found
@@ -267,7 +289,8 @@ module _ {D : Type 0} (state : D → DeviceState) where
 
   -- how many of its blocks from..to are stored
   abbrev pub CountsBlocks : Held D → Held D → ℕ → ℕ → ℕ → ℕ → Type 0
-  CountsBlocks h h' n from to count = (k : CheckpointValue) (m0 m : LogMap) → (state h'.device).keeps_model → Holds h k m0 m → stored_in m n from to ≡ count
+  CountsBlocks h h' n from to count = (k : CheckpointValue) (m0 m : LogMap) → (state h'.device).keeps_model → Holds h k m0 m
+      → stored_in m n from to ≡ count
 
   -- A call that changes no more than memory, where so many blocks may come, and the version where it raises it.
   pub record Alters (h h' : Held D) (more : ℕ) (raised : Bool) : Type 0 where
@@ -284,7 +307,8 @@ module _ {D : Type 0} (state : D → DeviceState) where
   -- A batch of changes is staged: the present log map is the one with all of them.
   pub record IsStaged (h h' : Held D) (c : Changes) : Type 0 where
     pub alters : Alters h h' (room_for c) (raises c.loss)
-    pub holds : (k : CheckpointValue) (m0 m : LogMap) → (state h'.device).keeps_model → Holds h k m0 m → FitsBatch m c → Holds h' k m0 (staged c m)
+    pub holds : (k : CheckpointValue) (m0 m : LogMap) → (state h'.device).keeps_model → Holds h k m0 m → FitsBatch m c
+        → Holds h' k m0 (staged c m)
 
   -- Or none is made.
   pub record IsRefused (h h' : Held D) (c : Changes) : Type 0 where
@@ -293,7 +317,8 @@ module _ {D : Type 0} (state : D → DeviceState) where
 
   -- a call of the device failed, where the log holds a map that the batch fits
   abbrev pub IsStageFault : Held D → Held D → Changes → Type 0
-  IsStageFault h h' c = (k : CheckpointValue) (m0 m : LogMap) → (state h'.device).keeps_model → Holds h k m0 m → FitsBatch m c → (state h.device).failures < (state h'.device).failures
+  IsStageFault h h' c = (k : CheckpointValue) (m0 m : LogMap) → (state h'.device).keeps_model → Holds h k m0 m → FitsBatch m c
+      → (state h.device).failures < (state h'.device).failures
 
   -- A file is gone.
   pub record IsRemoved (h h' : Held D) (n : ℕ) : Type 0 where

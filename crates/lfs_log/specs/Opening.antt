@@ -20,7 +20,8 @@ pub record IsOpened (v : LogMemory) (size : ℕ) : Type 0 where
 
 -- The device holds the log map that it stands for, all of it durable.
 abbrev pub Opens : DeviceState → DeviceState → LogMemory → ℕ → ℕ → Type 0
-Opens d d' v version number = (m : LogMap) → d'.keeps_model → (is : StandsLog d.content m) → IsLog d' v is.checkpoint m m × (is.checkpoint.number ≡ number) × (m.version ≡ version)
+Opens d d' v version number = (m : LogMap) → d'.keeps_model → (is : StandsLog d.content m)
+    → IsLog d' v is.checkpoint m m × (is.checkpoint.number ≡ number) × (m.version ≡ version)
 
 -- These are the totals of the log map for which the content stands.
 abbrev pub CountsOpened : DeviceState → DeviceState → BlockTotals → Type 0

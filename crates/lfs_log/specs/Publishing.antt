@@ -47,7 +47,8 @@ pub record IsAcknowledged (d : DeviceState) (v : LogMemory) (version number : �
 
 -- a stop at any moment leaves what was acknowledged, or all that is out, on as many segments
 abbrev pub LeavesEither : DeviceState → DeviceState → LogMemory → ℕ → ℕ → Type 0
-LeavesEither d d' v version number = (k : CheckpointValue) (m0 m : LogMap) → d'.keeps_model → IsAcknowledged d v version number k m0 m → LeavesOnly d d' (StandsForOn k.segments m0 (dropped m))
+LeavesEither d d' v version number = (k : CheckpointValue) (m0 m : LogMap) → d'.keeps_model → IsAcknowledged d v version number k m0 m
+    → LeavesOnly d d' (StandsForOn k.segments m0 (dropped m))
 
 -- The next checkpoint is acknowledged.
 pub record Publishes (d d' : DeviceState) (v v' : LogMemory) (version number : ℕ) : Type 0 where
@@ -56,12 +57,14 @@ pub record Publishes (d d' : DeviceState) (v v' : LogMemory) (version number : �
   pub segments : length v'.usage.segments ≡ length v.usage.segments
   pub released : Releases v.usage v'.usage
   pub no_failure : d'.failures ≡ d.failures
-  pub log : (k : CheckpointValue) (m0 m : LogMap) → d'.keeps_model → IsAcknowledged d v version number k m0 m → (next : CheckpointValue) × (next.number ≡ number + 1) × IsLog d' v' next (dropped m) m
+  pub log : (k : CheckpointValue) (m0 m : LogMap) → d'.keeps_model → IsAcknowledged d v version number k m0 m
+      → (next : CheckpointValue) × (next.number ≡ number + 1) × IsLog d' v' next (dropped m) m
   pub moment : LeavesEither d d' v version number
 
 -- A failure of the device ended it: a stop from now on leaves the one or the other.
 pub record PublishFails (d d' : DeviceState) (v : LogMemory) (version number : ℕ) : Type 0 where
   pub carries : Carries d d'
   pub failed : d.failures < d'.failures
-  pub left : (k : CheckpointValue) (m0 m : LogMap) → d'.keeps_model → IsAcknowledged d v version number k m0 m → AllLeft d' (StandsForOn k.segments m0 (dropped m))
+  pub left : (k : CheckpointValue) (m0 m : LogMap) → d'.keeps_model → IsAcknowledged d v version number k m0 m
+      → AllLeft d' (StandsForOn k.segments m0 (dropped m))
   pub moment : LeavesEither d d' v version number

@@ -97,7 +97,8 @@ IsNoBlock d v x = (k : CheckpointValue) (m0 m : LogMap) → d.keeps_model → (i
 
 -- the block doesn't stand at this address any more
 abbrev pub HasLeft : DeviceState → DeviceState → LogMemory → LogMemory → Entry → ℕ → Type 0
-HasLeft d d' v v' x address = (k : CheckpointValue) (m0 m : LogMap) → d'.keeps_model → (is : IsLoose d v k m0 m) (is' : IsLoose d' v' k m0 m)
+HasLeft d d' v v' x address = (k : CheckpointValue) (m0 m : LogMap) → d'.keeps_model
+    → (is : IsLoose d v k m0 m) (is' : IsLoose d' v' k m0 m)
     → HasTraces is.running.memory is'.running.memory → is'.running.memory.at x ≡ address → ⊥
 
 -- Usage block j leaves its address, and isn't as the device has it.
@@ -127,18 +128,21 @@ abbrev pub NamesLeft : List BlockNameValue → ℕ → ℕ → Memory → Type 0
 NamesLeft names first upto M = (i : ℕ) → i < upto → M.at (entry_of (get_or names i no_block)) ≡ first + i → ⊥
 
 abbrev pub LeavesNames : DeviceState → DeviceState → LogMemory → LogMemory → List BlockNameValue → ℕ → ℕ → Type 0
-LeavesNames d d' v v' names first upto = (k : CheckpointValue) (m0 m : LogMap) → d'.keeps_model → (is : IsLoose d v k m0 m) → Traced d' v' k m0 m is.running.memory (NamesLeft names first upto)
+LeavesNames d d' v v' names first upto = (k : CheckpointValue) (m0 m : LogMap) → d'.keeps_model → (is : IsLoose d v k m0 m)
+    → Traced d' v' k m0 m is.running.memory (NamesLeft names first upto)
 
 -- no block stands at these addresses
 abbrev pub IsVacantTo : ℕ → ℕ → Memory → Type 0
 IsVacantTo from to M = (y : Entry) → from ≤ M.at y → M.at y < to → ⊥
 
 abbrev pub Vacates : DeviceState → DeviceState → LogMemory → LogMemory → ℕ → ℕ → Type 0
-Vacates d d' v v' from to = (k : CheckpointValue) (m0 m : LogMap) → d'.keeps_model → (is : IsLoose d v k m0 m) → Traced d' v' k m0 m is.running.memory (IsVacantTo from to)
+Vacates d d' v v' from to = (k : CheckpointValue) (m0 m : LogMap) → d'.keeps_model → (is : IsLoose d v k m0 m)
+    → Traced d' v' k m0 m is.running.memory (IsVacantTo from to)
 
 -- nor in any of these segments
 abbrev pub AreVacant : List ℕ → ℕ → Memory → Type 0
 AreVacant segments upto M = (i : ℕ) → i < upto → IsVacantTo (2 + 64 * get_or segments i 0) (66 + 64 * get_or segments i 0) M
 
 abbrev pub VacatesAll : DeviceState → DeviceState → LogMemory → LogMemory → List ℕ → ℕ → Type 0
-VacatesAll d d' v v' segments upto = (k : CheckpointValue) (m0 m : LogMap) → d'.keeps_model → (is : IsLoose d v k m0 m) → Traced d' v' k m0 m is.running.memory (AreVacant segments upto)
+VacatesAll d d' v v' segments upto = (k : CheckpointValue) (m0 m : LogMap) → d'.keeps_model → (is : IsLoose d v k m0 m)
+    → Traced d' v' k m0 m is.running.memory (AreVacant segments upto)

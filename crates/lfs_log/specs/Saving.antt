@@ -31,7 +31,8 @@ pass_orders segments = 8 * segments + 4
 
 -- with these taken, an eighth of the segments is clean or emptied still
 abbrev pub IsSpared : LogMemory → Type 0
-IsSpared v = length v.usage.segments + 8 * segments_for (length v.dirty.blocks) ≤ 8 * (clean_in v.usage.segments + emptied_in v.usage.segments)
+IsSpared v =
+    length v.usage.segments + 8 * segments_for (length v.dirty.blocks) ≤ 8 * (clean_in v.usage.segments + emptied_in v.usage.segments)
 
 -- All that memory holds is saved, but for files without a name; no more segments were taken for it than its blocks want, those that
 -- were emptied are clean besides those that were, and an eighth is clean at least.
@@ -47,7 +48,8 @@ pub record CommitsAll (d d' : DeviceState) (v v' : LogMemory) (version number : 
   pub many : length v'.usage.segments ≤ 8 * clean_in v'.usage.segments
   pub cleaned : (s : ℕ) → IsEmptied v.usage s → used_of v'.usage s ≡ 0
   pub no_failure : d'.failures ≡ d.failures
-  pub log : (k : CheckpointValue) (m0 m : LogMap) → d'.keeps_model → IsAcknowledged d v version number k m0 m → (next : CheckpointValue) × (next.number ≡ number + 1) × IsLog d' v' next (dropped m) m
+  pub log : (k : CheckpointValue) (m0 m : LogMap) → d'.keeps_model → IsAcknowledged d v version number k m0 m
+      → (next : CheckpointValue) × (next.number ≡ number + 1) × IsLog d' v' next (dropped m) m
   pub moment : LeavesEither d d' v version number
   pub told : length d'.told ≤ length d.told + orders_for (length v.dirty.blocks)
 
@@ -55,6 +57,7 @@ pub record CommitsAll (d d' : DeviceState) (v v' : LogMemory) (version number : 
 pub record CommitFails (d d' : DeviceState) (v : LogMemory) (version number : ℕ) : Type 0 where
   pub carries : Carries d d'
   pub cause : (k : CheckpointValue) (m0 m : LogMap) → d'.keeps_model → IsLog d v k m0 m → d.failures < d'.failures
-  pub left : (k : CheckpointValue) (m0 m : LogMap) → d'.keeps_model → IsAcknowledged d v version number k m0 m → AllLeft d' (StandsForOn k.segments m0 (dropped m))
+  pub left : (k : CheckpointValue) (m0 m : LogMap) → d'.keeps_model → IsAcknowledged d v version number k m0 m
+      → AllLeft d' (StandsForOn k.segments m0 (dropped m))
   pub moment : LeavesEither d d' v version number
   pub told : length d'.told ≤ length d.told + orders_for (length v.dirty.blocks)

@@ -57,41 +57,41 @@ holds_changed old new x bytes go z has = ⊎_elim
     (same_entry z x)
 
 -- ---- as a data block changes, all but that block
-stored_memory : (v v' : LogMemory) (n i a : ℕ) (bytes : List ℕ) → Stores v v' n (Data n i) a bytes → (z : Entry) → IsInMemory v z → IsInMemory v' z
+stored_memory : (v v' : LogMemory) (n i a : ℕ) (bytes : List ℕ) → Stores v v' n (Data n i) a bytes → (z : Entry) → IsInMemory v z
+    → IsInMemory v' z
 stored_memory v v' n i a bytes go z has = ⊎_elim
     (λ (one : a ≡ 1). holds_changed (blocks_of v.dirty) (blocks_of v'.dirty) (Data n i) bytes (go.changes one) z has)
     (λ (ne : a ≡ 1 → ⊥). holds_fetched (blocks_of v.dirty) (blocks_of v'.dirty) (Data n i) bytes (go.comes ne) z has)
     (cases_eq a 1)
 
-dropped_memory : (v v' : LogMemory) (n i a : ℕ) → Drops v v' n (Data n i) a → (z : Entry) → (z ≡ Data n i → ⊥) → IsInMemory v z → IsInMemory v' z
+dropped_memory : (v v' : LogMemory) (n i a : ℕ) → Drops v v' n (Data n i) a → (z : Entry) → (z ≡ Data n i → ⊥) → IsInMemory v z
+    → IsInMemory v' z
 dropped_memory v v' n i a go z ne has = ⊎_elim
     (λ (none : a ≡ 0). subst (λ (t : TableValue). Holds (blocks_of t) z) (sym (go.none none)) has)
     (λ (some : a ≡ 0 → ⊥). holds_moved (blocks_of v.dirty) (blocks_of v'.dirty) (Data n i) 0 (go.leaves (omega (arith, some))) z ne has)
     (cases_eq a 0)
 
-pub changed_memory : (v v' : LogMemory) (n i : ℕ) (bytes : List ℕ) → length bytes ≡ 512 → ChangesBlock v v' n i bytes → (z : Entry) → (z ≡ Data n i → ⊥) → IsInMemory v z → IsInMemory v' z
+pub changed_memory : (v v' : LogMemory) (n i : ℕ) (bytes : List ℕ) → length bytes ≡ 512 → ChangesBlock v v' n i bytes → (z : Entry)
+    → (z ≡ Data n i → ⊥) → IsInMemory v z → IsInMemory v' z
 changed_memory v v' n i bytes long go z ne has = ⊎_elim
     (λ (none : bytes ≡ zeros 512). dropped_memory v v' n i go.address (go.puts.drops none) z ne has)
     (λ (some : bytes ≡ zeros 512 → ⊥). stored_memory v v' n i go.address bytes (go.puts.stores some) z has)
     (blank_or bytes long)
 
 -- so the block above any other
-pub above_changed : (v v' : LogMemory) (n i : ℕ) (bytes : List ℕ) → length bytes ≡ 512 → ChangesBlock v v' n i bytes → (y : Entry) → HasAbove (blocks_of v.dirty) y → HasAbove (blocks_of v'.dirty) y
+pub above_changed : (v v' : LogMemory) (n i : ℕ) (bytes : List ℕ) → length bytes ≡ 512 → ChangesBlock v v' n i bytes → (y : Entry)
+    → HasAbove (blocks_of v.dirty) y → HasAbove (blocks_of v'.dirty) y
 above_changed v v' n i bytes long go y has = changed_memory v v' n i bytes long go (parent y) (no_data_parent n i y) has
 
 -- ---- as a block of pointers grows, which is above its own blocks then
 pub grown_memory : (v v' : LogMemory) (x : Entry) → Grows v v' x → (z : Entry) → IsInMemory v z → IsInMemory v' z
 grown_memory v v' x go z has = holds_fetched (blocks_of v.dirty) (blocks_of v'.dirty) x (zeros 512) go.comes z has
 
-pub below_grown : (v v' : LogMemory) (x : Entry) → Grows v v' x → (y : Entry) → parent y ≡ x → HasAbove (blocks_of v'.dirty) y
-below_grown v v' x go y up = (zeros 512, ap (blocks_of v'.dirty) up ∙ go.comes.own)
-
 -- ---- as a header changes, or a file is made
-pub headed_memory : (v v' : LogMemory) (n : ℕ) (kind : Kind) (form links size : ℕ) → ChangesHeader v v' n kind form links size → (z : Entry) → IsInMemory v z → IsInMemory v' z
+pub headed_memory : (v v' : LogMemory) (n : ℕ) (kind : Kind) (form links size : ℕ) → ChangesHeader v v' n kind form links size → (z : Entry)
+    → IsInMemory v z → IsInMemory v' z
 headed_memory v v' n kind form links size go z has = holds_changed (blocks_of v.dirty) (blocks_of v'.dirty) (Inode n) _ go.changes z has
 
-pub created_memory : (v v' : LogMemory) (n : ℕ) (kind : Kind) (form links size : ℕ) → Creates v v' n kind form links size → (z : Entry) → IsInMemory v z → IsInMemory v' z
+pub created_memory : (v v' : LogMemory) (n : ℕ) (kind : Kind) (form links size : ℕ) → Creates v v' n kind form links size → (z : Entry)
+    → IsInMemory v z → IsInMemory v' z
 created_memory v v' n kind form links size go z has = holds_changed (blocks_of v.dirty) (blocks_of v'.dirty) (Inode n) _ go.changes z has
-
-pub below_created : (v v' : LogMemory) (n : ℕ) (kind : Kind) (form links size : ℕ) → Creates v v' n kind form links size → (y : Entry) → parent y ≡ Inode n → HasAbove (blocks_of v'.dirty) y
-below_created v v' n kind form links size go y up = (_, ap (blocks_of v'.dirty) up ∙ go.changes.own)

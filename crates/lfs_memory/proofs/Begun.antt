@@ -1,5 +1,6 @@
 -- A block that gets the next place: the chunk that it goes to, as the log runs.
-use Rattle.std.proofs.Common.{◌≡◌, ◌<◌, ⊎_elim, ◌⊎◌, inl, inr, ◌/◌, ℕ, zero, suc, Bool, true, not, List, [], ◌∷◌, ◌++◌, length, Some, refl, sym, ◌∙◌, ap, subst, arith}
+use Rattle.std.proofs.Common.{◌≡◌, ◌<◌, ⊎_elim, ◌⊎◌, inl, inr, ◌/◌, ℕ, zero, suc, Bool, true, not, List, [], ◌∷◌, ◌++◌, length, Some, refl}
+use Rattle.std.proofs.Common.{sym, ◌∙◌, ap, subst, arith}
 use Rattle.std.specs.Prelude.{map}
 use Rattle.std.proofs.lemmas.List.{length-append, map-append}
 use Rattle.lfs_model.specs.Checkpoint.{CheckpointValue, IsSegmentCount}
@@ -34,7 +35,8 @@ no_entries [] none = refl
 no_entries (x ∷ xs) none = absurd (omega (arith, none))
 
 -- a segment taken from the clean ones, as the tables see it
-pub taken_tables : (map : MapValue) (old new : UsageTable) (s age : ℕ) → TakesSegment old new s age → IsTakenFrom (tables_by map old) (tables_by map new) s
+pub taken_tables : (map : MapValue) (old new : UsageTable) (s age : ℕ) → TakesSegment old new s age
+    → IsTakenFrom (tables_by map old) (tables_by map new) s
 taken_tables map old new s age t = record {
   clean = t.clean;
   at = at;
@@ -55,7 +57,8 @@ taken_tables map old new s age t = record {
     at (Usage j) = (t.blocks j).1
 
 -- a chunk that begins behind another, as the tables see it
-pub gone_tables : (map : MapValue) (old new : UsageTable) (s age : ℕ) → GoesOn old new s age → GoesOnIn (tables_by map old) (tables_by map new) s
+pub gone_tables : (map : MapValue) (old new : UsageTable) (s age : ℕ) → GoesOn old new s age
+    → GoesOnIn (tables_by map old) (tables_by map new) s
 gone_tables map old new s age g = record {
   some = g.begun;
   room = let r = g.room in omega (arith, r);
@@ -76,7 +79,8 @@ gone_tables map old new s age g = record {
     at (Map j) = refl
     at (Usage j) = g.blocks.address j
 
-module _ (v v' : LogMemory) (name : BlockNameValue) (lives : Bool) (age place : ℕ) (memory : IsMemory v) (p : Places v v' name lives age place) where
+module _ (v v' : LogMemory) (name : BlockNameValue) (lives : Bool) (age place : ℕ) (memory : IsMemory v)
+    (p : Places v v' name lives age place) where
   abbrev pub before : Tables
   before = tables_by v.map p.middle
 
@@ -104,14 +108,18 @@ module _ (v v' : LogMemory) (name : BlockNameValue) (lives : Bool) (age place : 
 
   pub addresses_same : (j : ℕ) → (tables_by v.map v'.usage).at (Usage j) ≡ (tables_by v.map v.usage).at (Usage j)
   addresses_same j = ⊎_elim
-      (λ (none : length v.chunk.names ≡ 0). p.noted.blocks.address j ∙ begins_address v.usage p.middle v'.chunk.segment age (p.begun none) j)
-      (λ (some : 0 < length v.chunk.names). p.noted.blocks.address j ∙ ap (λ (u : UsageTable). (tables_by v.map u).at (Usage j)) (p.went_on some).0)
+      (λ (none : length v.chunk.names ≡ 0). p.noted.blocks.address j
+      ∙ begins_address v.usage p.middle v'.chunk.segment age (p.begun none) j)
+      (λ (some : 0 < length v.chunk.names). p.noted.blocks.address j
+      ∙ ap (λ (u : UsageTable). (tables_by v.map u).at (Usage j)) (p.went_on some).0)
       (zero_or_more (length v.chunk.names))
 
   stale_still : (j : ℕ) → stale_of v.usage j ≡ true → stale_of v'.usage j ≡ true
   stale_still j on = ⊎_elim
-      (λ (none : length v.chunk.names ≡ 0). stays_stale p.middle v'.usage (v'.chunk.segment / 64) j p.noted.blocks (begins_stale v.usage p.middle v'.chunk.segment age (p.begun none) j on))
-      (λ (some : 0 < length v.chunk.names). stays_stale p.middle v'.usage (v'.chunk.segment / 64) j p.noted.blocks (ap (λ (u : UsageTable). stale_of u j) (p.went_on some).0 ∙ on))
+      (λ (none : length v.chunk.names ≡ 0). stays_stale p.middle v'.usage (v'.chunk.segment / 64) j p.noted.blocks
+      (begins_stale v.usage p.middle v'.chunk.segment age (p.begun none) j on))
+      (λ (some : 0 < length v.chunk.names). stays_stale p.middle v'.usage (v'.chunk.segment / 64) j p.noted.blocks
+      (ap (λ (u : UsageTable). stale_of u j) (p.went_on some).0 ∙ on))
       (zero_or_more (length v.chunk.names))
 
   pub long_names : length v'.chunk.names ≡ suc (length v.chunk.names)
@@ -126,7 +134,8 @@ module _ (v v' : LogMemory) (name : BlockNameValue) (lives : Bool) (age place : 
   pub segment_after : segment_in v'.chunk ≡ v'.chunk.segment
   segment_after = let long = long_names in open_segment v'.chunk (omega (arith, long))
 
-  pub memory_after : (map : MapValue) (dirty : TableValue) → dirty.capacity ≡ v.dirty.capacity → IsMemoryUpTo 63 (record { map = map; usage = v'.usage; dirty = dirty; chunk = v'.chunk })
+  pub memory_after : (map : MapValue) (dirty : TableValue) → dirty.capacity ≡ v.dirty.capacity
+      → IsMemoryUpTo 63 (record { map = map; usage = v'.usage; dirty = dirty; chunk = v'.chunk })
   memory_after map dirty same = record {
     count = subst (λ (n : ℕ). IsSegmentCount n) (sym segments_same) memory.count;
     opened = λ some. p.opened;
@@ -160,28 +169,35 @@ module _ (v v' : LogMemory) (name : BlockNameValue) (lives : Bool) (age place : 
       where
         first : length v.chunk.names ≡ 0 → Running d (blocks_of v.dirty) before k m0 m v'.chunk.segment (Some (entries_of v.chunk))
         first none =
-            as_chunk d (blocks_of v.dirty) before k m0 m v'.chunk.segment v'.chunk.segment (Some []) (Some (entries_of v.chunk)) refl (ap Some (sym (no_entries v.chunk.names none)))
+            as_chunk d (blocks_of v.dirty) before k m0 m v'.chunk.segment v'.chunk.segment (Some []) (Some (entries_of v.chunk)) refl
+            (ap Some (sym (no_entries v.chunk.names none)))
             (⊎_elim
             (λ (t : TakesSegment v.usage p.middle v'.chunk.segment age).
-            beginning d (blocks_of v.dirty) (tables_of v) before k m0 m 1024 v'.chunk.segment (is_closed d v k m0 m is none) (let i = t.inside in let e = is.segments in omega (arith, i, e))
+            beginning d (blocks_of v.dirty) (tables_of v) before k m0 m 1024 v'.chunk.segment (is_closed d v k m0 m is none)
+            (let i = t.inside in let e = is.segments in omega (arith, i, e))
             (taken_tables v.map v.usage p.middle v'.chunk.segment age t))
             (λ (g : GoesOn v.usage p.middle v'.chunk.segment age).
-            going_on d (blocks_of v.dirty) (tables_of v) before k m0 m 1024 v'.chunk.segment (is_closed d v k m0 m is none) (let i = g.inside in let e = is.segments in omega (arith, i, e))
+            going_on d (blocks_of v.dirty) (tables_of v) before k m0 m 1024 v'.chunk.segment (is_closed d v k m0 m is none)
+            (let i = g.inside in let e = is.segments in omega (arith, i, e))
             (gone_tables v.map v.usage p.middle v'.chunk.segment age g))
             (p.begun none))
 
         more : 0 < length v.chunk.names → Running d (blocks_of v.dirty) before k m0 m v'.chunk.segment (Some (entries_of v.chunk))
         more some =
             let w = p.went_on some in
-            subst (λ (u : UsageTable). Running d (blocks_of v.dirty) (tables_by v.map u) k m0 m v'.chunk.segment (Some (entries_of v.chunk))) (sym w.0)
-            (as_chunk d (blocks_of v.dirty) (tables_of v) k m0 m v.chunk.segment v'.chunk.segment (Some (entries_of v.chunk)) (Some (entries_of v.chunk)) (sym w.1) refl (is_open d v k m0 m is some))
+            subst (λ (u : UsageTable).
+            Running d (blocks_of v.dirty) (tables_by v.map u) k m0 m v'.chunk.segment (Some (entries_of v.chunk))) (sym w.0)
+            (as_chunk d (blocks_of v.dirty) (tables_of v) k m0 m v.chunk.segment v'.chunk.segment (Some (entries_of v.chunk))
+            (Some (entries_of v.chunk)) (sym w.1) refl (is_open d v k m0 m is some))
 
     -- the place may be written
     pub free_place : IsFreeSector d.content k place
     free_place =
-        let inside : v'.chunk.segment < k.segments = let i = p.opened.inside in let s = segments_same in let e = is.segments in omega (arith, i, s, e) in
+        let inside : v'.chunk.segment < k.segments = let i = p.opened.inside in let s = segments_same in let e = is.segments in
+        omega (arith, i, s, e) in
         subst (λ (n : ℕ). IsFreeSector d.content k n) (sym p.address)
-        (taken_free d (blocks_of v.dirty) before k m0 m v'.chunk.segment (Some (entries_of v.chunk)) begun v'.chunk.segment (before.used v'.chunk.segment) inside (let u = unkept in omega (arith, u)) room_left)
+        (taken_free d (blocks_of v.dirty) before k m0 m v'.chunk.segment (Some (entries_of v.chunk)) begun v'.chunk.segment
+        (before.used v'.chunk.segment) inside (let u = unkept in omega (arith, u)) room_left)
 
     pub noted : (x : Entry) (map' : MapValue) → lives ≡ is_shown m x → IsAddressed before (tables_by map' v'.usage) x place
         → IsNoted m before (tables_by map' v'.usage) x (place_of before v'.chunk.segment) v'.chunk.segment

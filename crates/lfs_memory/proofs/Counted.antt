@@ -1,6 +1,9 @@
 -- Counting the blocks of a file one by one.
-use Rattle.std.proofs.Common.{◌≡◌, ◌<◌, ◌≤◌, ◌⊎◌, ⊎_elim, ◌+◌, ◌*◌, ◌-◌, ◌/◌, ◌%◌, ◌==◌, ◌&&◌, nat_le, nat_lt, cond, ℕ, zero, suc, Bool, true, false, List, [], length, get_or, Some, None, refl, sym, ◌∙◌, ap, ap₂, subst, arith, inl, inr, eq-eqb, eqb-true}
-use Rattle.std.proofs.lemmas.Bool.{cases_eq, cases_lt, cases_Bool, cond-true, cond-false, lt-ltb, le-ltb, and_parts, and_from, false_from_ne_true, leb-true, le-leb}
+use Rattle.std.proofs.Common.{◌≡◌, ◌<◌, ◌≤◌, ◌⊎◌, ⊎_elim, ◌+◌, ◌*◌, ◌-◌, ◌/◌, ◌%◌, ◌==◌, ◌&&◌, nat_le, nat_lt, cond, ℕ, zero, suc, Bool}
+use Rattle.std.proofs.Common.{true, false, List, [], length, get_or, Some, None, refl, sym, ◌∙◌, ap, ap₂, subst, arith, inl, inr, eq-eqb}
+use Rattle.std.proofs.Common.{eqb-true}
+use Rattle.std.proofs.lemmas.Bool.{cases_eq, cases_lt, cases_Bool, cond-true, cond-false, lt-ltb, le-ltb, and_parts, and_from}
+use Rattle.std.proofs.lemmas.Bool.{false_from_ne_true, leb-true, le-leb}
 use Rattle.lfs_model.specs.Content.{Content, block, bytes_of}
 use Rattle.lfs_model.specs.Counting.{segment_of}
 use Rattle.lfs_model.specs.Cutting.{is_past}
@@ -17,7 +20,8 @@ use Rattle.lfs_model.proofs.Tables.{block_at}
 use Rattle.lfs_inodes.specs.Present.{present}
 use Rattle.lfs_inodes.proofs.PresentPointers.{present_is}
 use Rattle.lfs_memory.specs.Present.{IsMissing}
-use Rattle.lfs_memory.specs.Counting.{place, below_leaf, at_place, IsBefore, is_before, IsCountedTo, CountsOne, CountsWhere, IsOver, IsHeldBy, ArePointers, CountsWords, AreNoWords}
+use Rattle.lfs_memory.specs.Counting.{place, below_leaf, at_place, IsBefore, is_before, IsCountedTo, CountsOne, CountsWhere, IsOver}
+use Rattle.lfs_memory.specs.Counting.{IsHeldBy, ArePointers, CountsWords, AreNoWords}
 
 -- ---- places and blocks are one to one
 place_low : (n i : ℕ) → i < 112 → place (Data n i) ≡ 1 + i
@@ -44,7 +48,8 @@ module _ (n : ℕ) where
 
   at_rest : (p : ℕ) → 114 ≤ p → at_place n p ≡ below_leaf n ((p - 114) / 129) ((p - 114) % 129)
   at_rest p high =
-      cond-false (p == 0) _ _ (not_eqb p 0 (λ h. omega (arith, h, high))) ∙ cond-false (nat_lt p 113) _ _ (le-ltb p 113 (omega (arith, high)))
+      cond-false (p == 0) _ _ (not_eqb p 0 (λ h. omega (arith, h, high)))
+      ∙ cond-false (nat_lt p 113) _ _ (le-ltb p 113 (omega (arith, high)))
       ∙ cond-false (p == 113) _ _ (not_eqb p 113 (λ h. omega (arith, h, high)))
 
   below_first : (q r : ℕ) → r ≡ 0 → below_leaf n q r ≡ Leaf n q
@@ -64,7 +69,8 @@ module _ (n : ℕ) where
       let a : (115 + 129 * q + i - 114) / 129 ≡ q = omega (arith, low) in
       let b : (115 + 129 * q + i - 114) % 129 ≡ 1 + i = omega (arith, low) in
       let c : 1 + i - 1 ≡ i = omega arith in
-      at_rest (115 + 129 * q + i) (omega arith) ∙ ap₂ (below_leaf n) a b ∙ below_more q (1 + i) (λ h. omega (arith, h)) ∙ ap (λ (j : ℕ). Data n (112 + 128 * q + j)) c
+      at_rest (115 + 129 * q + i) (omega arith) ∙ ap₂ (below_leaf n) a b ∙ below_more q (1 + i) (λ h. omega (arith, h))
+      ∙ ap (λ (j : ℕ). Data n (112 + 128 * q + j)) c
 
   -- the block at the place of a block is that block
   at_own : (x : Entry) → file_of x ≡ Some n → at_place n (place x) ≡ x
@@ -85,11 +91,9 @@ module _ (n : ℕ) where
   at_own (Map j) is = absurd (cc)
   at_own (Usage j) is = absurd (cc)
 
-  file_below : (q r : ℕ) → file_of (below_leaf n q r) ≡ Some n
-  file_below q r = ⊎_elim (λ (none : r ≡ 0). ap file_of (below_first q r none)) (λ (some : r ≡ 0 → ⊥). ap file_of (below_more q r some)) (cases_eq r 0)
-
   -- what holds of each place
-  by_place : (P : ℕ → Type 0) → P 0 → ((i : ℕ) → i < 112 → P (1 + i)) → P 113 → ((q : ℕ) → P (114 + 129 * q)) → ((q i : ℕ) → i < 128 → P (115 + 129 * q + i)) → (p : ℕ) → P p
+  by_place : (P : ℕ → Type 0) → P 0 → ((i : ℕ) → i < 112 → P (1 + i)) → P 113 → ((q : ℕ) → P (114 + 129 * q))
+      → ((q i : ℕ) → i < 128 → P (115 + 129 * q + i)) → (p : ℕ) → P p
   by_place P first low double leaf below p = ⊎_elim
       (λ (small : p < 113). ⊎_elim
       (λ (none : p ≡ 0). subst P (sym none) first)
@@ -98,7 +102,8 @@ module _ (n : ℕ) where
       (λ (big : 113 ≤ p). ⊎_elim
       (λ (is : p ≡ 113). subst P (sym is) double)
       (λ (not : p ≡ 113 → ⊥). ⊎_elim
-      (λ (none : (p - 114) % 129 ≡ 0). let e : 114 + 129 * ((p - 114) / 129) ≡ p = omega (arith, big, not, none) in subst P e (leaf ((p - 114) / 129)))
+      (λ (none : (p - 114) % 129 ≡ 0). let e : 114 + 129 * ((p - 114) / 129) ≡ p = omega (arith, big, not, none) in
+      subst P e (leaf ((p - 114) / 129)))
       (λ (some : (p - 114) % 129 ≡ 0 → ⊥).
       let e : 115 + 129 * ((p - 114) / 129) + ((p - 114) % 129 - 1) ≡ p = omega (arith, big, not, some) in
       subst P e (below ((p - 114) / 129) ((p - 114) % 129 - 1) (omega (arith, some))))
@@ -122,13 +127,16 @@ module _ (n : ℕ) where
 -- ---- one entry more
 -- what one_more_counted says of an entry that is counted too
 abbrev pub IsOneMore : Memory → Entry → (Entry → Bool) → (Entry → Bool) → Type 0
-IsOneMore M x is more = (2 ≤ M.at x → count_of more M (segment_of (M.at x)) ≡ suc (count_of is M (segment_of (M.at x)))) × ((s : ℕ) → (2 ≤ M.at x → s ≡ segment_of (M.at x) → ⊥) → count_of more M s ≡ count_of is M s)
+IsOneMore M x is more = (2 ≤ M.at x → count_of more M (segment_of (M.at x)) ≡ suc (count_of is M (segment_of (M.at x))))
+    × ((s : ℕ) → (2 ≤ M.at x → s ≡ segment_of (M.at x) → ⊥) → count_of more M s ≡ count_of is M s)
 
-module _ (M : Memory) (x : Entry) (old : List ℕ) (is more : Entry → Bool) (counted : (s : ℕ) → get_or old s 0 ≡ count_of is M s) (up : IsOneMore M x is more) where
+module _ (M : Memory) (x : Entry) (old : List ℕ) (is more : Entry → Bool) (counted : (s : ℕ) → get_or old s 0 ≡ count_of is M s)
+    (up : IsOneMore M x is more) where
   pub one_added : (new : List ℕ) → CountsOne old new (M.at x) → (s : ℕ) → get_or new s 0 ≡ count_of more M s
   one_added new one s = ⊎_elim
       (λ (here : (2 ≤ M.at x) × (s ≡ segment_of (M.at x))).
-      ap (λ (s : ℕ). get_or new s 0) here.1 ∙ one.own here.0 ∙ ap suc (counted (segment_of (M.at x))) ∙ sym (up.0 here.0) ∙ ap (count_of more M) (sym here.1))
+      ap (λ (s : ℕ). get_or new s 0) here.1 ∙ one.own here.0 ∙ ap suc (counted (segment_of (M.at x))) ∙ sym (up.0 here.0)
+      ∙ ap (count_of more M) (sym here.1))
       (λ (away : 2 ≤ M.at x → s ≡ segment_of (M.at x) → ⊥). one.others s away ∙ counted s ∙ sym (up.1 s away))
       (either (2 ≤ M.at x) (s ≡ segment_of (M.at x)) (⊎_elim
       (λ (low : M.at x < 2). inr (λ above. omega (arith, low, above)))
@@ -172,25 +180,31 @@ module _ (n first p : ℕ) where
       let off : place y ≡ p → ⊥ = λ h. ne (sym (ap (at_place n) (sym h) ∙ at_own n y ((past_cut n first).of_file y on))) in
       le-ltb (place y) (p + 1) (omega (arith, high, off)) ∙ sym (le-ltb (place y) p high))
       (cases_lt (place y) p)))
-      (λ (off : is_past n first y ≡ false). ap (λ (b : Bool). b && nat_lt (place y) (p + 1)) off ∙ sym (ap (λ (b : Bool). b && nat_lt (place y) p) off))
+      (λ (off : is_past n first y ≡ false). ap (λ (b : Bool). b && nat_lt (place y) (p + 1)) off
+      ∙ sym (ap (λ (b : Bool). b && nat_lt (place y) p) off))
       (cases_Bool (is_past n first y))
 
-module _ (e : Content) (dirty : Dirty) (M : Memory) (held : IsHeldBy e dirty M) (n first p : ℕ) (old : List ℕ) (counted : IsCountedTo M n first p old) where
+module _ (e : Content) (dirty : Dirty) (M : Memory) (held : IsHeldBy e dirty M) (n first p : ℕ) (old : List ℕ)
+    (counted : IsCountedTo M n first p old) where
   laid : IsLaid e held.map M held.opened_at
   laid = held.laid
 
   module _ (on : is_past n first (at_place n p) ≡ true) (address : ℕ) (at : address ≡ M.at (at_place n p)) where
     more : IsOneMore M (at_place n p) (is_before n first p) (is_before n first (p + 1))
-    more = one_more_counted e held.map M held.opened_at (at_place n p) laid (is_before n first p) (is_before n first (p + 1)) (before_own n first p) (before_now n first p on) (before_same n first p)
+    more = one_more_counted e held.map M held.opened_at (at_place n p) laid (is_before n first p) (is_before n first (p + 1))
+        (before_own n first p) (before_now n first p on) (before_same n first p)
 
     pub counts_next : (new : List ℕ) → CountsOne old new address → IsCountedTo M n first (p + 1) new
-    counts_next new one = one_added M (at_place n p) old (is_before n first p) (is_before n first (p + 1)) counted more new (subst (CountsOne old new) at one)
+    counts_next new one =
+        one_added M (at_place n p) old (is_before n first p) (is_before n first (p + 1)) counted more new (subst (CountsOne old new) at one)
 
     pub not_over : IsOver old address → ⊥
-    not_over over = one_fits M (at_place n p) old (is_before n first p) (is_before n first (p + 1)) counted more e held.map held.opened_at laid (subst (IsOver old) at over)
+    not_over over = one_fits M (at_place n p) old (is_before n first p) (is_before n first (p + 1)) counted more e held.map held.opened_at
+        laid (subst (IsOver old) at over)
 
   -- places whose blocks are none of those, or have no address
-  pub counts_skip : (q : ℕ) → p ≤ q → ((y : Entry) → is_past n first y ≡ true → p ≤ place y → place y < q → M.at y < 2) → IsCountedTo M n first q old
+  pub counts_skip : (q : ℕ) → p ≤ q → ((y : Entry) → is_past n first y ≡ true → p ≤ place y → place y < q → M.at y < 2)
+      → IsCountedTo M n first q old
   counts_skip q le none s = counted s ∙ counts_agree e held.map M held.opened_at laid (is_before n first p) (is_before n first q) agree s
     where
       agree : (y : Entry) → 2 ≤ M.at y → is_before n first p y ≡ is_before n first q y
@@ -198,16 +212,20 @@ module _ (e : Content) (dirty : Dirty) (M : Memory) (held : IsHeldBy e dirty M) 
           (λ (on : is_past n first y ≡ true). ap (λ (b : Bool). is_past n first y && b) (⊎_elim
           (λ (low : place y < p). lt-ltb (place y) p low ∙ sym (lt-ltb (place y) q (omega (arith, low, le))))
           (λ (high : p ≤ place y).
-          let far : q ≤ place y = ⊎_elim (λ (lt : place y < q). let none = none y on high lt in absurd (omega (arith, none, above))) (λ (h : q ≤ place y). h) (cases_lt (place y) q) in
+          let far : q ≤ place y = ⊎_elim (λ (lt : place y < q). let none = none y on high lt in absurd (omega (arith, none, above)))
+          (λ (h : q ≤ place y). h) (cases_lt (place y) q) in
           le-ltb (place y) p high ∙ sym (le-ltb (place y) q far))
           (cases_lt (place y) p)))
-          (λ (off : is_past n first y ≡ false). ap (λ (b : Bool). b && nat_lt (place y) p) off ∙ sym (ap (λ (b : Bool). b && nat_lt (place y) q) off))
+          (λ (off : is_past n first y ≡ false). ap (λ (b : Bool). b && nat_lt (place y) p) off
+          ∙ sym (ap (λ (b : Bool). b && nat_lt (place y) q) off))
           (cases_Bool (is_past n first y))
 
   -- a block at the next place, which is counted or not
-  pub counts_where : (b : Bool) → is_past n first (at_place n p) ≡ b → (address : ℕ) → address ≡ M.at (at_place n p) → (new : List ℕ) → CountsWhere old new address b → IsCountedTo M n first (p + 1) new
+  pub counts_where : (b : Bool) → is_past n first (at_place n p) ≡ b → (address : ℕ) → address ≡ M.at (at_place n p) → (new : List ℕ)
+      → CountsWhere old new address b → IsCountedTo M n first (p + 1) new
   counts_where true on address at new one = counts_next on address at new (one.yes_counted refl)
-  counts_where false off address at new one = subst (IsCountedTo M n first (p + 1)) (sym (one.not_counted refl)) (counts_skip (p + 1) (omega arith) (λ y on from to.
+  counts_where false off address at new one =
+      subst (IsCountedTo M n first (p + 1)) (sym (one.not_counted refl)) (counts_skip (p + 1) (omega arith) (λ y on from to.
       let here : place y ≡ p = omega (arith, from, to) in
       let is : at_place n p ≡ y = ap (at_place n) (sym here) ∙ at_own n y ((past_cut n first).of_file y on) in
       let bad : true ≡ false = sym on ∙ ap (is_past n first) (sym is) ∙ off in
@@ -215,24 +233,31 @@ module _ (e : Content) (dirty : Dirty) (M : Memory) (held : IsHeldBy e dirty M) 
 
 -- ---- words of a block
 pub words_none : (bytes : List ℕ) (start : ℕ) (old : List ℕ) → CountsWords bytes start 0 old old
-words_none bytes start old e dirty M n first p held pointers counted = let same : p ≡ p + 0 = omega arith in subst (λ (p : ℕ). IsCountedTo M n first p old) same counted
+words_none bytes start old e dirty M n first p held pointers counted = let same : p ≡ p + 0 = omega arith in
+    subst (λ (p : ℕ). IsCountedTo M n first p old) same counted
 
-fewer : (M : Memory) (n first p : ℕ) (bytes : List ℕ) (start i j : ℕ) → i ≤ j → ArePointers M n first p bytes start j → ArePointers M n first p bytes start i
+fewer : (M : Memory) (n first p : ℕ) (bytes : List ℕ) (start i j : ℕ) → i ≤ j → ArePointers M n first p bytes start j
+    → ArePointers M n first p bytes start i
 fewer M n first p bytes start i j le pointers l lt = pointers l (omega (arith, le, lt))
 
-pub words_more : (bytes : List ℕ) (start i address : ℕ) (old mid new : List ℕ) → address ≡ word bytes (start + i) → CountsWords bytes start i old mid → CountsOne mid new address → CountsWords bytes start (i + 1) old new
+pub words_more : (bytes : List ℕ) (start i address : ℕ) (old mid new : List ℕ) → address ≡ word bytes (start + i)
+    → CountsWords bytes start i old mid → CountsOne mid new address → CountsWords bytes start (i + 1) old new
 words_more bytes start i address old mid new is before one e dirty M n first p held pointers counted =
     let same : p + i + 1 ≡ p + (i + 1) = omega arith in
     let here = pointers i (omega arith) in
     subst (λ (p : ℕ). IsCountedTo M n first p new) same
-    (counts_next e dirty M held n first (p + i) mid (before e dirty M n first p held (fewer M n first p bytes start i (i + 1) (omega arith) pointers) counted) here.1 address (is ∙ here.0) new one)
+    (counts_next e dirty M held n first (p + i) mid (before e dirty M n first p held
+    (fewer M n first p bytes start i (i + 1) (omega arith) pointers) counted) here.1 address (is ∙ here.0) new one)
 
-pub words_over : (bytes : List ℕ) (start i count address : ℕ) (old mid : List ℕ) → i < count → address ≡ word bytes (start + i) → CountsWords bytes start i old mid → IsOver mid address → AreNoWords bytes start count old
+pub words_over : (bytes : List ℕ) (start i count address : ℕ) (old mid : List ℕ) → i < count → address ≡ word bytes (start + i)
+    → CountsWords bytes start i old mid → IsOver mid address → AreNoWords bytes start count old
 words_over bytes start i count address old mid lt is before over e dirty M n first p held pointers counted =
     let here = pointers i lt in
-    not_over e dirty M held n first (p + i) mid (before e dirty M n first p held (fewer M n first p bytes start i count (omega (arith, lt)) pointers) counted) here.1 address (is ∙ here.0) over
+    not_over e dirty M held n first (p + i) mid (before e dirty M n first p held
+    (fewer M n first p bytes start i count (omega (arith, lt)) pointers) counted) here.1 address (is ∙ here.0) over
 
-pub words_end : (bytes : List ℕ) (start i count : ℕ) (old mid : List ℕ) → i ≡ count → CountsWords bytes start i old mid → CountsWords bytes start count old mid
+pub words_end : (bytes : List ℕ) (start i count : ℕ) (old mid : List ℕ) → i ≡ count → CountsWords bytes start i old mid
+    → CountsWords bytes start count old mid
 words_end bytes start i count old mid is before = subst (λ (i : ℕ). CountsWords bytes start i old mid) is before
 
 -- ---- which blocks are counted
@@ -249,7 +274,8 @@ pub past_double_is : (n first : ℕ) → is_past n first (Double n) ≡ nat_le f
 past_double_is n first = same_file n (nat_le first 240)
 
 -- none in the part of a leaf that comes before block `first`, the leaf itself included
-pub before_leaf_part : (n first q start : ℕ) → 0 < start → 112 + 128 * q + start ≤ first → (y : Entry) → is_past n first y ≡ true → 114 + 129 * q ≤ place y → place y < 115 + 129 * q + start → start ≤ 128 → ⊥
+pub before_leaf_part : (n first q start : ℕ) → 0 < start → 112 + 128 * q + start ≤ first → (y : Entry) → is_past n first y ≡ true
+    → 114 + 129 * q ≤ place y → place y < 115 + 129 * q + start → start ≤ 128 → ⊥
 before_leaf_part n first q start some le (Data k i) on from to few =
     let on_at = leb-true first i (and_parts (k == n) (nat_le first i) on).1 in
     ⊎_elim
@@ -296,7 +322,8 @@ module _ (e : Content) (dirty : Dirty) (M : Memory) (held : IsHeldBy e dirty M) 
       (cases_eq a 1)
 
   pub is_held : (x : Entry) (a : ℕ) → IsOfFile x → M.at x ≡ a → (a ≡ 0 → ⊥) → present e dirty x a ≡ M.bytes x
-  is_held x a file at some = ap (present e dirty x) (sym at) ∙ present_is e held.map M held.opened_at dirty held.laid held.cached x file (omega (arith, at, some))
+  is_held x a file at some = ap (present e dirty x) (sym at)
+      ∙ present_is e held.map M held.opened_at dirty held.laid held.cached x file (omega (arith, at, some))
 
   -- nothing is below what isn't there
   pub nothing_below : (x : Entry) → M.at (parent x) ≡ 0 → M.at x ≡ 0
@@ -305,7 +332,8 @@ module _ (e : Content) (dirty : Dirty) (M : Memory) (held : IsHeldBy e dirty M) 
       (λ (some : 1 ≤ M.at x). let up = held.laid.down x some in absurd (omega (arith, up, none)))
       (cases_lt (M.at x) 1)
 
-  pub below_of_leaf : (n q : ℕ) → M.at (Leaf n q) ≡ 0 → (y : Entry) → file_of y ≡ Some n → 114 + 129 * q ≤ place y → place y < 114 + 129 * q + 129 → M.at y < 2
+  pub below_of_leaf : (n q : ℕ) → M.at (Leaf n q) ≡ 0 → (y : Entry) → file_of y ≡ Some n → 114 + 129 * q ≤ place y
+      → place y < 114 + 129 * q + 129 → M.at y < 2
   below_of_leaf n q none (Data k i) is from to =
       let s : k ≡ n = cc in
       ⊎_elim
@@ -337,7 +365,8 @@ module _ (e : Content) (dirty : Dirty) (M : Memory) (held : IsHeldBy e dirty M) 
       (λ (low : i < 112). let at = place_low k i low in absurd (omega (arith, at, from, low)))
       (λ (high : 112 ≤ i).
       let at = place_high k i high in
-      let zero_at = nothing_below (Data k i) (ap M.at (data_parent_high k i high) ∙ leaf_zero k ((i - 112) / 128) (ap (λ (k : ℕ). M.at (Double k)) s ∙ none) (omega (arith, at, from))) in
+      let zero_at = nothing_below (Data k i) (ap M.at (data_parent_high k i high)
+      ∙ leaf_zero k ((i - 112) / 128) (ap (λ (k : ℕ). M.at (Double k)) s ∙ none) (omega (arith, at, from))) in
       omega (arith, zero_at))
       (cases_lt i 112)
   below_of_double n none (Leaf k r) is from =
@@ -361,7 +390,8 @@ module _ (e : Content) (dirty : Dirty) (M : Memory) (held : IsHeldBy e dirty M) 
       (λ (low : i < 112). let at = place_low k i low in absurd (omega (arith, at, from, low)))
       (λ (high : 112 ≤ i).
       let at = place_high k i high in
-      let zero_at = nothing_below (Data k i) (ap M.at (data_parent_high k i high) ∙ no_far_leaf k ((i - 112) / 128) (omega (arith, at, from))) in
+      let zero_at =
+      nothing_below (Data k i) (ap M.at (data_parent_high k i high) ∙ no_far_leaf k ((i - 112) / 128) (omega (arith, at, from))) in
       omega (arith, zero_at))
       (cases_lt i 112)
   past_last n (Leaf k r) is from = let zero_at = no_far_leaf k r (omega (arith, from)) in omega (arith, zero_at)
@@ -390,21 +420,28 @@ module _ (e : Content) (dirty : Dirty) (M : Memory) (held : IsHeldBy e dirty M) 
   none_of_file n none (Usage j) is = absurd (cc)
 
   -- the words of a block of pointers, from that to block `first` on
-  pub leaf_words : (n q first start : ℕ) (bytes : List ℕ) → (M.at (Leaf n q) ≡ 0 → ⊥) → bytes ≡ M.bytes (Leaf n q) → IsBefore first (112 + 128 * q) 128 start → ArePointers M n first (115 + 129 * q + start) bytes start (128 - start)
+  pub leaf_words : (n q first start : ℕ) (bytes : List ℕ) → (M.at (Leaf n q) ≡ 0 → ⊥) → bytes ≡ M.bytes (Leaf n q)
+      → IsBefore first (112 + 128 * q) 128 start → ArePointers M n first (115 + 129 * q + start) bytes start (128 - start)
   leaf_words n q first start bytes some is before i low =
       let few = before.few in
       let here : at_place n (115 + 129 * q + start + i) ≡ Data n (112 + 128 * q + (start + i)) =
-      let same : 115 + 129 * q + start + i ≡ 115 + 129 * q + (start + i) = omega arith in ap (at_place n) same ∙ at_data n q (start + i) (omega (arith, few, low)) in (
-        ap (λ (b : List ℕ). word b (start + i)) is ∙ held.laid.spells (Leaf n q) (omega (arith, some)) (start + i) (omega (arith, few, low)) ∙ sym (ap M.at here),
-        ap (is_past n first) here ∙ past_data n first (112 + 128 * q + (start + i)) (let from = before.reach (omega (arith, few, low)) in omega (arith, from)),
+      let same : 115 + 129 * q + start + i ≡ 115 + 129 * q + (start + i) = omega arith in
+      ap (at_place n) same ∙ at_data n q (start + i) (omega (arith, few, low)) in (
+        ap (λ (b : List ℕ). word b (start + i)) is ∙ held.laid.spells (Leaf n q) (omega (arith, some)) (start + i) (omega (arith, few, low))
+            ∙ sym (ap M.at here),
+        ap (is_past n first) here
+            ∙ past_data n first (112 + 128 * q + (start + i)) (let from = before.reach (omega (arith, few, low)) in omega (arith, from)),
       )
 
-  pub inode_words : (n first start : ℕ) (bytes : List ℕ) → 0 < M.at (Inode n) → bytes ≡ M.bytes (Inode n) → IsBefore first 0 112 start → ArePointers M n first (1 + start) bytes (8 + start) (112 - start)
+  pub inode_words : (n first start : ℕ) (bytes : List ℕ) → 0 < M.at (Inode n) → bytes ≡ M.bytes (Inode n) → IsBefore first 0 112 start
+      → ArePointers M n first (1 + start) bytes (8 + start) (112 - start)
   inode_words n first start bytes some is before i low =
       let few = before.few in
       let one : 1 + start + i - 1 ≡ start + i = omega arith in
       let word_is : 8 + start + i ≡ 8 + (start + i) = omega arith in
-      let here : at_place n (1 + start + i) ≡ Data n (start + i) = at_low n (1 + start + i) (omega arith) (omega (arith, few, low)) ∙ ap (Data n) one in (
+      let here : at_place n (1 + start + i) ≡ Data n (start + i) = at_low n (1 + start + i) (omega arith) (omega (arith, few, low))
+      ∙ ap (Data n) one in (
         ap₂ word is word_is ∙ (held.laid.spells (Inode n) some).direct (start + i) (omega (arith, few, low)) ∙ sym (ap M.at here),
-        ap (is_past n first) here ∙ past_data n first (start + i) (let from = before.reach (omega (arith, few, low)) in omega (arith, from)),
+        ap (is_past n first) here
+            ∙ past_data n first (start + i) (let from = before.reach (omega (arith, few, low)) in omega (arith, from)),
       )

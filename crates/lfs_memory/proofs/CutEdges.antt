@@ -1,5 +1,6 @@
 -- What points to the blocks that go comes into memory.
-use Rattle.std.proofs.Common.{◌≡◌, ◌<◌, ◌≤◌, ⊎_elim, ◌+◌, ◌*◌, ◌-◌, ◌/◌, ◌%◌, ℕ, zero, suc, Bool, true, false, refl, sym, ◌∙◌, ap, subst, arith, inl, inr}
+use Rattle.std.proofs.Common.{◌≡◌, ◌<◌, ◌≤◌, ⊎_elim, ◌+◌, ◌*◌, ◌-◌, ◌/◌, ◌%◌, ℕ, zero, suc, Bool, true, false, refl, sym, ◌∙◌, ap, subst}
+use Rattle.std.proofs.Common.{arith, inl, inr}
 use Rattle.std.specs.Prelude.{Err, IsErrOf, IsTrue, IsFalse}
 use Rattle.lfs_model.specs.Checkpoint.{CheckpointValue}
 use Rattle.lfs_model.specs.Device.{DeviceState}
@@ -23,25 +24,31 @@ other_result e x is = let same : e ≡ x = cc in ap Err same
 pub cut_leaf_at : (first : ℕ) → 112 < first → ((first - 112) % 128 ≡ 0 → ⊥) → IsCutLeaf first ((first - 112) / 128)
 cut_leaf_at first high some = record { from = omega (arith, high, some); to = omega (arith, high) }
 
-pub above_cut_leaf : (v : LogMemory) (n first : ℕ) (x : Entry) → x ≡ Leaf n ((first - 112) / 128) → 112 < first → ((first - 112) % 128 ≡ 0 → ⊥)
+pub above_cut_leaf : (v : LogMemory) (n first : ℕ) (x : Entry) → x ≡ Leaf n ((first - 112) / 128) → 112 < first
+    → ((first - 112) % 128 ≡ 0 → ⊥)
     → ((q : ℕ) → IsCutLeaf first q → IsInMemory v (parent (Leaf n q))) → IsInMemory v (parent x)
-above_cut_leaf v n first x named high some above = subst (λ (y : Entry). IsInMemory v (parent y)) (sym named) (above ((first - 112) / 128) (cut_leaf_at first high some))
+above_cut_leaf v n first x named high some above =
+    subst (λ (y : Entry). IsInMemory v (parent y)) (sym named) (above ((first - 112) / 128) (cut_leaf_at first high some))
 
 -- so it is ready as it is brought into memory, or isn't stored
-pub cut_leaf_ready : (v : LogMemory) (n first : ℕ) (x : Entry) → x ≡ Leaf n ((first - 112) / 128) → (found : Bool) → (IsTrue found → IsInMemory v x)
+pub cut_leaf_ready : (v : LogMemory) (n first : ℕ) (x : Entry) → x ≡ Leaf n ((first - 112) / 128) → (found : Bool)
+    → (IsTrue found → IsInMemory v x)
     → (IsFalse found → IsAtAddress (blocks_of v.dirty) (tables_of v) x 0) → (q : ℕ) → IsCutLeaf first q → IsLiftedIfStored v (Leaf n q)
 cut_leaf_ready v n first x named found inside none q cut =
     let same : (first - 112) / 128 ≡ q = let from = cut.from in let to = cut.to in omega (arith, from, to) in
     subst (λ (y : Entry). IsLiftedIfStored v y) (named ∙ ap (Leaf n) same) (either found inside none)
   where
-    either : (found : Bool) → (IsTrue found → IsInMemory v x) → (IsFalse found → IsAtAddress (blocks_of v.dirty) (tables_of v) x 0) → IsLiftedIfStored v x
+    either : (found : Bool) → (IsTrue found → IsInMemory v x) → (IsFalse found → IsAtAddress (blocks_of v.dirty) (tables_of v) x 0)
+        → IsLiftedIfStored v x
     either true inside none = inl (inside refl)
     either false inside none = inr (none refl)
 
-pub low_edge : (v : LogMemory) (n first : ℕ) → first ≤ 240 → ((q : ℕ) → IsCutLeaf first q → IsLiftedIfStored v (Leaf n q)) → HasEdge v n first
+pub low_edge : (v : LogMemory) (n first : ℕ) → first ≤ 240 → ((q : ℕ) → IsCutLeaf first q → IsLiftedIfStored v (Leaf n q))
+    → HasEdge v n first
 low_edge v n first low leaf = record { double = λ more. absurd (omega (arith, low, more)); leaf = λ q cut. inl (leaf q cut) }
 
-pub high_edge : (v : LogMemory) (n first : ℕ) → IsInMemory v (Double n) → ((q : ℕ) → IsCutLeaf first q → IsLiftedIfStored v (Leaf n q)) → HasEdge v n first
+pub high_edge : (v : LogMemory) (n first : ℕ) → IsInMemory v (Double n) → ((q : ℕ) → IsCutLeaf first q → IsLiftedIfStored v (Leaf n q))
+    → HasEdge v n first
 high_edge v n first root leaf = record { double = λ more. inl root; leaf = λ q cut. inl (leaf q cut) }
 
 -- ---- so it is in memory, or not stored
@@ -69,7 +76,8 @@ module _ (d : DeviceState) (v : LogMemory) (k : CheckpointValue) (m0 m : LogMap)
     pub root_at : 240 < first → 0 < is.running.memory.at (Double n) → is.running.memory.at (Double n) ≡ 1
     root_at more = ready_at (Double n) (edge.double more)
 
-    pub leaf_at : (q : ℕ) → 112 + 128 * q < first → first < 240 + 128 * q → 0 < is.running.memory.at (Leaf n q) → is.running.memory.at (Leaf n q) ≡ 1
+    pub leaf_at : (q : ℕ) → 112 + 128 * q < first → first < 240 + 128 * q → 0 < is.running.memory.at (Leaf n q)
+        → is.running.memory.at (Leaf n q) ≡ 1
     leaf_at q from to some = ⊎_elim
         (λ (ready : IsLiftedIfStored v (Leaf n q)). ready_at (Leaf n q) ready some)
         (λ (away : (1 ≤ q) × IsAtAddress (blocks_of v.dirty) (tables_of v) (Double n) 0).

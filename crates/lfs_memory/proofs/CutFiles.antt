@@ -1,5 +1,6 @@
 -- A file is cut: what the tables and the blocks in memory hold then is the log map without what went.
-use Rattle.std.proofs.Common.{◌≡◌, ◌<◌, ◌⊎◌, ⊎_elim, ◌==◌, ◌&&◌, nat_le, cond, not, ℕ, Bool, true, false, List, [], length, get_or, Some, refl, sym, ◌∙◌, ap, subst, arith, eqb-true}
+use Rattle.std.proofs.Common.{◌≡◌, ◌<◌, ◌⊎◌, ⊎_elim, ◌==◌, ◌&&◌, nat_le, cond, not, ℕ, Bool, true, false, List, [], length, get_or, Some}
+use Rattle.std.proofs.Common.{refl, sym, ◌∙◌, ap, subst, arith, eqb-true}
 use Rattle.std.proofs.Math.Path.{fun_ext}
 use Rattle.std.proofs.lemmas.Bool.{cases_Bool, cond-true, cond-false, and_parts, false_from_ne_true}
 use Rattle.lfs_model.specs.Checkpoint.{CheckpointValue}
@@ -36,13 +37,15 @@ is_cut m n first = record {
   header = refl;
   headers = λ k ne. refl;
   block = λ i. refl;
-  blocks = λ k i ne. cond-false (k == n && nat_le first i) [] (m.block k i) (false_from_ne_true _ (λ on. ne (eqb-true k n (and_parts (k == n) (nat_le first i) on).0)));
+  blocks = λ k i ne. cond-false (k == n && nat_le first i) [] (m.block k i)
+      (false_from_ne_true _ (λ on. ne (eqb-true k n (and_parts (k == n) (nat_le first i) on).0)));
   version = refl;
 }
 
 -- a file without blocks stays as it is
 none_cut : (m : LogMap) (n first : ℕ) → ((i : ℕ) → m.block n i ≡ []) → m ≡ cut_from n first m
-none_cut m n first none = ap (λ (block : ℕ → ℕ → List ℕ). record { header = m.header; block = block; version = m.version }) (fun_ext (λ k. fun_ext (λ i. same k i)))
+none_cut m n first none = ap (λ (block : ℕ → ℕ → List ℕ). record { header = m.header; block = block; version = m.version })
+    (fun_ext (λ k. fun_ext (λ i. same k i)))
   where
     same : (k i : ℕ) → m.block k i ≡ cond (k == n && nat_le first i) [] (m.block k i)
     same k i = ⊎_elim
@@ -53,7 +56,8 @@ none_cut m n first none = ap (λ (block : ℕ → ℕ → List ℕ). record { he
         (cases_Bool (k == n && nat_le first i))
 
 -- ---- the blocks in memory
-module _ (n first : ℕ) (old mid new : Dirty) (formed : (x : Entry) (b : List ℕ) → file_of x ≡ Some n → old x ≡ Some b → IsFormed x b) (one : LeavesPast old mid n first) (two : ClearsPointers mid new n first) where
+module _ (n first : ℕ) (old mid new : Dirty) (formed : (x : Entry) (b : List ℕ) → file_of x ≡ Some n → old x ≡ Some b → IsFormed x b)
+    (one : LeavesPast old mid n first) (two : ClearsPointers mid new n first) where
   by_past : (P : Type 0) (x : Entry) → (is_past n first x ≡ true → P) → (is_past n first x ≡ false → P) → P
   by_past P x on off = ⊎_elim on off (cases_Bool (is_past n first x))
 
@@ -65,7 +69,8 @@ module _ (n first : ℕ) (old mid new : Dirty) (formed : (x : Entry) (b : List �
     kept = λ x out. two.others x out ∙ one.kept x (false_from_ne_true _ (λ on. out ((past_cut n first).of_file x on)));
   }
 
-module _ (d : DeviceState) (v v' : LogMemory) (k : CheckpointValue) (m0 m : LogMap) (is : IsLoose d v k m0 m) (n first : ℕ) (low : n < 4096) (lives : Bool) (counts : List ℕ) (shown : lives ≡ not (is_hidden_in v.map n))
+module _ (d : DeviceState) (v v' : LogMemory) (k : CheckpointValue) (m0 m : LogMap) (is : IsLoose d v k m0 m) (n first : ℕ) (low : n < 4096)
+    (lives : Bool) (counts : List ℕ) (shown : lives ≡ not (is_hidden_in v.map n))
     (counted : (s : ℕ) → get_or counts s 0 ≡ count_of (is_past n first) is.running.memory s) where
   -- an honest device has so many blocks there
   pub past_covered : AreUncovered v.usage lives counts → ⊥
@@ -77,7 +82,8 @@ module _ (d : DeviceState) (v v' : LogMemory) (k : CheckpointValue) (m0 m : LogM
       let at : 0 < is.running.memory.at x = (let one = c.1 in omega (arith, one)) in
       record {
         long = ap length (sym c.2) ∙ is.running.laid.long x (n, own) at;
-        inode = λ l named. subst (HoldsInode l) (ap is.running.memory.bytes (sym named) ∙ c.2) (is.running.laid.spells (Inode l) (subst (λ (y : Entry). 0 < is.running.memory.at y) named at)).formed;
+        inode = λ l named. subst (HoldsInode l) (ap is.running.memory.bytes (sym named) ∙ c.2)
+            (is.running.laid.spells (Inode l) (subst (λ (y : Entry). 0 < is.running.memory.at y) named at)).formed;
       }
 
   module _ (go : DropsPast v v' n first lives counts) (inside : IsInMemory v (Inode n)) (edge : HasEdge v n first) where
@@ -110,13 +116,17 @@ module _ (d : DeviceState) (v v' : LogMemory) (k : CheckpointValue) (m0 m : LogM
       stale = go.usage.stale;
     }
 
-    above : (x : Entry) → is_past n first x ≡ true → 0 < is.running.memory.at x → (parent x ≡ x → ⊥) → is_past n first (parent x) ≡ false → is.running.memory.at (parent x) ≡ 1
-    above = past_above d.content m is.running.memory (segment_in v.chunk) n first is.running.laid (inside_at d v k m0 m is (Inode n) inside) (root_at d v k m0 m is n first edge) (leaf_at d v k m0 m is n first edge)
+    above : (x : Entry) → is_past n first x ≡ true → 0 < is.running.memory.at x → (parent x ≡ x → ⊥) → is_past n first (parent x) ≡ false
+        → is.running.memory.at (parent x) ≡ 1
+    above = past_above d.content m is.running.memory (segment_in v.chunk) n first is.running.laid (inside_at d v k m0 m is (Inode n) inside)
+        (root_at d v k m0 m is n first edge) (leaf_at d v k m0 m is n first edge)
 
     pub cut_log : IsLoose d v' k m0 (cut_from n first m)
     cut_log = record {
-      running = subst (λ (c : Chunk). Running d (blocks_of v'.dirty) (tables_of v') k m0 (cut_from n first m) (segment_in c) (chunk_in c)) (sym go.chunk)
-          (file_cutting d (blocks_of v.dirty) (blocks_of v'.dirty) (tables_of v) (tables_of v') k m0 m (cut_from n first m) (segment_in v.chunk) (chunk_in v.chunk) n (is_past n first) (counts_in counts)
+      running = subst (λ (c : Chunk). Running d (blocks_of v'.dirty) (tables_of v') k m0 (cut_from n first m) (segment_in c) (chunk_in c))
+          (sym go.chunk)
+          (file_cutting d (blocks_of v.dirty) (blocks_of v'.dirty) (tables_of v) (tables_of v') k m0 m (cut_from n first m)
+          (segment_in v.chunk) (chunk_in v.chunk) n (is_past n first) (counts_in counts)
           is.running (past_cut n first) above (λ on has named. absurd (inode_stays on)) counted (is_cut m n first)
           (detaches n first (blocks_of v.dirty) (blocks_of go.middle) (blocks_of v'.dirty) formed_in go.leaves go.clears) detached);
       hidden = λ i small. is.hidden i small ∙ ap (λ (map : MapValue). is_hidden_in map i) (sym go.map);
@@ -127,18 +137,22 @@ module _ (d : DeviceState) (v v' : LogMemory) (k : CheckpointValue) (m0 m : LogM
         inode_stays on = absurd (cc)
 
 -- ---- the whole call
-pub uncovered_past : (a b : DeviceState) (v : LogMemory) (n first : ℕ) (lives : Bool) (counts : List ℕ) → n < 4096 → lives ≡ not (is_hidden_in v.map n) → Looks a b → CountsPast a b v n first counts
+pub uncovered_past : (a b : DeviceState) (v : LogMemory) (n first : ℕ) (lives : Bool) (counts : List ℕ) → n < 4096
+    → lives ≡ not (is_hidden_in v.map n) → Looks a b → CountsPast a b v n first counts
     → AreUncovered v.usage lives counts → FailsFromDevice a b v
 uncovered_past a b v n first lives counts low shown looks counted over k m0 m keeps is =
     absurd (past_covered a v v k m0 m is n first low lives counts shown (counted k m0 m keeps is) over)
 
 -- what lifts the blocks above, then the counts, and then what leaves
-module _ (a b c : DeviceState) (v mid v' : LogMemory) (n first : ℕ) (counts : List ℕ) (lawful : IsLawful a) (one : Prepares a b v mid 3) (two : Looks b c) (low : n < 4096)
-    (inside : IsInMemory mid (Inode n)) (edge : HasEdge mid n first) (counted : CountsPast b c mid n first counts) (go : DropsPast mid v' n first (not (is_hidden_in mid.map n)) counts) where
+module _ (a b c : DeviceState) (v mid v' : LogMemory) (n first : ℕ) (counts : List ℕ) (lawful : IsLawful a) (one : Prepares a b v mid 3)
+    (two : Looks b c) (low : n < 4096)
+    (inside : IsInMemory mid (Inode n)) (edge : HasEdge mid n first) (counted : CountsPast b c mid n first counts)
+    (go : DropsPast mid v' n first (not (is_hidden_in mid.map n)) counts) where
   pub file_cut : Cuts a c v v' n first
   file_cut = record {
     looks = looks_then a b c lawful one.looks two;
-    memory = kept_memory mid v' one.memory go.usage.size go.chunk go.usage.used go.usage.kept go.usage.last go.usage.address (never_fresh mid.usage v'.usage go.usage.stale) go.capacity;
+    memory = kept_memory mid v' one.memory go.usage.size go.chunk go.usage.used go.usage.kept go.usage.last go.usage.address
+        (never_fresh mid.usage v'.usage go.usage.stale) go.capacity;
     segments = go.usage.size ∙ one.segments;
     clean = go.usage.clean ∙ one.clean;
     chunk = go.chunk ∙ one.chunk;
@@ -150,11 +164,13 @@ module _ (a b c : DeviceState) (v mid v' : LogMemory) (n first : ℕ) (counts : 
     absent = λ l none. ap (λ (map : MapValue). address_in map l) go.map ∙ one.absent l none;
     log = λ k m0 m keeps is.
         let log = one.log k m0 m (two.carries.kept_before keeps) is in
-        still_log b c v' k m0 (cut_from n first m) two (cut_log b mid v' k m0 m log n first low (not (is_hidden_in mid.map n)) counts refl (counted k m0 m keeps log) go inside edge);
+        still_log b c v' k m0 (cut_from n first m) two
+        (cut_log b mid v' k m0 m log n first low (not (is_hidden_in mid.map n)) counts refl (counted k m0 m keeps log) go inside edge);
   }
 
 -- where no file is
-pub nothing_cut : (a b : DeviceState) (v v' : LogMemory) (n first : ℕ) → Prepares a b v v' 1 → (n ≡ 0) ⊎ (address_in v.map n ≡ 0) → Cuts a b v v' n first
+pub nothing_cut : (a b : DeviceState) (v v' : LogMemory) (n first : ℕ) → Prepares a b v v' 1 → (n ≡ 0) ⊎ (address_in v.map n ≡ 0)
+    → Cuts a b v v' n first
 nothing_cut a b v v' n first one none = record {
   looks = one.looks;
   memory = one.memory;
@@ -173,5 +189,6 @@ nothing_cut a b v v' n first one none = record {
       (λ (nobody : n ≡ 0). ap (λ (n : ℕ). log.running.memory.at (Inode n)) nobody ∙ nobody_at b v' k m0 m log)
       (λ (absent : address_in v.map n ≡ 0). inode_at b v' k m0 m log n ∙ one.absent n absent)
       none in
-      subst (λ (m : LogMap). IsLoose b v' k m0 m) (none_cut m n first (λ i. no_block b v' k m0 m log n i (data_none b v' k m0 m log n i gone))) log;
+      subst (λ (m : LogMap). IsLoose b v' k m0 m)
+      (none_cut m n first (λ i. no_block b v' k m0 m log n i (data_none b v' k m0 m log n i gone))) log;
 }

@@ -1,5 +1,6 @@
 -- Blocks of pointers that stay lose their pointers to what goes.
-use Rattle.std.proofs.Common.{◌≡◌, ◌<◌, ◌≤◌, ⊎_elim, ◌+◌, ◌*◌, ◌-◌, ◌%◌, ◌==◌, ◌&&◌, nat_le, cond, ℕ, suc, Bool, true, false, List, length, Some, None, refl, sym, ◌∙◌, ap, subst, arith, eq-eqb}
+use Rattle.std.proofs.Common.{◌≡◌, ◌<◌, ◌≤◌, ⊎_elim, ◌+◌, ◌*◌, ◌-◌, ◌%◌, ◌==◌, ◌&&◌, nat_le, cond, ℕ, suc, Bool, true, false, List, length}
+use Rattle.std.proofs.Common.{Some, None, refl, sym, ◌∙◌, ap, subst, arith, eq-eqb}
 use Rattle.std.specs.Option.{option_map}
 use Rattle.std.proofs.lemmas.Bool.{cases_lt, and_parts, and_from, leb-true, le-leb, cond-false, false_from_ne_true}
 use Rattle.lfs_model.specs.Cutting.{is_past}
@@ -15,7 +16,8 @@ use Rattle.lfs_inodes.proofs.Zeroed.{long_zeroed, word_zero, word_kept, holds_ze
 use Rattle.lfs_memory.specs.Cutting.{IsCutLeaf, KeepsOfInode, KeepsOfRoot, IsFormed, ClearsLeaf, ClearsPointers}
 
 -- a word is 0 where it is one of those that go, and else as it was
-word_cut : (start count : ℕ) (b : List ℕ) → length b ≡ 512 → start + count ≤ 128 → (w : ℕ) → w < 128 → (goes : Bool) → (goes ≡ true → (start ≤ w) × (w < start + count)) → (goes ≡ false → start ≤ w → w < start + count → ⊥)
+word_cut : (start count : ℕ) (b : List ℕ) → length b ≡ 512 → start + count ≤ 128 → (w : ℕ) → w < 128 → (goes : Bool)
+    → (goes ≡ true → (start ≤ w) × (w < start + count)) → (goes ≡ false → start ≤ w → w < start + count → ⊥)
     → word (zeroed start count b) w ≡ cond goes 0 (word b w)
 word_cut start count b long room w low true inside outside = word_zero start count b long room w (inside refl).0 (inside refl).1
 word_cut start count b long room w low false inside outside = word_kept start count b long room w low (outside refl)
@@ -27,25 +29,29 @@ module _ (n first : ℕ) where
   before_first : (i : ℕ) → (n == n && nat_le first i) ≡ false → i < first
   before_first i off = ⊎_elim
       (λ (lt : i < first). lt)
-      (λ (le : first ≤ i). let bad : true ≡ false = sym (and_from (n == n) (nat_le first i) (eq-eqb n n refl) (le-leb first i le)) ∙ off in absurd (cc))
+      (λ (le : first ≤ i). let bad : true ≡ false = sym (and_from (n == n) (nat_le first i) (eq-eqb n n refl) (le-leb first i le)) ∙ off in
+      absurd (cc))
       (cases_lt i first)
 
   not_past : (i : ℕ) → i < first → (n == n && nat_le first i) ≡ false
   not_past i lt = false_from_ne_true (n == n && nat_le first i) (λ on. let le = from_first i on in omega (arith, le, lt))
 
   -- ---- an inode
-  inode_pointers : (kept : ℕ) → KeepsOfInode first kept → (b : List ℕ) → IsFormed (Inode n) b → IsCleared (is_past n first) (Inode n) b (zeroed (8 + kept) (114 - kept) b)
+  inode_pointers : (kept : ℕ) → KeepsOfInode first kept → (b : List ℕ) → IsFormed (Inode n) b
+      → IsCleared (is_past n first) (Inode n) b (zeroed (8 + kept) (114 - kept) b)
   inode_pointers kept k b formed =
       let few = k.few in
       inode_cleared (is_past n first) n b (zeroed (8 + kept) (114 - kept) b)
       (long_zeroed (8 + kept) (114 - kept) b formed.long (omega (arith, few)))
       (holds_zeroed n (8 + kept) (114 - kept) b (formed.inode n refl) (omega arith) (omega (arith, few)))
       (header_zeroed (8 + kept) (114 - kept) b formed.long (omega arith) (omega (arith, few)))
-      (λ i low. word_cut (8 + kept) (114 - kept) b formed.long (omega (arith, few)) (8 + i) (omega (arith, low)) (is_past n first (Data n i))
+      (λ i low.
+      word_cut (8 + kept) (114 - kept) b formed.long (omega (arith, few)) (8 + i) (omega (arith, low)) (is_past n first (Data n i))
       (λ on. let le = from_first i on in let same = k.direct (omega (arith, le, low)) in (omega (arith, le, same), omega (arith, few, low)))
       (λ off from to. let lt = before_first i off in let past = past_direct i lt low in omega (arith, past, from)))
       (word_cut (8 + kept) (114 - kept) b formed.long (omega (arith, few)) 120 (omega arith) (is_past n first (Leaf n 0))
-      (λ on. let le = from_first (112 + 128 * 0) on in let same = k.direct (omega (arith, le)) in (omega (arith, le, same), omega (arith, few)))
+      (λ on. let le = from_first (112 + 128 * 0) on in let same = k.direct (omega (arith, le)) in
+      (omega (arith, le, same), omega (arith, few)))
       (λ off from to. let lt = before_first (112 + 128 * 0) off in let past = past_single (omega (arith, lt)) in omega (arith, past, from)))
       (word_cut (8 + kept) (114 - kept) b formed.long (omega (arith, few)) 121 (omega arith) (is_past n first (Double n))
       (λ on. let le = from_first 240 on in let most = upto_double le in (omega (arith, most), omega (arith, few)))
@@ -70,7 +76,8 @@ module _ (n first : ℕ) where
           (cases_lt 112 first)
 
   -- ---- a double root
-  root_pointers : (kept : ℕ) → KeepsOfRoot first kept → (b : List ℕ) → length b ≡ 512 → IsCleared (is_past n first) (Double n) b (zeroed kept (128 - kept) b)
+  root_pointers : (kept : ℕ) → KeepsOfRoot first kept → (b : List ℕ) → length b ≡ 512
+      → IsCleared (is_past n first) (Double n) b (zeroed kept (128 - kept) b)
   root_pointers kept k b long =
       let few = k.few in
       double_cleared (is_past n first) n b (zeroed kept (128 - kept) b) (long_zeroed kept (128 - kept) b long (omega (arith, few)))
@@ -89,7 +96,8 @@ module _ (n first : ℕ) where
       omega (arith, lt, reach, from)))
 
   -- ---- a leaf that is cut in part, and one that isn't
-  leaf_pointers : (q kept : ℕ) → 112 + 128 * q + kept ≡ first → kept < 128 → (b : List ℕ) → length b ≡ 512 → IsCleared (is_past n first) (Leaf n q) b (zeroed kept (128 - kept) b)
+  leaf_pointers : (q kept : ℕ) → 112 + 128 * q + kept ≡ first → kept < 128 → (b : List ℕ) → length b ≡ 512
+      → IsCleared (is_past n first) (Leaf n q) b (zeroed kept (128 - kept) b)
   leaf_pointers q kept at low b long =
       leaf_cleared (is_past n first) n q b (zeroed kept (128 - kept) b) (long_zeroed kept (128 - kept) b long (omega (arith, low)))
       (λ i fits. word_cut kept (128 - kept) b long (omega (arith, low)) i fits (is_past n first (Data n (112 + 128 * q + i)))
@@ -99,7 +107,8 @@ module _ (n first : ℕ) where
   leaf_whole : (q : ℕ) → 240 + 128 * q ≤ first → (b : List ℕ) → length b ≡ 512 → IsCleared (is_past n first) (Leaf n q) b b
   leaf_whole q le b long =
       leaf_cleared (is_past n first) n q b b long
-      (λ i fits. sym (cond-false (is_past n first (Data n (112 + 128 * q + i))) 0 (word b i) (not_past (112 + 128 * q + i) (omega (arith, le, fits)))))
+      (λ i fits. sym
+      (cond-false (is_past n first (Data n (112 + 128 * q + i))) 0 (word b i) (not_past (112 + 128 * q + i) (omega (arith, le, fits)))))
 
 -- ---- one block changes
 module _ (old new : Dirty) (x : Entry) (f : List ℕ → List ℕ) (change : ChangesTo old new x (option_map f (old x))) where
@@ -118,43 +127,39 @@ module _ (old new : Dirty) (x : Entry) (f : List ℕ → List ℕ) (change : Cha
       (λ (away : y ≡ x → ⊥). change.others y away ∙ none)
       (same_entry y x)
 
-changes_at : (old new : Dirty) (x y : Entry) (f : List ℕ → List ℕ) → x ≡ y → ChangesTo old new x (option_map f (old x)) → ChangesTo old new y (option_map f (old y))
+changes_at : (old new : Dirty) (x y : Entry) (f : List ℕ → List ℕ) → x ≡ y → ChangesTo old new x (option_map f (old x))
+    → ChangesTo old new y (option_map f (old y))
 changes_at old new x y f same = subst (λ (x : Entry). ChangesTo old new x (option_map f (old x))) same
 
 -- ---- the leaf
 same_leaf : (first p q kept : ℕ) → 112 + 128 * q + kept ≡ first → kept < 128 → IsCutLeaf first p → p ≡ q
 same_leaf first p q kept at low cut = let from = cut.from in let to = cut.to in omega (arith, at, low, from, to)
 
-pub clears_leaf : (n first : ℕ) (old new : Dirty) (x : Entry) (q kept : ℕ) → x ≡ Leaf n q → 112 + 128 * q + kept ≡ first → 0 < kept → kept < 128
+pub clears_leaf : (n first : ℕ) (old new : Dirty) (x : Entry) (q kept : ℕ) → x ≡ Leaf n q → 112 + 128 * q + kept ≡ first → 0 < kept
+    → kept < 128
     → ChangesTo old new x (option_map (zeroed kept (128 - kept)) (old x)) → ClearsLeaf old new n first
 clears_leaf n first old new x q kept named at some low change =
-    let here : ChangesTo old new (Leaf n q) (option_map (zeroed kept (128 - kept)) (old (Leaf n q))) = changes_at old new x (Leaf n q) (zeroed kept (128 - kept)) named change in
+    let here : ChangesTo old new (Leaf n q) (option_map (zeroed kept (128 - kept)) (old (Leaf n q))) =
+    changes_at old new x (Leaf n q) (zeroed kept (128 - kept)) named change in
     record {
       cleared = λ p b cut there long.
           let same : Leaf n q ≡ Leaf n p = ap (Leaf n) (sym (same_leaf first p q kept at low cut)) in
-          subst (λ (y : Entry). (c : List ℕ) × (new y ≡ Some c) × IsCleared (is_past n first) y b c) same
-          (zeroed kept (128 - kept) b, now_is old new (Leaf n q) (zeroed kept (128 - kept)) here b (ap old same ∙ there), leaf_pointers n first q kept at low b long);
+          subst (λ (y : Entry). (c : List ℕ) × (new y ≡ Some c) × IsCleared (is_past n first) y b c) same (
+            zeroed kept (128 - kept) b,
+            now_is old new (Leaf n q) (zeroed kept (128 - kept)) here b (ap old same ∙ there),
+            leaf_pointers n first q kept at low b long,
+          );
       stay = stays old new (Leaf n q) (zeroed kept (128 - kept)) here;
       absent = no_more old new (Leaf n q) (zeroed kept (128 - kept)) here;
       others = λ y out. here.others y (out q (record { from = omega (arith, at, some); to = omega (arith, at, low) }));
     }
 
-pub no_leaf_cut : (n first : ℕ) (old : Dirty) → ((q : ℕ) → IsCutLeaf first q → ⊥) → ClearsLeaf old old n first
-no_leaf_cut n first old none = record {
-  cleared = λ q b cut there long. absurd (none q cut);
-  stay = λ x b there. (b, there);
-  absent = λ x gone. gone;
-  others = λ x out. refl;
-}
-
 pub none_below : (first q : ℕ) → first ≤ 112 → IsCutLeaf first q → ⊥
 none_below first q low cut = let from = cut.from in omega (arith, from, low)
 
-pub none_between : (first q : ℕ) → 112 < first → (first - 112) % 128 ≡ 0 → IsCutLeaf first q → ⊥
-none_between first q high whole cut = let from = cut.from in let to = cut.to in omega (arith, high, whole, from, to)
-
 -- ---- all of them
-module _ (n first : ℕ) (old mid low new : Dirty) (x y : Entry) (inode_kept root_kept : ℕ) (inode : KeepsOfInode first inode_kept) (root : KeepsOfRoot first root_kept)
+module _ (n first : ℕ) (old mid low new : Dirty) (x y : Entry) (inode_kept root_kept : ℕ) (inode : KeepsOfInode first inode_kept)
+    (root : KeepsOfRoot first root_kept)
     (is_inode : x ≡ Inode n) (is_root : y ≡ Double n)
     (one : ChangesTo old mid x (option_map (zeroed (8 + inode_kept) (114 - inode_kept)) (old x)))
     (two : ChangesTo mid low y (option_map (zeroed root_kept (128 - root_kept)) (mid y))) (three : ClearsLeaf low new n first) where
@@ -196,14 +201,16 @@ module _ (n first : ℕ) (old mid low new : Dirty) (x y : Entry) (inode_kept roo
   cleared_root : (b : List ℕ) → old (Double n) ≡ Some b → length b ≡ 512 → Cleared (Double n) b
   cleared_root b there long = (
     zeroed root_kept (128 - root_kept) b,
-    not_leaf (Double n) (λ q h. absurd (cc)) ∙ now_is mid low (Double n) (zeroed root_kept (128 - root_kept)) of_root b (of_inode.others (Double n) (λ h. absurd (cc)) ∙ there),
+    not_leaf (Double n) (λ q h. absurd (cc))
+        ∙ now_is mid low (Double n) (zeroed root_kept (128 - root_kept)) of_root b (of_inode.others (Double n) (λ h. absurd (cc)) ∙ there),
     root_pointers n first root_kept root b long,
   )
 
   cleared_inode : (b : List ℕ) → old (Inode n) ≡ Some b → IsFormed (Inode n) b → Cleared (Inode n) b
   cleared_inode b there formed = (
     zeroed (8 + inode_kept) (114 - inode_kept) b,
-    not_leaf (Inode n) (λ q h. absurd (cc)) ∙ of_root.others (Inode n) (λ h. absurd (cc)) ∙ now_is old mid (Inode n) (zeroed (8 + inode_kept) (114 - inode_kept)) of_inode b there,
+    not_leaf (Inode n) (λ q h. absurd (cc)) ∙ of_root.others (Inode n) (λ h. absurd (cc))
+        ∙ now_is old mid (Inode n) (zeroed (8 + inode_kept) (114 - inode_kept)) of_inode b there,
     inode_pointers n first inode_kept inode b formed,
   )
 
@@ -215,7 +222,8 @@ module _ (n first : ℕ) (old mid low new : Dirty) (x y : Entry) (inode_kept roo
   cleared_any (Leaf k q) b off own there formed =
       let s : k ≡ n = cc in
       let e : Leaf k q ≡ Leaf n q = ap (λ (k : ℕ). Leaf k q) s in
-      subst (λ (z : Entry). Cleared z b) (sym e) (cleared_leaf q b (before_first n first (112 + 128 * q) (ap (is_past n first) (sym e) ∙ off)) (ap old (sym e) ∙ there) formed.long)
+      subst (λ (z : Entry). Cleared z b) (sym e) (cleared_leaf q b
+      (before_first n first (112 + 128 * q) (ap (is_past n first) (sym e) ∙ off)) (ap old (sym e) ∙ there) formed.long)
   cleared_any (Double k) b off own there formed =
       let s : k ≡ n = cc in
       let e : Double k ≡ Double n = ap Double s in
@@ -234,7 +242,8 @@ module _ (n first : ℕ) (old mid low new : Dirty) (x y : Entry) (inode_kept roo
         let s1 = stays old mid (Inode n) (zeroed (8 + inode_kept) (114 - inode_kept)) of_inode z b there in
         let s2 = stays mid low (Double n) (zeroed root_kept (128 - root_kept)) of_root z s1.0 s1.1 in
         three.stay z s2.0 s2.1;
-    absent = λ z none. three.absent z (no_more mid low (Double n) (zeroed root_kept (128 - root_kept)) of_root z (no_more old mid (Inode n) (zeroed (8 + inode_kept) (114 - inode_kept)) of_inode z none));
+    absent = λ z none. three.absent z (no_more mid low (Double n) (zeroed root_kept (128 - root_kept)) of_root z
+        (no_more old mid (Inode n) (zeroed (8 + inode_kept) (114 - inode_kept)) of_inode z none));
     others = λ z out.
         three.others z (λ q cut h. out (ap file_of h))
         ∙ before_leaf z (λ h. out (ap file_of h)) (λ h. out (ap file_of h));

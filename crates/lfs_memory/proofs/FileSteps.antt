@@ -1,5 +1,6 @@
 -- A block of a file goes to the next place.
-use Rattle.std.proofs.Common.{◌≡◌, ◌<◌, ℕ, zero, suc, Bool, true, false, not, List, [], ◌∷◌, ◌++◌, Option, Some, None, refl, sym, ◌∙◌, ap, subst, arith}
+use Rattle.std.proofs.Common.{◌≡◌, ◌<◌, ℕ, zero, suc, Bool, true, false, not, List, [], ◌∷◌, ◌++◌, Option, Some, None, refl, sym, ◌∙◌, ap}
+use Rattle.std.proofs.Common.{subst, arith}
 use Rattle.std.specs.Prelude.{get_or}
 use Rattle.lfs_model.specs.Committing.{IsWritten, place_of}
 use Rattle.lfs_model.specs.declared.BlockKind.{BlockKind}
@@ -21,7 +22,8 @@ use Rattle.lfs_segments.specs.Chunk.{Chunk, entries_of}
 use Rattle.lfs_segments.specs.Table.{UsageTable}
 use Rattle.lfs_memory.specs.declared.memory.LogMemory.{LogMemory}
 use Rattle.lfs_memory.specs.Memory.{IsMemory, IsLog, IsPointedAt, Places, GoesUpTo, Quiet, Stops, tables_by, segment_in, chunk_in}
-use Rattle.lfs_memory.proofs.Begun.{before, begun, noted, place_is, room_left, opened_after, segment_after, segments_same, memory_after, free_place, placed_emptied}
+use Rattle.lfs_memory.proofs.Begun.{before, begun, noted, place_is, room_left, opened_after, segment_after, segments_same, memory_after}
+use Rattle.lfs_memory.proofs.Begun.{free_place, placed_emptied}
 use Rattle.lfs_memory.proofs.Opened.{as_chunk, stays_settled, stays_quiet}
 use Rattle.lfs_memory.proofs.Rooms.{takes_place}
 
@@ -32,27 +34,22 @@ file_by (suc zero) f i = refl
 file_by (suc (suc zero)) f i = refl
 file_by (suc (suc (suc r))) f i = refl
 
-pub inode_by : (r f i : ℕ) → kind_by r ≡ kind.Inode → entry_by (kind_by r) f i ≡ Inode f
-inode_by r f i is = ap (λ (b : BlockKind). entry_by b f i) is
-
-pub not_inode_by : (r f i : ℕ) → (kind_by r ≡ kind.Inode → ⊥) → parent (entry_by (kind_by r) f i) ≡ entry_by (kind_by r) f i → ⊥
-not_inode_by zero f i ne up = data_below f i up
-not_inode_by (suc zero) f i ne up = leaf_below f i up
-not_inode_by (suc (suc zero)) f i ne up = double_below f up
-not_inode_by (suc (suc (suc r))) f i ne up = ne refl
-
 -- a block of a file whose number is known lives as that file does
 pub shows : (m : LogMap) (x : Entry) (n : ℕ) (hidden : Bool) → file_of x ≡ Some n → is_nameless m n ≡ hidden → not hidden ≡ is_shown m x
 shows m x n hidden is same = ap not (sym same) ∙ sym (ap (λ (o : Option ℕ). elim o [ None ↦ true | Some n ↦ not (is_nameless m n) ]) is)
 
-module _ (v v' : LogMemory) (name : BlockNameValue) (lives : Bool) (age place : ℕ) (memory : IsMemory v) (p : Places v v' name lives age place)
-    (d d' : DeviceState) (bytes : List ℕ) (crash : CrashWrites place bytes d d') (carries : Carries d d') (time : Elapses d d') (lawful : IsLawful d)
+module _ (v v' : LogMemory) (name : BlockNameValue) (lives : Bool) (age place : ℕ) (memory : IsMemory v)
+    (p : Places v v' name lives age place)
+    (d d' : DeviceState) (bytes : List ℕ) (crash : CrashWrites place bytes d d') (carries : Carries d d') (time : Elapses d d')
+    (lawful : IsLawful d)
     (may : d'.keeps_model → MayWrite place bytes d.content d'.content) where
   pub settled_step : (k : CheckpointValue) (m0 m : LogMap) → d'.keeps_model → IsLog d v k m0 m → IsSettled d' k m0
-  settled_step k m0 m keeps is = stays_settled d d' k m0 place bytes is.running.settled (free_place v v' name lives age place memory p d k m0 m is) (may keeps) crash
+  settled_step k m0 m keeps is =
+      stays_settled d d' k m0 place bytes is.running.settled (free_place v v' name lives age place memory p d k m0 m is) (may keeps) crash
 
   pub quiet_step : Quiet d d' v
-  quiet_step k m0 m keeps is = stays_quiet d d' k m0 place bytes is.running.settled (free_place v v' name lives age place memory p d k m0 m is) (may keeps) crash lawful carries time
+  quiet_step k m0 m keeps is = stays_quiet d d' k m0 place bytes is.running.settled
+      (free_place v v' name lives age place memory p d k m0 m is) (may keeps) crash lawful carries time
 
   pub place_stops : d.failures < d'.failures → Stops d d' v
   place_stops failed = record {
@@ -62,7 +59,8 @@ module _ (v v' : LogMemory) (name : BlockNameValue) (lives : Bool) (age place : 
     quiet = quiet_step;
   }
 
-module _ (v v' : LogMemory) (name : BlockNameValue) (lives : Bool) (age place : ℕ) (memory : IsMemory v) (p : Places v v' name lives age place)
+module _ (v v' : LogMemory) (name : BlockNameValue) (lives : Bool) (age place : ℕ) (memory : IsMemory v)
+    (p : Places v v' name lives age place)
     (x : Entry) (f : ℕ) (of_file : file_of x ≡ Some f) (map' : MapValue) (points : IsPointedAt v.map map' x place) where
   addressed : IsAddressed (before v v' name lives age place memory p) (tables_by map' v'.usage) x place
   addressed = record { own = own x of_file points; others = others }
@@ -83,30 +81,37 @@ module _ (v v' : LogMemory) (name : BlockNameValue) (lives : Bool) (age place : 
       others (Map j) up ne = ap (λ (l : List ℕ). get_or l j 0) points.blocks
       others (Usage j) up ne = p.noted.blocks.address j
 
-  module _ (d d' : DeviceState) (bytes : List ℕ) (dirty' : TableValue) (crash : CrashWrites place bytes d d') (carries : Carries d d') (time : Elapses d d') (lawful : IsLawful d) where
+  module _ (d d' : DeviceState) (bytes : List ℕ) (dirty' : TableValue) (crash : CrashWrites place bytes d d') (carries : Carries d d')
+      (time : Elapses d d') (lawful : IsLawful d) where
     abbrev pub after : LogMemory
     after = record { map = map'; usage = v'.usage; dirty = dirty'; chunk = v'.chunk }
 
-    module _ (is_put : d'.keeps_model → d'.content ≡ put d.content place bytes) (named : entry_of name ≡ x) (low : IsLowest (blocks_of v.dirty) x) (there : blocks_of v.dirty x ≡ Some bytes)
+    module _ (is_put : d'.keeps_model → d'.content ≡ put d.content place bytes) (named : entry_of name ≡ x)
+        (low : IsLowest (blocks_of v.dirty) x) (there : blocks_of v.dirty x ≡ Some bytes)
         (moves : Moves (blocks_of v.dirty) (blocks_of dirty') x place) (few : f < 4096) (hides : lives ≡ not (is_hidden_in v.map f)) where
       log : (k : CheckpointValue) (m0 m : LogMap) → d'.keeps_model → IsLog d v k m0 m → IsLog d' after k m0 m
       log k m0 m keeps is =
           let same_place = place_is v v' name lives age place memory p in
           let es = entries_of v.chunk in
           let running = begun v v' name lives age place memory p d k m0 m is in
-          let moved : Moves (blocks_of v.dirty) (blocks_of dirty') x (place_of (before v v' name lives age place memory p) v'.chunk.segment) = subst (λ (n : ℕ). Moves (blocks_of v.dirty) (blocks_of dirty') x n) same_place moves in
-          let next = stepping d d' (blocks_of v.dirty) (blocks_of dirty') (before v v' name lives age place memory p) (tables_by map' v'.usage) k m0 m v'.chunk.segment es x bytes
+          let moved : Moves (blocks_of v.dirty) (blocks_of dirty') x (place_of (before v v' name lives age place memory p)
+          v'.chunk.segment) = subst (λ (n : ℕ). Moves (blocks_of v.dirty) (blocks_of dirty') x n) same_place moves in
+          let next = stepping d d' (blocks_of v.dirty) (blocks_of dirty') (before v v' name lives age place memory p)
+          (tables_by map' v'.usage) k m0 m v'.chunk.segment es x bytes
           running (room_left v v' name lives age place memory p) low there (is.tight x bytes there)
           (subst (λ (n : ℕ). IsWritten d d' n bytes) same_place (record { content = is_put keeps; crash = crash }))
           moved
-          (noted v v' name lives age place memory p d k m0 m is x map' (hides ∙ shows m x f (is_hidden_in v.map f) of_file (is.hidden f few)) addressed) in
+          (noted v v' name lives age place memory p d k m0 m is x map'
+          (hides ∙ shows m x f (is_hidden_in v.map f) of_file (is.hidden f few)) addressed) in
           record {
-            running = as_chunk d' (blocks_of dirty') (tables_by map' v'.usage) k m0 m v'.chunk.segment (segment_in v'.chunk) (Some (es ++ x ∷ [])) (chunk_in v'.chunk)
+            running = as_chunk d' (blocks_of dirty') (tables_by map' v'.usage) k m0 m v'.chunk.segment (segment_in v'.chunk)
+                (Some (es ++ x ∷ [])) (chunk_in v'.chunk)
                 (sym (segment_after v v' name lives age place memory p))
                 (sym (opened_after v v' name lives age place memory p ∙ ap (λ (e : Entry). Some (es ++ e ∷ [])) named)) next;
             hidden = λ n lt. is.hidden n lt ∙ ap (λ (l : List Bool). get_or l n false) (sym points.hidden);
             segments = segments_same v v' name lives age place memory p ∙ is.segments;
-            tight = stepping_tight d (blocks_of v.dirty) (blocks_of dirty') (before v v' name lives age place memory p) k m0 m v'.chunk.segment es x bytes running (room_left v v' name lives age place memory p) there moved is.tight;
+            tight = stepping_tight d (blocks_of v.dirty) (blocks_of dirty') (before v v' name lives age place memory p) k m0 m
+                v'.chunk.segment es x bytes running (room_left v v' name lives age place memory p) there moved is.tight;
           }
 
       pub file_goes : dirty'.capacity ≡ v.dirty.capacity → d'.failures ≡ d.failures → GoesUpTo 63 d d' v after 1
@@ -122,7 +127,8 @@ module _ (v v' : LogMemory) (name : BlockNameValue) (lives : Bool) (age place : 
       }
 
 -- the same memory by other words
-pub goes_to : (most : ℕ) (d d' : DeviceState) (v w : LogMemory) (usage : UsageTable) (dirty : TableValue) (chunk : Chunk) (n : ℕ) → w.usage ≡ usage → w.dirty ≡ dirty → w.chunk ≡ chunk
+pub goes_to : (most : ℕ) (d d' : DeviceState) (v w : LogMemory) (usage : UsageTable) (dirty : TableValue) (chunk : Chunk) (n : ℕ)
+    → w.usage ≡ usage → w.dirty ≡ dirty → w.chunk ≡ chunk
     → GoesUpTo most d d' v (record { map = w.map; usage = usage; dirty = dirty; chunk = chunk }) n → GoesUpTo most d d' v w n
 goes_to most d d' v w usage dirty chunk n u t c goes =
     subst (λ (x : Chunk). GoesUpTo most d d' v (record { map = w.map; usage = w.usage; dirty = w.dirty; chunk = x }) n) (sym c)

@@ -1,5 +1,6 @@
 -- Blocks that come into memory: no block has an address afterwards that it hadn't before.
-use Rattle.std.proofs.Common.{◌≡◌, ◌<◌, ◌≤◌, ◌⊎◌, ⊎_elim, ◌+◌, ◌*◌, ◌/◌, not, ℕ, zero, suc, Bool, false, List, length, Option, Some, refl, sym, ◌∙◌, ap, subst, arith, inl, inr}
+use Rattle.std.proofs.Common.{◌≡◌, ◌<◌, ◌≤◌, ◌⊎◌, ⊎_elim, ◌+◌, ◌*◌, ◌/◌, not, ℕ, zero, suc, Bool, false, List, length, Option, Some, refl}
+use Rattle.std.proofs.Common.{sym, ◌∙◌, ap, subst, arith, inl, inr}
 use Rattle.lfs_model.specs.Checkpoint.{CheckpointValue}
 use Rattle.lfs_model.specs.Content.{Content, block}
 use Rattle.lfs_model.specs.Counting.{segment_of}
@@ -62,7 +63,8 @@ still_traced d d' v k m0 m looks is =
         fresh = w.fresh;
         part = w.part;
         kept = λ i low. subst (λ (c : Content). IsFreeFrom c k i (kept_of v.usage i)) (sym same.content) (w.kept i low);
-        opened = subst (λ (c : Content). IsOpenAt c w.memory (tables_of v) (segment_in v.chunk) (chunk_in v.chunk)) (sym same.content) w.opened;
+        opened = subst (λ (c : Content). IsOpenAt c w.memory (tables_of v) (segment_in v.chunk) (chunk_in v.chunk))
+            (sym same.content) w.opened;
       };
       hidden = is.hidden;
       segments = is.segments;
@@ -70,7 +72,8 @@ still_traced d d' v k m0 m looks is =
     (after, traces_none w.memory)
 
 -- ---- a block of the inode map
-module _ (d : DeviceState) (dirty : Dirty) (t t' : Tables) (k : CheckpointValue) (m0 m : LogMap) (seg : ℕ) (chunk : Option (List Entry)) (j : ℕ) (w : Running d dirty t k m0 m seg chunk) where
+module _ (d : DeviceState) (dirty : Dirty) (t t' : Tables) (k : CheckpointValue) (m0 m : LogMap) (seg : ℕ) (chunk : Option (List Entry))
+    (j : ℕ) (w : Running d dirty t k m0 m seg chunk) where
   abbrev Traced : Type 0
   Traced = (w' : Running d dirty t' k m0 m seg chunk) × HasTraces w.memory w'.memory
 
@@ -87,8 +90,10 @@ module _ (d : DeviceState) (dirty : Dirty) (t t' : Tables) (k : CheckpointValue)
           segments = w.segments;
           settled = w.settled;
           cached = left_cached d dirty t t' k m0 m seg chunk w (Map j) (map_table j) 1 (omega arith);
-          tables = lifted_tables d.content m w.memory seg (Map j) 1 next t t' w.laid was p w.tables (subst (λ (a : ℕ). IsLifted m t t' (Map j) 1 (segment_of a)) (sym same) go);
-          fresh = λ i off low. let no = lifted_fresh m t t' (Map j) 1 (segment_of (t.at (Map j))) go i off in no.1 (w.memory.bytes (Usage i)) (w.fresh i no.0 low);
+          tables = lifted_tables d.content m w.memory seg (Map j) 1 next t t' w.laid was p w.tables
+              (subst (λ (a : ℕ). IsLifted m t t' (Map j) 1 (segment_of a)) (sym same) go);
+          fresh = λ i off low. let no = lifted_fresh m t t' (Map j) 1 (segment_of (t.at (Map j))) go i off in
+              no.1 (w.memory.bytes (Usage i)) (w.fresh i no.0 low);
           part = part_same t t' go.used go.kept w.part;
           kept = kept_same d.content k t t' go.kept w.kept;
           opened = still_open d dirty t t' k m0 m seg chunk w (Map j) (map_table j) 1 (omega arith) chunk w.opened go.kept;
@@ -115,7 +120,8 @@ module _ (d : DeviceState) (dirty : Dirty) (t t' : Tables) (k : CheckpointValue)
             live = λ s. go.live s ∙ w.tables.live s ∙ sym (counts (is_shown m) s);
             held = λ s. go.held s ∙ w.tables.held s ∙ sym (counts (is_held m) s);
           };
-          fresh = λ i off low. usage_kept t t' i (w.memory.bytes (Usage i)) (λ q lt. (go.used (64 * i + q), go.live (64 * i + q), go.age (64 * i + q))) (w.fresh i (sym (go.stale i) ∙ off) low);
+          fresh = λ i off low. usage_kept t t' i (w.memory.bytes (Usage i))
+              (λ q lt. (go.used (64 * i + q), go.live (64 * i + q), go.age (64 * i + q))) (w.fresh i (sym (go.stale i) ∙ off) low);
           part = part_same t t' go.used go.kept w.part;
           kept = kept_same d.content k t t' go.kept w.kept;
           opened = still_open d dirty t t' k m0 m seg chunk w (Map j) (map_table j) 1 (omega arith) chunk w.opened go.kept;
@@ -128,14 +134,17 @@ module _ (d : DeviceState) (v v' : LogMemory) (k : CheckpointValue) (m0 m : LogM
   abbrev pub TracedIn : Dirty → Chunk → Type 0
   TracedIn dirty c = (w' : Running d dirty (tables_of v') k m0 m (segment_in c) (chunk_in c)) × HasTraces is.running.memory w'.memory
 
-  pub loose_traced : v'.chunk ≡ v.chunk → v'.map.hidden ≡ v.map.hidden → length v'.usage.segments ≡ length v.usage.segments → TracedIn (blocks_of v'.dirty) v.chunk
+  pub loose_traced : v'.chunk ≡ v.chunk → v'.map.hidden ≡ v.map.hidden → length v'.usage.segments ≡ length v.usage.segments
+      → TracedIn (blocks_of v'.dirty) v.chunk
       → (is' : IsLoose d v' k m0 m) × HasTraces is.running.memory is'.running.memory
   loose_traced chunk hidden size go =
       let there = subst (λ (c : Chunk). TracedIn (blocks_of v'.dirty) c) (sym chunk) go in
-      let after : IsLoose d v' k m0 m = record { running = there.0; hidden = same_hidden v.map v'.map m hidden is.hidden; segments = size ∙ is.segments } in
+      let after : IsLoose d v' k m0 m =
+      record { running = there.0; hidden = same_hidden v.map v'.map m hidden is.hidden; segments = size ∙ is.segments } in
       (after, there.1)
 
-module _ (d : DeviceState) (v v' : LogMemory) (k : CheckpointValue) (m0 m : LogMap) (is : IsLoose d v k m0 m) (j : ℕ) (go : MapLifts v v' j) where
+module _ (d : DeviceState) (v v' : LogMemory) (k : CheckpointValue) (m0 m : LogMap) (is : IsLoose d v k m0 m) (j : ℕ)
+    (go : MapLifts v v' j) where
   fetched_now : 2 ≤ block_in v.map j → (is' : IsLoose d v' k m0 m) × HasTraces is.running.memory is'.running.memory
   fetched_now above =
       let l = go.lifted above in
@@ -180,7 +189,8 @@ gathers_looks d d' v looks = record { used = λ s. refl; kept = λ s. refl; trac
 pub gathers_none : (d : DeviceState) (v v' : LogMemory) → v' ≡ v → Gathers d d v v'
 gathers_none d v v' same = subst (λ (w : LogMemory). Gathers d d v w) (sym same) (gathers_looks d d v (looks_none d))
 
-pub gathers_then : (a b c : DeviceState) (v v' v'' : LogMemory) → (c.keeps_model → b.keeps_model) → Gathers a b v v' → Gathers b c v' v'' → Gathers a c v v''
+pub gathers_then : (a b c : DeviceState) (v v' v'' : LogMemory) → (c.keeps_model → b.keeps_model) → Gathers a b v v' → Gathers b c v' v''
+    → Gathers a c v v''
 gathers_then a b c v v' v'' back one two = record {
   used = λ s. two.used s ∙ one.used s;
   kept = λ s. two.kept s ∙ one.kept s;
@@ -211,8 +221,10 @@ pub map_of_gathers : (d : DeviceState) (v v' : LogMemory) (j : ℕ) → (v' ≡ 
 map_of_gathers d v v' j o = ⊎_elim (λ (same : v' ≡ v). gathers_none d v v' same) (λ (go : MapLifts v v' j). map_gathers d v v' j go) o
 
 pub bring_gathers : (d d' : DeviceState) (v v' : LogMemory) (x : Entry) (f address : ℕ) (lives : Bool) (bytes : List ℕ) → Looks d d'
-    → file_of x ≡ Some f → f < 4096 → IsAtAddress (blocks_of v.dirty) (tables_of v) x address → 2 ≤ address → lives ≡ not (is_hidden_in v.map f)
-    → ((n : ℕ) → x ≡ Inode n → is_hidden_in v.map n ≡ false → block_in v.map (n / 128) ≡ 1) → (d'.keeps_model → bytes ≡ present d.content (blocks_of v.dirty) x address)
+    → file_of x ≡ Some f → f < 4096 → IsAtAddress (blocks_of v.dirty) (tables_of v) x address → 2 ≤ address
+    → lives ≡ not (is_hidden_in v.map f)
+    → ((n : ℕ) → x ≡ Inode n → is_hidden_in v.map n ≡ false → block_in v.map (n / 128) ≡ 1)
+    → (d'.keeps_model → bytes ≡ present d.content (blocks_of v.dirty) x address)
     → Brings v v' x address lives bytes → Gathers d d' v v'
 bring_gathers d d' v v' x f address lives bytes looks file low at above is_lives mapped read go = record {
   used = go.usage.used;
@@ -220,10 +232,13 @@ bring_gathers d d' v v' x f address lives bytes looks file low at above is_lives
   traces = λ k m0 m keeps is.
       let first = still_traced d d' v k m0 m looks is in
       let now = first.0 in
-      let there : block d'.content address ≡ bytes = ap (λ (c : Content). block c address) looks.untouched.content ∙ sym (read keeps ∙ on_device d.content (blocks_of v.dirty) x address (omega (arith, above))) in
+      let there : block d'.content address ≡ bytes = ap (λ (c : Content). block c address) looks.untouched.content
+      ∙ sym (read keeps ∙ on_device d.content (blocks_of v.dirty) x address (omega (arith, above))) in
       let second = loose_traced d' v v' k m0 m now go.chunk go.hidden go.usage.size
-      (fetching_traces d' (blocks_of v.dirty) (blocks_of v'.dirty) (tables_of v) (tables_of v') k m0 m (segment_in v.chunk) (chunk_in v.chunk) x address bytes
-      now.running (f, file) at above there (is_named d' v k m0 m now x f address lives file low at above is_lives v' bytes go there mapped) go.dirty
+      (fetching_traces d' (blocks_of v.dirty) (blocks_of v'.dirty) (tables_of v) (tables_of v') k m0 m (segment_in v.chunk)
+      (chunk_in v.chunk) x address bytes
+      now.running (f, file) at above there (is_named d' v k m0 m now x f address lives file low at above is_lives v' bytes go there mapped)
+      go.dirty
       (is_lifted d' v k m0 m now x f address lives file low at above is_lives v' bytes go)) in
       (second.0, traces_then is.running.memory now.running.memory second.0.running.memory first.1 second.1);
 }

@@ -21,12 +21,14 @@ goes_none d v lawful memory = record {
   quiet = λ k m0 m keeps is. started d (λ c. StandsOn k.segments c m0) lawful (settled_stands d k m0 is.running.settled);
 }
 
-quiet_then : (p : ℕ) (a b c : DeviceState) (v v' : LogMemory) (n : ℕ) → GoesUpTo p a b v v' n → (c.keeps_model → b.keeps_model) → Quiet b c v' → Quiet a c v
+quiet_then : (p : ℕ) (a b c : DeviceState) (v v' : LogMemory) (n : ℕ) → GoesUpTo p a b v v' n → (c.keeps_model → b.keeps_model)
+    → Quiet b c v' → Quiet a c v
 quiet_then p a b c v v' n one back quiet k m0 m keeps is =
     let P : Content → Type 0 = λ x. StandsOn k.segments x m0 in
     joined a b c P P P (one.quiet k m0 m (back keeps) is) (quiet k m0 m keeps (one.log k m0 m (back keeps) is)) (λ x h. h) (λ x h. h)
 
-pub goes_then : (p q : ℕ) (a b c : DeviceState) (v v' v'' : LogMemory) (n l : ℕ) → GoesUpTo p a b v v' n → GoesUpTo q b c v' v'' l → GoesUpTo q a c v v'' (n + l)
+pub goes_then : (p q : ℕ) (a b c : DeviceState) (v v' v'' : LogMemory) (n l : ℕ) → GoesUpTo p a b v v' n → GoesUpTo q b c v' v'' l
+    → GoesUpTo q a c v v'' (n + l)
 goes_then p q a b c v v' v'' n l one two = record {
   carries = carries_then a b c one.carries two.carries;
   memory = two.memory;
@@ -53,7 +55,8 @@ goes_at_most a b v v' n l le one = record {
 pub stops_then : (p : ℕ) (a b c : DeviceState) (v v' : LogMemory) (n : ℕ) → GoesUpTo p a b v v' n → Stops b c v' → Stops a c v
 stops_then p a b c v v' n one two = record {
   carries = carries_then a b c one.carries two.carries;
-  cause = λ k m0 m keeps is. (let worse = two.cause k m0 m keeps (one.log k m0 m (two.carries.kept_before keeps) is) in let same = one.no_failure in omega (arith, worse, same));
+  cause = λ k m0 m keeps is. (let worse = two.cause k m0 m keeps (one.log k m0 m (two.carries.kept_before keeps) is) in
+      let same = one.no_failure in omega (arith, worse, same));
   settled = λ k m0 m keeps is. two.settled k m0 m keeps (one.log k m0 m (two.carries.kept_before keeps) is);
   quiet = quiet_then p a b c v v' n one two.carries.kept_before two.quiet;
 }

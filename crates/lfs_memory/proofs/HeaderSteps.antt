@@ -23,7 +23,8 @@ use Rattle.lfs_memory.proofs.LogMaps.{is_with_header}
 use Rattle.lfs_memory.proofs.Looses.{as_memory, tables_same}
 
 -- an inode in memory is one
-pub inode_held : (d : DeviceState) (v : LogMemory) (k : CheckpointValue) (m0 m : LogMap) → IsLoose d v k m0 m → (n : ℕ) (old : List ℕ) → blocks_of v.dirty (Inode n) ≡ Some old → HoldsInode n old
+pub inode_held : (d : DeviceState) (v : LogMemory) (k : CheckpointValue) (m0 m : LogMap) → IsLoose d v k m0 m → (n : ℕ) (old : List ℕ)
+    → blocks_of v.dirty (Inode n) ≡ Some old → HoldsInode n old
 inode_held d v k m0 m is n old there =
     let w = is.running in
     let c = w.cached.cached (Inode n) old there in
@@ -31,10 +32,12 @@ inode_held d v k m0 m is n old there =
     subst (HoldsInode n) c.2 (w.laid.spells (Inode n) (omega (arith, one))).formed
 
 -- the files that are hidden stay so where the one that changes is as nameless as it is hidden
-pub hidden_with : (map map' : MapValue) (m : LogMap) (n : ℕ) (h : Header) → AreHidden map m → (h.links == 0) ≡ is_hidden_in map' n → ((l : ℕ) → (l ≡ n → ⊥) → is_hidden_in map' l ≡ is_hidden_in map l)
+pub hidden_with : (map map' : MapValue) (m : LogMap) (n : ℕ) (h : Header) → AreHidden map m → (h.links == 0) ≡ is_hidden_in map' n
+    → ((l : ℕ) → (l ≡ n → ⊥) → is_hidden_in map' l ≡ is_hidden_in map l)
     → AreHidden map' (with_header m n (Some h))
 hidden_with map map' m n h hidden own others l lt = ⊎_elim
-    (λ (here : l ≡ n). ap (is_nameless (with_header m n (Some h))) here ∙ ap is_unlinked (is_with_header m n (Some h)).own ∙ own ∙ ap (is_hidden_in map') (sym here))
+    (λ (here : l ≡ n). ap (is_nameless (with_header m n (Some h))) here ∙ ap is_unlinked (is_with_header m n (Some h)).own ∙ own
+    ∙ ap (is_hidden_in map') (sym here))
     (λ (ne : l ≡ n → ⊥). ap is_unlinked ((is_with_header m n (Some h)).others l ne) ∙ hidden l lt ∙ sym (others l ne))
     (cases_eq l n)
 
@@ -42,7 +45,8 @@ pub nameless_with : (m : LogMap) (n : ℕ) (h : Header) → is_nameless (with_he
 nameless_with m n h = ap is_unlinked (is_with_header m n (Some h)).own
 
 -- An inode in memory has another header; the file has a name after it where it had one, and its inode map block is to be written then.
-pub header_changed : (d : DeviceState) (v v' : LogMemory) (k : CheckpointValue) (m0 m : LogMap) → IsLoose d v k m0 m → (n : ℕ) → n < 4096 → (kind : Kind) (form links size : ℕ) → FitsHeader kind form links size
+pub header_changed : (d : DeviceState) (v v' : LogMemory) (k : CheckpointValue) (m0 m : LogMap) → IsLoose d v k m0 m → (n : ℕ) → n < 4096
+    → (kind : Kind) (form links size : ℕ) → FitsHeader kind form links size
     → (links == 0) ≡ is_hidden_in v.map n → ((links == 0) ≡ false → block_in v.map (n / 128) ≡ 1)
     → ChangesHeader v v' n kind form links size → IsLoose d v' k m0 (with_header m n (Some (header_with kind form links size)))
 header_changed d v v' k m0 m is n few kind form links size fits same mapped go =
@@ -52,13 +56,16 @@ header_changed d v v' k m0 m is n few kind form links size fits same mapped go =
     let says : header (headed kind form n links size go.old) ≡ h = header_headed n go.old holds kind form links size fits in
     record {
       running = as_memory d (blocks_of v'.dirty) k m0 m' v v' (tables_of v) go.stays.chunk (tables_same v v' go.map go.usage)
-          (header_changing d (blocks_of v.dirty) (blocks_of v'.dirty) (tables_of v) k m0 m m' (segment_in v.chunk) (chunk_in v.chunk) n go.old (headed kind form n links size go.old) is.running go.there
-          (holds_headed n go.old holds kind form links size fits) (λ w high low. headed_words kind form n links size go.old w (omega (arith, high)))
+          (header_changing d (blocks_of v.dirty) (blocks_of v'.dirty) (tables_of v) k m0 m m' (segment_in v.chunk)
+          (chunk_in v.chunk) n go.old (headed kind form n links size go.old) is.running go.there
+          (holds_headed n go.old holds kind form links size fits)
+          (λ w high low. headed_words kind form n links size go.old w (omega (arith, high)))
           (subst (λ (g : Header). IsWithHeader m n (Some g) m') (sym says) (is_with_header m n (Some h)))
           (nameless_with m n h ∙ same ∙ sym (is.hidden n few))
           (λ named. mapped (sym (nameless_with m n h) ∙ named))
           go.changes);
-      hidden = hidden_with v.map v'.map m n h is.hidden (same ∙ ap (λ (a : MapValue). is_hidden_in a n) (sym go.map)) (λ l ne. ap (λ (a : MapValue). is_hidden_in a l) go.map);
+      hidden = hidden_with v.map v'.map m n h is.hidden (same ∙ ap (λ (a : MapValue). is_hidden_in a n) (sym go.map))
+          (λ l ne. ap (λ (a : MapValue). is_hidden_in a l) go.map);
       segments = go.stays.segments ∙ is.segments;
     }
 
@@ -84,7 +91,8 @@ module _ (v v' : LogMemory) (n : ℕ) (kind : Kind) (form links size : ℕ) (go 
   }
 
 -- A file is made under a number that had none; its inode map block is to be written, if it has a name.
-pub file_created : (d : DeviceState) (v v' : LogMemory) (k : CheckpointValue) (m0 m : LogMap) → IsLoose d v k m0 m → (n : ℕ) → 1 ≤ n → n < 4096 → address_in v.map n ≡ 0
+pub file_created : (d : DeviceState) (v v' : LogMemory) (k : CheckpointValue) (m0 m : LogMap) → IsLoose d v k m0 m → (n : ℕ) → 1 ≤ n
+    → n < 4096 → address_in v.map n ≡ 0
     → (kind : Kind) (form links size : ℕ) → FitsHeader kind form links size → ((links == 0) ≡ false → block_in v.map (n / 128) ≡ 1)
     → Creates v v' n kind form links size → IsLoose d v' k m0 (with_header m n (Some (header_with kind form links size)))
 file_created d v v' k m0 m is n some few none kind form links size fits mapped go =
@@ -95,7 +103,8 @@ file_created d v v' k m0 m is n some few none kind form links size fits mapped g
     let says : header bytes ≡ h = header_new n some high kind form links size fits in
     record {
       running = as_memory d (blocks_of v'.dirty) k m0 m' v v' (tables_of v') go.stays.chunk refl
-          (file_creating d (blocks_of v.dirty) (blocks_of v'.dirty) (tables_of v) (tables_of v') k m0 m m' (segment_in v.chunk) (chunk_in v.chunk) n bytes is.running none
+          (file_creating d (blocks_of v.dirty) (blocks_of v'.dirty) (tables_of v) (tables_of v') k m0 m m' (segment_in v.chunk)
+          (chunk_in v.chunk) n bytes is.running none
           (holds_new n some high kind form links size fits) (λ w low up. new_words kind form n links size w (omega (arith, low)))
           (subst (λ (g : Header). IsWithHeader m n (Some g) m') (sym says) (is_with_header m n (Some h)))
           (λ named. mapped (sym (nameless_with m n h) ∙ named))

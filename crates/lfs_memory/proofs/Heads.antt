@@ -1,5 +1,6 @@
 -- Inodes with another header.
-use Rattle.std.proofs.Common.{◌≡◌, ◌<◌, ◌≤◌, ◌+◌, ◌*◌, ◌-◌, ℕ, zero, suc, List, [], ◌∷◌, ◌++◌, length, take, drop, get_or, refl, sym, ◌∙◌, ap, arith}
+use Rattle.std.proofs.Common.{◌≡◌, ◌<◌, ◌≤◌, ◌+◌, ◌*◌, ◌-◌, ℕ, zero, suc, List, [], ◌∷◌, ◌++◌, length, take, drop, get_or, refl, sym, ◌∙◌}
+use Rattle.std.proofs.Common.{ap, arith}
 use Rattle.std.specs.Prelude.{replicate}
 use Rattle.std.proofs.lemmas.List.{append-nil}
 use Rattle.lfs_model.specs.declared.Kind.{Kind}
@@ -33,7 +34,8 @@ module _ (a f : ℕ) (l s z : ℕ) (r : List ℕ) where
 abbrev tail : InodeValue → List ℕ
 tail i = zeros 16 ++ (words i.direct ++ (le32 i.single ++ (le32 i.double ++ (zeros 24 ++ []))))
 
-sector_is : (i : InodeValue) → inode_sector i ≡ (kind_byte i.kind ∷ []) ++ (i.form ∷ []) ++ zeros 2 ++ le32 i.number ++ le32 i.links ++ le32 i.size ++ tail i
+sector_is : (i : InodeValue) → inode_sector i ≡ (kind_byte i.kind ∷ []) ++ (i.form ∷ []) ++ zeros 2 ++ le32 i.number ++ le32 i.links
+    ++ le32 i.size ++ tail i
 unfolding inode_sector zeros le32
 sector_is i = refl
 
@@ -43,14 +45,16 @@ tail_is i = ap (drop 16) (sector_is i) ∙ past (kind_byte i.kind) i.form i.numb
 abbrev relabeled : InodeValue → Kind → ℕ → ℕ → ℕ → InodeValue
 relabeled i kind form links size = record i { kind = kind; form = form; links = links; size = size }
 
-headed_sector : (i : InodeValue) (kind : Kind) (form n links size : ℕ) (bytes : List ℕ) → i.number ≡ n → drop 16 bytes ≡ tail i → headed kind form n links size bytes ≡ inode_sector (relabeled i kind form links size)
+headed_sector : (i : InodeValue) (kind : Kind) (form n links size : ℕ) (bytes : List ℕ) → i.number ≡ n → drop 16 bytes ≡ tail i
+    → headed kind form n links size bytes ≡ inode_sector (relabeled i kind form links size)
 headed_sector i kind form n links size bytes own is =
     ap (λ (r : List ℕ). (kind_byte kind ∷ []) ++ (form ∷ []) ++ zeros 2 ++ le32 n ++ le32 links ++ le32 size ++ r) is
     ∙ ap (λ (l : ℕ). (kind_byte kind ∷ []) ++ (form ∷ []) ++ zeros 2 ++ le32 l ++ le32 links ++ le32 size ++ tail i) (sym own)
     ∙ sym (sector_is (relabeled i kind form links size))
 
 -- an inode with another header is one
-pub holds_headed : (n : ℕ) (old : List ℕ) → HoldsInode n old → (kind : Kind) (form links size : ℕ) → FitsHeader kind form links size → HoldsInode n (headed kind form n links size old)
+pub holds_headed : (n : ℕ) (old : List ℕ) → HoldsInode n old → (kind : Kind) (form links size : ℕ) → FitsHeader kind form links size
+    → HoldsInode n (headed kind form n links size old)
 holds_headed n old holds kind form links size fits = record {
   value = relabeled holds.value kind form links size;
   spelt = headed_sector holds.value kind form n links size old holds.own (ap (drop 16) holds.spelt ∙ tail_is holds.value);
@@ -76,23 +80,29 @@ dropped : (k m : ℕ) (bs : List ℕ) → k ≤ m → drop (m - k) (drop k bs) �
 dropped zero m bs le = ap (λ (j : ℕ). drop j bs) (let e : m - 0 ≡ m = omega arith in e)
 dropped (suc k) zero bs le = absurd (omega (arith, le))
 dropped (suc k) (suc m) [] le = drop_none (suc m - suc k)
-dropped (suc k) (suc m) (b ∷ bs) le = ap (λ (j : ℕ). drop j (drop k bs)) (let e : suc m - suc k ≡ m - k = omega arith in e) ∙ dropped k m bs (omega (arith, le))
+dropped (suc k) (suc m) (b ∷ bs) le = ap (λ (j : ℕ). drop j (drop k bs)) (let e : suc m - suc k ≡ m - k = omega arith in e)
+    ∙ dropped k m bs (omega (arith, le))
 
 -- past its header it is as it was
-pub headed_words : (kind : Kind) (form n links size : ℕ) (old : List ℕ) (w : ℕ) → 4 ≤ w → word (headed kind form n links size old) w ≡ word old w
+pub headed_words : (kind : Kind) (form n links size : ℕ) (old : List ℕ) (w : ℕ) → 4 ≤ w
+    → word (headed kind form n links size old) w ≡ word old w
 unfolding word read32 part
 headed_words kind form n links size old w high =
-    ap (λ (b : List ℕ). number_of (take 4 b)) (past (kind_byte kind) form n links size (drop 16 old) (4 * w) (omega (arith, high)) ∙ dropped 16 (4 * w) old (omega (arith, high)))
+    ap (λ (b : List ℕ). number_of (take 4 b))
+    (past (kind_byte kind) form n links size (drop 16 old) (4 * w) (omega (arith, high)) ∙ dropped 16 (4 * w) old (omega (arith, high)))
 
-pub header_headed : (n : ℕ) (old : List ℕ) → HoldsInode n old → (kind : Kind) (form links size : ℕ) → FitsHeader kind form links size → header (headed kind form n links size old) ≡ header_with kind form links size
+pub header_headed : (n : ℕ) (old : List ℕ) → HoldsInode n old → (kind : Kind) (form links size : ℕ) → FitsHeader kind form links size
+    → header (headed kind form n links size old) ≡ header_with kind form links size
 unfolding holds_headed
-header_headed n old holds kind form links size fits = header_holds n (headed kind form n links size old) (holds_headed n old holds kind form links size fits)
+header_headed n old holds kind form links size fits =
+    header_holds n (headed kind form n links size old) (holds_headed n old holds kind form links size fits)
 
 -- ---- a new inode, whose pointers are 0
 zeros_then : (a b : ℕ) → zeros (a + b) ≡ zeros a ++ zeros b
 unfolding zeros
 zeros_then zero b = ap (λ (n : ℕ). replicate n 0) (let e : 0 + b ≡ b = omega arith in e)
-zeros_then (suc a) b = ap (λ (n : ℕ). replicate n 0) (let e : suc a + b ≡ suc (a + b) = omega arith in e) ∙ ap (λ (l : List ℕ). 0 ∷ l) (zeros_then a b)
+zeros_then (suc a) b = ap (λ (n : ℕ). replicate n 0) (let e : suc a + b ≡ suc (a + b) = omega arith in e)
+    ∙ ap (λ (l : List ℕ). 0 ∷ l) (zeros_then a b)
 
 four : le32 0 ≡ zeros 4
 unfolding le32 zeros
@@ -101,11 +111,13 @@ four = refl
 no_words : (n : ℕ) → words (replicate n 0) ≡ zeros (4 * n)
 unfolding words zeros
 no_words zero = refl
-no_words (suc n) = ap (λ (l : List ℕ). le32 0 ++ l) (no_words n) ∙ ap (λ (l : List ℕ). l ++ zeros (4 * n)) four ∙ sym (zeros_then 4 (4 * n)) ∙ ap zeros (let e : 4 + 4 * n ≡ 4 * suc n = omega arith in e)
+no_words (suc n) = ap (λ (l : List ℕ). le32 0 ++ l) (no_words n) ∙ ap (λ (l : List ℕ). l ++ zeros (4 * n)) four ∙ sym (zeros_then 4 (4 * n))
+    ∙ ap zeros (let e : 4 + 4 * n ≡ 4 * suc n = omega arith in e)
 
 -- the inode of a new file, but for its header
 abbrev new_inode : Kind → ℕ → ℕ → ℕ → ℕ → InodeValue
-new_inode kind form n links size = record { kind = kind; form = form; number = n; links = links; size = size; direct = replicate 112 0; single = 0; double = 0 }
+new_inode kind form n links size =
+    record { kind = kind; form = form; number = n; links = links; size = size; direct = replicate 112 0; single = 0; double = 0 }
 
 new_tail : (kind : Kind) (form n links size : ℕ) → drop 16 (zeros 512) ≡ tail (new_inode kind form n links size)
 new_tail kind form n links size =
@@ -124,7 +136,8 @@ length_same : (n : ℕ) → length {A = ℕ} (replicate n 0) ≡ n
 length_same zero = refl
 length_same (suc n) = ap (λ (k : ℕ). suc k) (length_same n)
 
-pub holds_new : (n : ℕ) → 1 ≤ n → n ≤ 4095 → (kind : Kind) (form links size : ℕ) → FitsHeader kind form links size → HoldsInode n (headed kind form n links size (zeros 512))
+pub holds_new : (n : ℕ) → 1 ≤ n → n ≤ 4095 → (kind : Kind) (form links size : ℕ) → FitsHeader kind form links size
+    → HoldsInode n (headed kind form n links size (zeros 512))
 unfolding Are32
 holds_new n low high kind form links size fits = record {
   value = new_inode kind form n links size;
@@ -143,9 +156,11 @@ holds_new n low high kind form links size fits = record {
   own = refl;
 }
 
-pub header_new : (n : ℕ) → 1 ≤ n → n ≤ 4095 → (kind : Kind) (form links size : ℕ) → FitsHeader kind form links size → header (headed kind form n links size (zeros 512)) ≡ header_with kind form links size
+pub header_new : (n : ℕ) → 1 ≤ n → n ≤ 4095 → (kind : Kind) (form links size : ℕ) → FitsHeader kind form links size
+    → header (headed kind form n links size (zeros 512)) ≡ header_with kind form links size
 unfolding holds_new
-header_new n low high kind form links size fits = header_holds n (headed kind form n links size (zeros 512)) (holds_new n low high kind form links size fits)
+header_new n low high kind form links size fits =
+    header_holds n (headed kind form n links size (zeros 512)) (holds_new n low high kind form links size fits)
 
 pub new_words : (kind : Kind) (form n links size w : ℕ) → 4 ≤ w → word (headed kind form n links size (zeros 512)) w ≡ 0
 new_words kind form n links size w high = headed_words kind form n links size (zeros 512) w high ∙ word_zeros 512 w

@@ -15,4 +15,5 @@ low_by (suc (suc (suc r))) f i n q low is = absurd cc
 
 -- leaves are few
 pub leaf_low : (c : ℕ) → IsCode c → (n q : ℕ) → entry_at c ≡ Leaf n q → q ≤ 128
-leaf_low c is n q leaf = low_by (c / 134217728) (c / 32768 % 4096) (c % 32768) n q (λ one. is.leaf_index (omega (arith, one)) (omega (arith, one))) leaf
+leaf_low c is n q leaf =
+    low_by (c / 134217728) (c / 32768 % 4096) (c % 32768) n q (λ one. is.leaf_index (omega (arith, one)) (omega (arith, one))) leaf

@@ -48,7 +48,8 @@ module _ (d : DeviceState) (v : LogMemory) (k : CheckpointValue) (m0 m : LogMap)
     there = let at = inode_at d v k m0 m is n in omega (arith, at, some)
 
     leaf_at : (q : ℕ) → q ≤ 128 → leaf_now d.content dirty n inode q ≡ M.at (Leaf n q)
-    leaf_at q low = ap (λ (b : List ℕ). leaf_now d.content dirty n b q) bytes ∙ leaf_is d.content m M (segment_in v.chunk) dirty laid is.running.cached n there q low
+    leaf_at q low = ap (λ (b : List ℕ). leaf_now d.content dirty n b q) bytes
+        ∙ leaf_is d.content m M (segment_in v.chunk) dirty laid is.running.cached n there q low
 
     double_at : M.at (Double n) ≡ word inode 121
     double_at = sym (laid.spells (Inode n) there).double ∙ ap (λ (b : List ℕ). word b 121) (sym bytes)
@@ -76,31 +77,39 @@ module _ (a b : DeviceState) (v : LogMemory) (n q : ℕ) (inode : List ℕ) (som
     where
       by : (q : ℕ) → (q ≡ 0 → ⊥) → is.running.memory.at (Leaf n q) ≡ 0
       by zero later = absurd (later refl)
-      by (suc q) later = below_none a v k m0 m is (Leaf n (suc q)) (double_at a v k m0 m is n inode some (bytes_are k m0 m keeps is) ∙ sym found ∙ none)
+      by (suc q) later =
+          below_none a v k m0 m is (Leaf n (suc q)) (double_at a v k m0 m is n inode some (bytes_are k m0 m keeps is) ∙ sym found ∙ none)
 
 -- and then the double root
-module _ (a b c : DeviceState) (v : LogMemory) (n q : ℕ) (inode : List ℕ) (root : ℕ) (x : Entry) (one : Looks a b) (two : Looks b c) (some : 0 < address_in v.map n)
-    (read : b.keeps_model → inode ≡ present a.content (blocks_of v.dirty) (Inode n) (address_in v.map n)) (at : root ≡ word inode 121) (named : x ≡ Double n) where
-  pub leaf_found : (address : ℕ) (out : List ℕ) → (q ≡ 0 → ⊥) → q ≤ 128 → (c.keeps_model → out ≡ present b.content (blocks_of v.dirty) x root) → address ≡ word out (q - 1) → AnswersAddress a c v (Leaf n q) address
+module _ (a b c : DeviceState) (v : LogMemory) (n q : ℕ) (inode : List ℕ) (root : ℕ) (x : Entry) (one : Looks a b) (two : Looks b c)
+    (some : 0 < address_in v.map n)
+    (read : b.keeps_model → inode ≡ present a.content (blocks_of v.dirty) (Inode n) (address_in v.map n)) (at : root ≡ word inode 121)
+    (named : x ≡ Double n) where
+  pub leaf_found : (address : ℕ) (out : List ℕ) → (q ≡ 0 → ⊥) → q ≤ 128 → (c.keeps_model
+      → out ≡ present b.content (blocks_of v.dirty) x root) → address ≡ word out (q - 1) → AnswersAddress a c v (Leaf n q) address
   leaf_found address out later low below found k m0 m keeps is = by q later low found
     where
       out_is : out ≡ present a.content (blocks_of v.dirty) (Double n) (word inode 121)
       out_is = below keeps ∙ ap (λ (y : Entry). present b.content (blocks_of v.dirty) y root) named
-          ∙ ap (λ (e : Content). present e (blocks_of v.dirty) (Double n) root) one.untouched.content ∙ ap (present a.content (blocks_of v.dirty) (Double n)) at
+          ∙ ap (λ (e : Content). present e (blocks_of v.dirty) (Double n) root) one.untouched.content
+          ∙ ap (present a.content (blocks_of v.dirty) (Double n)) at
 
       by : (q : ℕ) → (q ≡ 0 → ⊥) → q ≤ 128 → address ≡ word out (q - 1) → is.running.memory.at (Leaf n q) ≡ address
       by zero later low found = absurd (later refl)
       by (suc q) later low found =
           let same : suc q - 1 ≡ q = omega arith in
-          sym (leaf_at a v k m0 m is n inode some (bytes_are a b v n q inode some read k m0 m (two.carries.kept_before keeps) is) (suc q) low)
+          sym (leaf_at a v k m0 m is n inode some (bytes_are a b v n q inode some read k m0 m (two.carries.kept_before keeps) is)
+          (suc q) low)
           ∙ sym (found ∙ ap (word out) same ∙ ap (λ (b : List ℕ). word b q) out_is)
 
-  pub leaf_failed : (root ≡ 0 → ⊥) → (c.keeps_model → (b.failures < c.failures) ⊎ IsMissing b.content (blocks_of v.dirty) x root) → FailsFromDevice a c v
+  pub leaf_failed : (root ≡ 0 → ⊥) → (c.keeps_model → (b.failures < c.failures) ⊎ IsMissing b.content (blocks_of v.dirty) x root)
+      → FailsFromDevice a c v
   leaf_failed later unread k m0 m keeps is = ⊎_elim
       (λ (failed : b.failures < c.failures). excused_then a b c v one two failed k m0 m keeps is)
       (λ (missing : IsMissing b.content (blocks_of v.dirty) x root).
       absurd (not_missing a v k m0 m is x root (subst IsOfFile (sym named) (n, refl))
-      (ap is.running.memory.at named ∙ double_at a v k m0 m is n inode some (bytes_are a b v n q inode some read k m0 m (two.carries.kept_before keeps) is) ∙ sym at) (omega (arith, later))
+      (ap is.running.memory.at named ∙ double_at a v k m0 m is n inode some
+      (bytes_are a b v n q inode some read k m0 m (two.carries.kept_before keeps) is) ∙ sym at) (omega (arith, later))
       (subst (λ (e : Content). IsMissing e (blocks_of v.dirty) x root) one.untouched.content missing)))
       (unread keeps)
 
@@ -112,6 +121,7 @@ root_none d d' v n none k m0 m keeps is = below_none d v k m0 m is (Double n) (�
     none)
 
 pub root_found : (a b : DeviceState) (v : LogMemory) (n : ℕ) (inode : List ℕ) (address : ℕ) → 0 < address_in v.map n
-    → (b.keeps_model → inode ≡ present a.content (blocks_of v.dirty) (Inode n) (address_in v.map n)) → address ≡ word inode 121 → AnswersAddress a b v (Double n) address
+    → (b.keeps_model → inode ≡ present a.content (blocks_of v.dirty) (Inode n) (address_in v.map n)) → address ≡ word inode 121
+    → AnswersAddress a b v (Double n) address
 root_found a b v n inode address some read found k m0 m keeps is =
     double_at a v k m0 m is n inode some (inode_bytes a v k m0 m is n inode some (read keeps)) ∙ sym found

@@ -16,14 +16,17 @@ use Rattle.lfs_memory.proofs.Lifted.{on_device}
 pub lent_looks : (d d' : DeviceState) (a : ℕ) (r : Result (Bor (List ℕ)) ReadFault) → OnlyReads d d' a r → Looks d d'
 lent_looks d d' a r reads = record { untouched = reads.untouched; carries = reads.carries; time = reads.time; told = reads.told }
 
-pub lent_present : (content : Content) (dirty : Dirty) (x : Entry) (a : ℕ) (bytes : List ℕ) → 2 ≤ a → cell_at content a ≡ Some bytes → bytes ≡ present content dirty x a
+pub lent_present : (content : Content) (dirty : Dirty) (x : Entry) (a : ℕ) (bytes : List ℕ) → 2 ≤ a → cell_at content a ≡ Some bytes
+    → bytes ≡ present content dirty x a
 lent_present content dirty x a bytes above is =
     sym (on_device content dirty x a (λ one. omega (arith, one, above)) ∙ block_at content a (omega (arith, above)) ∙ ap bytes_of is)
 
 -- one that it doesn't lend, and one past its end
-pub lent_missing : (d d' : DeviceState) (dirty : Dirty) (x : Entry) (a : ℕ) (f : ReadFault) → 2 ≤ a → OnlyReads {A = Bor (List ℕ)} d d' a (Err f) → d'.keeps_model
+pub lent_missing : (d d' : DeviceState) (dirty : Dirty) (x : Entry) (a : ℕ) (f : ReadFault) → 2 ≤ a
+    → OnlyReads {A = Bor (List ℕ)} d d' a (Err f) → d'.keeps_model
     → (d.failures < d'.failures) ⊎ IsMissing d.content dirty x a
-lent_missing d d' dirty x a kind.Unreadable above reads keeps = inr (record { inside = λ one. absurd (omega (arith, one, above)); outside = λ ne. reads.unreadable refl keeps })
+lent_missing d d' dirty x a kind.Unreadable above reads keeps =
+    inr (record { inside = λ one. absurd (omega (arith, one, above)); outside = λ ne. reads.unreadable refl keeps })
 lent_missing d d' dirty x a kind.Failed above reads keeps = inl (reads.failed refl)
 
 pub past_missing : (d : DeviceState) (dirty : Dirty) (x : Entry) (a : ℕ) → IsLawful d → 2 ≤ a → d.size ≤ a → IsMissing d.content dirty x a

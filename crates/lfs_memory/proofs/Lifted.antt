@@ -1,5 +1,6 @@
 -- A block that comes into memory, or an inode map block that will be written: the log map stays.
-use Rattle.std.proofs.Common.{◌≡◌, ◌<◌, ◌≤◌, ◌⊎◌, ⊎_elim, ◌+◌, ◌*◌, ◌/◌, ◌%◌, ◌==◌, cond, not, ℕ, zero, suc, Bool, true, false, List, length, Some, None, refl, sym, ◌∙◌, ap, ap₂, subst, arith, inl, inr}
+use Rattle.std.proofs.Common.{◌≡◌, ◌<◌, ◌≤◌, ◌⊎◌, ⊎_elim, ◌+◌, ◌*◌, ◌/◌, ◌%◌, ◌==◌, cond, not, ℕ, zero, suc, Bool, true, false, List}
+use Rattle.std.proofs.Common.{length, Some, None, refl, sym, ◌∙◌, ap, ap₂, subst, arith, inl, inr}
 use Rattle.std.specs.Prelude.{get_or, Option, option_map}
 use Rattle.std.proofs.lemmas.Bool.{cases_eq, cond-false}
 use Rattle.std.proofs.lemmas.Bool.Decides.{nat_tests}
@@ -10,7 +11,8 @@ use Rattle.lfs_model.specs.Counting.{segment_of}
 use Rattle.lfs_model.specs.Device.{DeviceState, IsLawful}
 use Rattle.lfs_model.specs.Entry.{Entry, Data, Leaf, Double, Inode, Map, Usage, word}
 use Rattle.lfs_model.specs.Fields.{read32}
-use Rattle.lfs_model.specs.Memory.{Memory, parent, pointer, patched, file_of, IsOfFile, is_shown, is_held, is_nameless, is_unlinked, count_of, shown}
+use Rattle.lfs_model.specs.Memory.{Memory, parent, pointer, patched, file_of, IsOfFile, is_shown, is_held, is_nameless, is_unlinked}
+use Rattle.lfs_model.specs.Memory.{count_of, shown}
 use Rattle.lfs_model.specs.Running.{Dirty, Tables, Running, IsLifted, IsAddressed, CountsDown}
 use Rattle.lfs_model.specs.Staging.{IsAtAddress, Fetches}
 use Rattle.lfs_model.specs.Stands.{LogMap}
@@ -33,13 +35,15 @@ use Rattle.lfs_memory.proofs.Presents.{looks_none, looks_then, still_log, not_mi
 use Rattle.lfs_memory.proofs.Stales.{stays_stale}
 
 -- ---- a block that came stays in memory, and so does what was there
-pub brought : (v v' : LogMemory) (x : Entry) (bytes : List ℕ) → Fetches (blocks_of v.dirty) (blocks_of v'.dirty) x bytes → (y : Entry) → IsInMemory v y → IsInMemory v' y
+pub brought : (v v' : LogMemory) (x : Entry) (bytes : List ℕ) → Fetches (blocks_of v.dirty) (blocks_of v'.dirty) x bytes → (y : Entry)
+    → IsInMemory v y → IsInMemory v' y
 brought v v' x bytes fetch y was = ⊎_elim
     (λ (here : y ≡ x). (bytes, ap (blocks_of v'.dirty) here ∙ fetch.own))
     (λ (ne : y ≡ x → ⊥). ⊎_elim
     (λ (up : y ≡ parent x). (
       patched (pointer x) 1 was.0,
-      ap (blocks_of v'.dirty) up ∙ fetch.patched (λ h. ne (up ∙ h)) ∙ ap (option_map (patched (pointer x) 1)) (ap (blocks_of v.dirty) (sym up) ∙ was.1),
+      ap (blocks_of v'.dirty) up ∙ fetch.patched (λ h. ne (up ∙ h))
+          ∙ ap (option_map (patched (pointer x) 1)) (ap (blocks_of v.dirty) (sym up) ∙ was.1),
     ))
     (λ (np : y ≡ parent x → ⊥). (was.0, fetch.kept y ne np ∙ was.1))
     (same_entry y (parent x)))
@@ -63,8 +67,10 @@ top_is_inode (Map j) file top = absurd (map_table j file)
 top_is_inode (Usage j) file top = absurd (usage_table j file)
 
 -- ---- memory
-pub kept_memory : (v v' : LogMemory) → IsMemory v → length v'.usage.segments ≡ length v.usage.segments → v'.chunk ≡ v.chunk → ((s : ℕ) → used_of v'.usage s ≡ used_of v.usage s)
-    → ((s : ℕ) → kept_of v'.usage s ≡ kept_of v.usage s) → v'.usage.last ≡ v.usage.last → ((j : ℕ) → address_of v'.usage j ≡ address_of v.usage j) → ((j : ℕ) → stale_of v.usage j ≡ true → stale_of v'.usage j ≡ true)
+pub kept_memory : (v v' : LogMemory) → IsMemory v → length v'.usage.segments ≡ length v.usage.segments → v'.chunk ≡ v.chunk
+    → ((s : ℕ) → used_of v'.usage s ≡ used_of v.usage s)
+    → ((s : ℕ) → kept_of v'.usage s ≡ kept_of v.usage s) → v'.usage.last ≡ v.usage.last
+    → ((j : ℕ) → address_of v'.usage j ≡ address_of v.usage j) → ((j : ℕ) → stale_of v.usage j ≡ true → stale_of v'.usage j ≡ true)
     → v'.dirty.capacity ≡ v.dirty.capacity → IsMemory v'
 kept_memory v v' memory size chunk used kept last address stale capacity = record {
   count = let c = memory.count in record {
@@ -78,7 +84,8 @@ kept_memory v v' memory size chunk used kept last address stale capacity = recor
       record {
         inside = let i = o.inside in omega (arith, i, s, size);
         used = ap (used_of v'.usage) s ∙ used v.chunk.segment ∙ o.used ∙ sym (ap (λ (c : Chunk). c.start + suc (length c.names)) chunk);
-        free = let a = ap (kept_of v'.usage) s in let k = kept v.chunk.segment in let f = o.free in let c = ap (λ (c : Chunk). c.start) chunk in omega (arith, a, k, f, c);
+        free = let a = ap (kept_of v'.usage) s in let k = kept v.chunk.segment in let f = o.free in
+            let c = ap (λ (c : Chunk). c.start) chunk in omega (arith, a, k, f, c);
         last = last ∙ o.last ∙ ap (λ (n : ℕ). Some n) (sym s);
       };
   short = subst (λ (c : Chunk). 0 < length c.names → c.start + length c.names ≤ 62) (sym chunk) memory.short;
@@ -94,8 +101,10 @@ pub same_hidden : (map map' : MapValue) (m : LogMap) → map'.hidden ≡ map.hid
 same_hidden map map' m e is n low = is n low ∙ ap (λ (l : List Bool). get_or l n false) (sym e)
 
 -- ---- a block of a file
-module _ (d : DeviceState) (v : LogMemory) (k : CheckpointValue) (m0 m : LogMap) (is : IsLoose d v k m0 m) (x : Entry) (f address : ℕ) (lives : Bool)
-    (file : file_of x ≡ Some f) (low : f < 4096) (at : IsAtAddress (blocks_of v.dirty) (tables_of v) x address) (above : 2 ≤ address) (is_lives : lives ≡ not (is_hidden_in v.map f)) where
+module _ (d : DeviceState) (v : LogMemory) (k : CheckpointValue) (m0 m : LogMap) (is : IsLoose d v k m0 m) (x : Entry) (f address : ℕ)
+    (lives : Bool)
+    (file : file_of x ≡ Some f) (low : f < 4096) (at : IsAtAddress (blocks_of v.dirty) (tables_of v) x address) (above : 2 ≤ address)
+    (is_lives : lives ≡ not (is_hidden_in v.map f)) where
   abbrev M : Memory
   M = is.running.memory
 
@@ -115,16 +124,19 @@ module _ (d : DeviceState) (v : LogMemory) (k : CheckpointValue) (m0 m : LogMap)
   counted_by : (test : Entry → Bool) → test x ≡ true → 0 < count_of test M (segment_of address)
   counted_by test on =
       let up : 2 ≤ M.at x = let s = stands_at in omega (arith, above, s) in
-      let c = (taken_counts d.content m M (segment_in v.chunk) x 1 (taken_memory M x 1 M.bytes) is.running.laid up (is_taken M x 1 M.bytes (omega arith)) test).0 on in
+      let c = (taken_counts d.content m M (segment_in v.chunk) x 1 (taken_memory M x 1 M.bytes) is.running.laid up
+      (is_taken M x 1 M.bytes (omega arith)) test).0 on in
       let e = ap (λ (a : ℕ). count_of test M (segment_of a)) stands_at in
       omega (arith, c, e)
 
   pub is_counted : IsCountedAbove v.usage address lives
   is_counted = record {
     above = above;
-    inside = let s = stands_at in let w = is.running.laid.within x (omega (arith, above, s)) in let n = is.running.segments in let l = is.segments in omega (arith, s, w, n, l, above);
+    inside = let s = stands_at in let w = is.running.laid.within x (omega (arith, above, s)) in let n = is.running.segments in
+        let l = is.segments in omega (arith, s, w, n, l, above);
     live = λ on. let c = counted_by (is_shown m) (shows ∙ on) in let e = is.running.tables.live (segment_of address) in omega (arith, c, e);
-    held = λ off. let c = counted_by (is_held m) (ap not (shows ∙ off)) in let e = is.running.tables.held (segment_of address) in omega (arith, c, e);
+    held = λ off. let c = counted_by (is_held m) (ap not (shows ∙ off)) in let e = is.running.tables.held (segment_of address) in
+        omega (arith, c, e);
   }
 
   pub is_read : IsMissing d.content (blocks_of v.dirty) x address → ⊥
@@ -174,23 +186,12 @@ module _ (d : DeviceState) (v : LogMemory) (k : CheckpointValue) (m0 m : LogMap)
       pub log_brought : IsLoose d v' k m0 m
       log_brought = record {
         running = with_chunk d (blocks_of v'.dirty) (tables_of v') k m0 m v.chunk v'.chunk go.chunk
-            (fetching d (blocks_of v.dirty) (blocks_of v'.dirty) (tables_of v) (tables_of v') k m0 m (segment_in v.chunk) (chunk_in v.chunk) x address bytes
+            (fetching d (blocks_of v.dirty) (blocks_of v'.dirty) (tables_of v) (tables_of v') k m0 m (segment_in v.chunk)
+            (chunk_in v.chunk) x address bytes
             is.running of_file at above there is_named go.dirty is_lifted);
         hidden = same_hidden v.map v'.map m go.hidden is.hidden;
         segments = go.usage.size ∙ is.segments;
       }
-
--- a data block that is replaced unread
-pub log_replaced : (d : DeviceState) (v v' : LogMemory) (k : CheckpointValue) (m0 m m' : LogMap) (n i address : ℕ) (lives : Bool) (bytes : List ℕ) → IsLoose d v k m0 m → n < 4096
-    → IsAtAddress (blocks_of v.dirty) (tables_of v) (Data n i) address → 2 ≤ address → lives ≡ not (is_hidden_in v.map n) → Brings v v' (Data n i) address lives bytes
-    → length bytes ≡ 512 → IsWithBlock m n i bytes m' → IsLoose d v' k m0 m'
-log_replaced d v v' k m0 m m' n i address lives bytes is low at above is_lives go long map = record {
-  running = with_chunk d (blocks_of v'.dirty) (tables_of v') k m0 m' v.chunk v'.chunk go.chunk
-      (block_replacing d (blocks_of v.dirty) (blocks_of v'.dirty) (tables_of v) (tables_of v') k m0 m m' (segment_in v.chunk) (chunk_in v.chunk) n i address bytes
-      is.running at above long map go.dirty (is_lifted d v k m0 m is (Data n i) n address lives refl low at above is_lives v' bytes go));
-  hidden = λ f few. ap is_unlinked (map.header f) ∙ same_hidden v.map v'.map m go.hidden is.hidden f few;
-  segments = go.usage.size ∙ is.segments;
-}
 
 -- ---- a block of the inode map
 module _ (d : DeviceState) (v : LogMemory) (k : CheckpointValue) (m0 m : LogMap) (is : IsLoose d v k m0 m) (j : ℕ) where
@@ -200,11 +201,14 @@ module _ (d : DeviceState) (v : LogMemory) (k : CheckpointValue) (m0 m : LogMap)
   pub map_counted : 2 ≤ block_in v.map j → IsCountedAbove v.usage (block_in v.map j) true
   map_counted above = record {
     above = above;
-    inside = let s = map_at in let w = is.running.laid.within (Map j) (omega (arith, above, s)) in let n = is.running.segments in let l = is.segments in omega (arith, s, w, n, l, above);
+    inside = let s = map_at in let w = is.running.laid.within (Map j) (omega (arith, above, s)) in let n = is.running.segments in
+        let l = is.segments in omega (arith, s, w, n, l, above);
     live = λ on.
         let s = map_at in
         let up : 2 ≤ is.running.memory.at (Map j) = omega (arith, above, s) in
-        let c = (taken_counts d.content m is.running.memory (segment_in v.chunk) (Map j) 1 (taken_memory is.running.memory (Map j) 1 is.running.memory.bytes) is.running.laid up (is_taken is.running.memory (Map j) 1 is.running.memory.bytes (omega arith)) (is_shown m)).0 refl in
+        let c = (taken_counts d.content m is.running.memory (segment_in v.chunk) (Map j) 1
+        (taken_memory is.running.memory (Map j) 1 is.running.memory.bytes) is.running.laid up
+        (is_taken is.running.memory (Map j) 1 is.running.memory.bytes (omega arith)) (is_shown m)).0 refl in
         let e = ap (λ (a : ℕ). count_of (is_shown m) is.running.memory (segment_of a)) map_at in
         let t = is.running.tables.live (segment_of (block_in v.map j)) in
         omega (arith, c, e, t);
@@ -215,11 +219,13 @@ module _ (d : DeviceState) (v : LogMemory) (k : CheckpointValue) (m0 m : LogMap)
     same_dirty : blocks_of v'.dirty ≡ blocks_of v.dirty
     same_dirty = ap blocks_of go.dirty
 
-    with_dirty : (t : Tables) → Running d (blocks_of v.dirty) t k m0 m (segment_in v.chunk) (chunk_in v.chunk) → Running d (blocks_of v'.dirty) t k m0 m (segment_in v'.chunk) (chunk_in v'.chunk)
+    with_dirty : (t : Tables) → Running d (blocks_of v.dirty) t k m0 m (segment_in v.chunk) (chunk_in v.chunk)
+        → Running d (blocks_of v'.dirty) t k m0 m (segment_in v'.chunk) (chunk_in v'.chunk)
     with_dirty t w = with_chunk d (blocks_of v'.dirty) t k m0 m v.chunk v'.chunk go.chunk
         (subst (λ (dirty : Dirty). Running d dirty t k m0 m (segment_in v.chunk) (chunk_in v.chunk)) (sym same_dirty) w)
 
-    map_tables : ((i : ℕ) → address_of v'.usage i ≡ address_of v.usage i) → (y : Entry) → (y ≡ Map j → ⊥) → (tables_of v').at y ≡ (tables_of v).at y
+    map_tables : ((i : ℕ) → address_of v'.usage i ≡ address_of v.usage i) → (y : Entry) → (y ≡ Map j → ⊥)
+        → (tables_of v').at y ≡ (tables_of v).at y
     map_tables usages (Data n i) ne = refl
     map_tables usages (Leaf n q) ne = refl
     map_tables usages (Double n) ne = refl
@@ -235,7 +241,8 @@ module _ (d : DeviceState) (v : LogMemory) (k : CheckpointValue) (m0 m : LogMap)
     two_or_less (suc zero) = inr (omega arith)
     two_or_less (suc (suc n)) = inl (omega arith)
 
-    with_map : length v'.usage.segments ≡ length v.usage.segments → Running d (blocks_of v.dirty) (tables_of v') k m0 m (segment_in v.chunk) (chunk_in v.chunk) → IsLoose d v' k m0 m
+    with_map : length v'.usage.segments ≡ length v.usage.segments
+        → Running d (blocks_of v.dirty) (tables_of v') k m0 m (segment_in v.chunk) (chunk_in v.chunk) → IsLoose d v' k m0 m
     with_map size w = record {
       running = with_dirty (tables_of v') w;
       hidden = same_hidden v.map v'.map m go.hidden is.hidden;
@@ -245,7 +252,8 @@ module _ (d : DeviceState) (v : LogMemory) (k : CheckpointValue) (m0 m : LogMap)
     fetched : 2 ≤ block_in v.map j → IsLoose d v' k m0 m
     fetched above =
         let l = go.lifted above in
-        with_map l.size (map_fetching d (blocks_of v.dirty) (tables_of v) (tables_of v') k m0 m (segment_in v.chunk) (chunk_in v.chunk) j is.running above
+        with_map l.size (map_fetching d (blocks_of v.dirty) (tables_of v) (tables_of v') k m0 m (segment_in v.chunk)
+        (chunk_in v.chunk) j is.running above
         (record {
           at = map_addressed l.blocks.address;
           used = l.used;
@@ -258,7 +266,8 @@ module _ (d : DeviceState) (v : LogMemory) (k : CheckpointValue) (m0 m : LogMap)
 
     added : block_in v.map j ≡ 0 → IsLoose d v' k m0 m
     added none =
-        with_map (ap (λ (u : UsageTable). length u.segments) (go.added none)) (map_adding d (blocks_of v.dirty) (tables_of v) (tables_of v') k m0 m (segment_in v.chunk) (chunk_in v.chunk) j is.running none
+        with_map (ap (λ (u : UsageTable). length u.segments) (go.added none))
+        (map_adding d (blocks_of v.dirty) (tables_of v) (tables_of v') k m0 m (segment_in v.chunk) (chunk_in v.chunk) j is.running none
         (record {
           at = map_addressed (λ i. ap (λ (u : UsageTable). address_of u i) (go.added none));
           used = λ i. ap (λ (u : UsageTable). used_of u i) (go.added none);
@@ -297,7 +306,8 @@ prepares_looks d d' v lawful memory looks = record {
   log = λ k m0 m keeps is. still_log d d' v k m0 m looks is;
 }
 
-pub prepares_then : (a b c : DeviceState) (v v' v'' : LogMemory) (n l : ℕ) → IsLawful a → Prepares a b v v' n → Prepares b c v' v'' l → Prepares a c v v'' (n + l)
+pub prepares_then : (a b c : DeviceState) (v v' v'' : LogMemory) (n l : ℕ) → IsLawful a → Prepares a b v v' n → Prepares b c v' v'' l
+    → Prepares a c v v'' (n + l)
 prepares_then a b c v v' v'' n l lawful one two =
     let looks = looks_then a b c lawful one.looks two.looks in
     record {
@@ -335,10 +345,8 @@ prepares_at_most a b v v' n l le one = record {
   log = one.log;
 }
 
-pub prepares_room : (a b : DeviceState) (v v' : LogMemory) (n : ℕ) → Prepares a b v v' n → room_of v' ≡ room_of v
-prepares_room a b v v' n one = ap₂ (λ (c r : ℕ). 63 * c + r) one.clean (ap room_in one.chunk)
-
-pub prepares_excused : (a b c : DeviceState) (v v' : LogMemory) (n : ℕ) → Prepares a b v v' n → Looks b c → FailsFromDevice b c v' → FailsFromDevice a c v
+pub prepares_excused : (a b c : DeviceState) (v v' : LogMemory) (n : ℕ) → Prepares a b v v' n → Looks b c → FailsFromDevice b c v'
+    → FailsFromDevice a c v
 prepares_excused a b c v v' n one two failed k m0 m keeps is =
     let back = two.carries.kept_before keeps in
     let rose = failed k m0 m keeps (one.log k m0 m back is) in
@@ -352,13 +360,18 @@ on_device content dirty x a ne = cond-false _ _ _ (not_one a ne)
     not_one : (a : ℕ) → (a ≡ 1 → ⊥) → (a == 1) ≡ false
     not_one a ne = grind (arith, nat_tests)
 
-pub brings_memory : (v v' : LogMemory) (x : Entry) (address : ℕ) (lives : Bool) (bytes : List ℕ) → IsMemory v → Brings v v' x address lives bytes → IsMemory v'
-brings_memory v v' x address lives bytes memory go = kept_memory v v' memory go.usage.size go.chunk go.usage.used go.usage.kept go.usage.last go.usage.blocks.address
+pub brings_memory : (v v' : LogMemory) (x : Entry) (address : ℕ) (lives : Bool) (bytes : List ℕ) → IsMemory v
+    → Brings v v' x address lives bytes → IsMemory v'
+brings_memory v v' x address lives bytes memory go =
+    kept_memory v v' memory go.usage.size go.chunk go.usage.used go.usage.kept go.usage.last go.usage.blocks.address
     (λ j. stays_stale v.usage v'.usage (segment_of address / 64) j go.usage.blocks) go.capacity
 
-pub bring_prepares : (d d' : DeviceState) (v v' : LogMemory) (x : Entry) (f address : ℕ) (lives : Bool) (bytes : List ℕ) → IsLawful d → IsMemory v → Looks d d'
-    → file_of x ≡ Some f → f < 4096 → IsAtAddress (blocks_of v.dirty) (tables_of v) x address → 2 ≤ address → lives ≡ not (is_hidden_in v.map f)
-    → ((n : ℕ) → x ≡ Inode n → is_hidden_in v.map n ≡ false → block_in v.map (n / 128) ≡ 1) → (d'.keeps_model → bytes ≡ present d.content (blocks_of v.dirty) x address)
+pub bring_prepares : (d d' : DeviceState) (v v' : LogMemory) (x : Entry) (f address : ℕ) (lives : Bool) (bytes : List ℕ) → IsLawful d
+    → IsMemory v → Looks d d'
+    → file_of x ≡ Some f → f < 4096 → IsAtAddress (blocks_of v.dirty) (tables_of v) x address → 2 ≤ address
+    → lives ≡ not (is_hidden_in v.map f)
+    → ((n : ℕ) → x ≡ Inode n → is_hidden_in v.map n ≡ false → block_in v.map (n / 128) ≡ 1)
+    → (d'.keeps_model → bytes ≡ present d.content (blocks_of v.dirty) x address)
     → Brings v v' x address lives bytes → Prepares d d' v v' 1
 bring_prepares d d' v v' x f address lives bytes lawful memory looks file low at above is_lives mapped read go = record {
   looks = looks;
@@ -383,35 +396,45 @@ bring_prepares d d' v v' x f address lives bytes lawful memory looks file low at
       (cases_eq l w.0))
       (λ (other : (n : ℕ) → x ≡ Inode n → ⊥). ap (λ (map : MapValue). address_in map l) (go.others other) ∙ none)
       (inode_or_not x);
-  log = λ k m0 m keeps is. log_brought d' v k m0 m (still_log d d' v k m0 m looks is) x f address lives file low at above is_lives v' bytes go
-      (ap (λ (c : Content). block c address) looks.untouched.content ∙ sym (read keeps ∙ on_device d.content (blocks_of v.dirty) x address (omega (arith, above)))) mapped;
+  log =
+      λ k m0 m keeps is. log_brought d' v k m0 m (still_log d d' v k m0 m looks is) x f address lives file low at above is_lives v' bytes go
+      (ap (λ (c : Content). block c address) looks.untouched.content
+      ∙ sym (read keeps ∙ on_device d.content (blocks_of v.dirty) x address (omega (arith, above)))) mapped;
 }
 
 -- where the block isn't counted, or isn't read, a call of the device failed
-pub bring_lost : (d : DeviceState) (v : LogMemory) (x : Entry) (f address : ℕ) (lives : Bool) → file_of x ≡ Some f → f < 4096 → IsAtAddress (blocks_of v.dirty) (tables_of v) x address → 2 ≤ address
+pub bring_lost : (d : DeviceState) (v : LogMemory) (x : Entry) (f address : ℕ) (lives : Bool) → file_of x ≡ Some f → f < 4096
+    → IsAtAddress (blocks_of v.dirty) (tables_of v) x address → 2 ≤ address
     → lives ≡ not (is_hidden_in v.map f) → (IsCountedAbove v.usage address lives → ⊥) → FailsFromDevice d d v
-bring_lost d v x f address lives file low at above is_lives lost k m0 m keeps is = absurd (lost (is_counted d v k m0 m is x f address lives file low at above is_lives))
+bring_lost d v x f address lives file low at above is_lives lost k m0 m keeps is =
+    absurd (lost (is_counted d v k m0 m is x f address lives file low at above is_lives))
 
-pub bring_unread : (d d' : DeviceState) (v : LogMemory) (x : Entry) (f address : ℕ) → file_of x ≡ Some f → f < 4096 → IsAtAddress (blocks_of v.dirty) (tables_of v) x address → 2 ≤ address
+pub bring_unread : (d d' : DeviceState) (v : LogMemory) (x : Entry) (f address : ℕ) → file_of x ≡ Some f → f < 4096
+    → IsAtAddress (blocks_of v.dirty) (tables_of v) x address → 2 ≤ address
     → (d'.keeps_model → (d.failures < d'.failures) ⊎ IsMissing d.content (blocks_of v.dirty) x address) → FailsFromDevice d d' v
 bring_unread d d' v x f address file low at above unread k m0 m keeps is = ⊎_elim
     (λ (failed : d.failures < d'.failures). failed)
-    (λ (missing : IsMissing d.content (blocks_of v.dirty) x address). absurd (is_read d v k m0 m is x f address (not (is_hidden_in v.map f)) file low at above refl missing))
+    (λ (missing : IsMissing d.content (blocks_of v.dirty) x address).
+    absurd (is_read d v k m0 m is x f address (not (is_hidden_in v.map f)) file low at above refl missing))
     (unread keeps)
 
 pub map_prepares : (d : DeviceState) (v v' : LogMemory) (j : ℕ) → IsLawful d → IsMemory v → MapLifts v v' j → Prepares d d v v' 0
 map_prepares d v v' j lawful memory go = ⊎_elim
     (λ (above : 2 ≤ block_in v.map j).
     let l = go.lifted above in
-    made (kept_memory v v' memory l.size go.chunk l.used l.kept l.last l.blocks.address (λ i. stays_stale v.usage v'.usage (segment_of (block_in v.map j) / 64) i l.blocks) capacity) l.size l.clean l.used l.kept)
+    made (kept_memory v v' memory l.size go.chunk l.used l.kept l.last l.blocks.address
+    (λ i. stays_stale v.usage v'.usage (segment_of (block_in v.map j) / 64) i l.blocks) capacity) l.size l.clean l.used l.kept)
     (λ (small : block_in v.map j < 2). ⊎_elim
     (λ (none : block_in v.map j ≡ 0).
     let e = go.added none in
     let size = ap (λ (u : UsageTable). length u.segments) e in
-    made (kept_memory v v' memory size go.chunk (λ s. ap (λ (u : UsageTable). used_of u s) e) (λ s. ap (λ (u : UsageTable). kept_of u s) e) (ap (λ (u : UsageTable). u.last) e) (λ i. ap (λ (u : UsageTable). address_of u i) e)
+    made (kept_memory v v' memory size go.chunk (λ s. ap (λ (u : UsageTable). used_of u s) e) (λ s. ap (λ (u : UsageTable). kept_of u s) e)
+    (ap (λ (u : UsageTable). u.last) e) (λ i. ap (λ (u : UsageTable). address_of u i) e)
     (λ i on. ap (λ (u : UsageTable). stale_of u i) e ∙ on) capacity)
-    size (ap (λ (u : UsageTable). clean_in u.segments) e) (λ s. ap (λ (u : UsageTable). used_of u s) e) (λ s. ap (λ (u : UsageTable). kept_of u s) e))
-    (λ (some : block_in v.map j ≡ 0 → ⊥). subst (λ (w : LogMemory). Prepares d d v w 0) (sym (go.same (omega (arith, small, some)))) (prepares_looks d d v lawful memory (looks_none d)))
+    size (ap (λ (u : UsageTable). clean_in u.segments) e) (λ s. ap (λ (u : UsageTable). used_of u s) e)
+    (λ s. ap (λ (u : UsageTable). kept_of u s) e))
+    (λ (some : block_in v.map j ≡ 0 → ⊥). subst (λ (w : LogMemory). Prepares d d v w 0) (sym (go.same (omega (arith, small, some))))
+    (prepares_looks d d v lawful memory (looks_none d)))
     (cases_eq (block_in v.map j) 0))
     (two_or_less (block_in v.map j))
   where
@@ -423,7 +446,8 @@ map_prepares d v v' j lawful memory go = ⊎_elim
     capacity : v'.dirty.capacity ≡ v.dirty.capacity
     capacity = ap (λ (t : TableValue). t.capacity) go.dirty
 
-    made : IsMemory v' → length v'.usage.segments ≡ length v.usage.segments → clean_in v'.usage.segments ≡ clean_in v.usage.segments → ((s : ℕ) → used_of v'.usage s ≡ used_of v.usage s)
+    made : IsMemory v' → length v'.usage.segments ≡ length v.usage.segments → clean_in v'.usage.segments ≡ clean_in v.usage.segments
+        → ((s : ℕ) → used_of v'.usage s ≡ used_of v.usage s)
         → ((s : ℕ) → kept_of v'.usage s ≡ kept_of v.usage s) → Prepares d d v v' 0
     made memory' size clean used kept = record {
       looks = looks_none d;
@@ -437,7 +461,8 @@ map_prepares d v v' j lawful memory go = ⊎_elim
       few = let e = ap (λ (t : TableValue). length t.blocks) go.dirty in omega (arith, e);
       stay = λ x is. (is.0, ap (λ (t : TableValue). blocks_of t x) go.dirty ∙ is.1);
       hidden = go.hidden;
-      mapped = λ i one. ⊎_elim (λ (here : i ≡ j). ap (block_in v'.map) here ∙ go.blocks.own) (λ (ne : i ≡ j → ⊥). go.blocks.others i ne ∙ one) (cases_eq i j);
+      mapped = λ i one. ⊎_elim (λ (here : i ≡ j). ap (block_in v'.map) here ∙ go.blocks.own)
+          (λ (ne : i ≡ j → ⊥). go.blocks.others i ne ∙ one) (cases_eq i j);
       absent = λ l none. ap (λ (a : List ℕ). get_or a l 0) go.addresses ∙ none;
       log = λ k m0 m keeps is. log_mapped d v k m0 m is j v' go;
     }
@@ -445,55 +470,37 @@ map_prepares d v v' j lawful memory go = ⊎_elim
 pub map_lost : (d : DeviceState) (v : LogMemory) (j : ℕ) → IsMapLost v j → FailsFromDevice d d v
 map_lost d v j lost k m0 m keeps is = absurd (lost.lost (map_counted d v k m0 m is j lost.above))
 
--- the inode map block of an inode in memory, of a file that has a name, will be written
-pub inode_mapped : (d : DeviceState) (v : LogMemory) (k : CheckpointValue) (m0 m : LogMap) → IsLoose d v k m0 m → (n : ℕ) → n < 4096 → IsInMemory v (Inode n) → is_nameless m n ≡ false → block_in v.map (n / 128) ≡ 1
-inode_mapped d v k m0 m is n low inside named = ⊎_elim
-    (λ (one : block_in v.map (n / 128) ≡ 1). one)
-    (λ (ne : block_in v.map (n / 128) ≡ 1 → ⊥).
-    let c = is.running.cached.cached (Inode n) inside.0 inside.1 in
-    let at : is.running.memory.at (Map (n / 128)) ≡ block_in v.map (n / 128) = is.running.tables.at (Map (n / 128)) refl in
-    let whole : 128 * (n / 128) + n % 128 ≡ n = omega arith in
-    let is_one : shown m is.running.memory.at (Inode n) ≡ 1 = ap (λ (b : Bool). cond {A = ℕ} (not b) (is.running.memory.at (Inode n)) 0) named ∙ c.1 in
-    absurd ((is.running.laid.mapped (n / 128) (λ h. ne (sym at ∙ h))).settled (n % 128) (omega arith) (ap (λ (i : ℕ). shown m is.running.memory.at (Inode i)) whole ∙ is_one)))
-    (cases_eq (block_in v.map (n / 128)) 1)
-
-pub map_of_prepares : (d : DeviceState) (v v' : LogMemory) (j : ℕ) → IsLawful d → IsMemory v → (v' ≡ v) ⊎ MapLifts v v' j → Prepares d d v v' 0
+pub map_of_prepares : (d : DeviceState) (v v' : LogMemory) (j : ℕ) → IsLawful d → IsMemory v → (v' ≡ v) ⊎ MapLifts v v' j
+    → Prepares d d v v' 0
 map_of_prepares d v v' j lawful memory o = ⊎_elim
     (λ (same : v' ≡ v). subst (λ (w : LogMemory). Prepares d d v w 0) (sym same) (prepares_looks d d v lawful memory (looks_none d)))
     (λ (go : MapLifts v v' j). map_prepares d v v' j lawful memory go)
     o
 
 -- ---- where blocks are
-pub inode_stands : (v : LogMemory) (x : Entry) (n a : ℕ) → x ≡ Inode n → address_in v.map n ≡ a → IsAtAddress (blocks_of v.dirty) (tables_of v) x a
+pub inode_stands : (v : LogMemory) (x : Entry) (n a : ℕ) → x ≡ Inode n → address_in v.map n ≡ a
+    → IsAtAddress (blocks_of v.dirty) (tables_of v) x a
 inode_stands v x n a named at = record {
   top = λ top. ap (tables_of v).at named ∙ at;
   pointed = λ ne. absurd (ne (ap parent named ∙ sym named));
   low = λ k q leaf. absurd (let e : Inode n ≡ Leaf k q = sym named ∙ leaf in cc);
 }
 
-pub not_inside : (d : DeviceState) (v : LogMemory) (x : Entry) (f : ℕ) → file_of x ≡ Some f → IsAtAddress (blocks_of v.dirty) (tables_of v) x 1 → blocks_of v.dirty x ≡ None → FailsFromDevice d d v
+pub not_inside : (d : DeviceState) (v : LogMemory) (x : Entry) (f : ℕ) → file_of x ≡ Some f
+    → IsAtAddress (blocks_of v.dirty) (tables_of v) x 1 → blocks_of v.dirty x ≡ None → FailsFromDevice d d v
 not_inside d v x f file at none k m0 m keeps is =
     absurd (not_missing d v k m0 m is x 1 (f, file)
     (address_at d (blocks_of v.dirty) (tables_of v) k m0 m (segment_in v.chunk) (chunk_in v.chunk) x 1 is.running at) (omega arith)
     (record { inside = λ one. none; outside = λ ne. absurd (ne refl) }))
 
--- what has a parent is no inode
-pub no_map_below : (v : LogMemory) (x : Entry) → (parent x ≡ x → ⊥) → (n : ℕ) → x ≡ Inode n → is_hidden_in v.map n ≡ false → block_in v.map (n / 128) ≡ 1
-no_map_below v x below n named _ = absurd (below (ap parent named ∙ sym named))
-
-pub map_for : (v : LogMemory) (x : Entry) (f : ℕ) → x ≡ Inode f → (is_hidden_in v.map f ≡ false → block_in v.map (f / 128) ≡ 1)
-    → (n : ℕ) → x ≡ Inode n → is_hidden_in v.map n ≡ false → block_in v.map (n / 128) ≡ 1
-map_for v x f named mapped n other has =
-    let e : Inode n ≡ Inode f = sym other ∙ named in
-    let same : n ≡ f = cc in
-    subst (λ (n : ℕ). is_hidden_in v.map n ≡ false → block_in v.map (n / 128) ≡ 1) (sym same) mapped has
-
 -- nothing happened
 pub prepares_none : (d : DeviceState) (v v' : LogMemory) (most : ℕ) → v' ≡ v → IsLawful d → IsMemory v → Prepares d d v v' most
-prepares_none d v v' most same lawful memory = subst (λ (w : LogMemory). Prepares d d v w most) (sym same) (prepares_at_most d d v v 0 most (omega arith) (prepares_looks d d v lawful memory (looks_none d)))
+prepares_none d v v' most same lawful memory = subst (λ (w : LogMemory). Prepares d d v w most) (sym same)
+    (prepares_at_most d d v v 0 most (omega arith) (prepares_looks d d v lawful memory (looks_none d)))
 
 -- a block below the one above it
-pub below_stands : (v : LogMemory) (x : Entry) (b : List ℕ) (a : ℕ) → (parent x ≡ x → ⊥) → ((n q : ℕ) → x ≡ Leaf n q → q ≤ 128) → blocks_of v.dirty (parent x) ≡ Some b → word b (pointer x) ≡ a
+pub below_stands : (v : LogMemory) (x : Entry) (b : List ℕ) (a : ℕ) → (parent x ≡ x → ⊥) → ((n q : ℕ) → x ≡ Leaf n q → q ≤ 128)
+    → blocks_of v.dirty (parent x) ≡ Some b → word b (pointer x) ≡ a
     → IsAtAddress (blocks_of v.dirty) (tables_of v) x a
 below_stands v x b a below low held at = record { top = λ top. absurd (below top); pointed = λ ne. (b, held, at); low = low }
 

@@ -19,28 +19,6 @@ use Rattle.lfs_memory.specs.Lifting.{IsInMemory, Prepares, IsLeafAbsent}
 use Rattle.lfs_memory.proofs.Presents.{no_block, address_none, block_absent}
 
 -- ---- blocks above
-pub leaf_has_above : (x : Entry) (n q : ℕ) → x ≡ Leaf n q → parent x ≡ x → ⊥
-leaf_has_above x n q named = subst (λ (y : Entry). parent y ≡ y → ⊥) (sym named) (leaf_below n q)
-
-pub double_has_above : (x : Entry) (n : ℕ) → x ≡ Double n → parent x ≡ x → ⊥
-double_has_above x n named = subst (λ (y : Entry). parent y ≡ y → ⊥) (sym named) (double_below n)
-
-pub above_single : (v : LogMemory) (x : Entry) (n q : ℕ) → x ≡ Leaf n q → q ≡ 0 → IsInMemory v (Inode n) → IsInMemory v (parent x)
-above_single v x n q named none there = subst (IsInMemory v) (sym (ap parent (named ∙ ap (Leaf n) none))) there
-
-pub above_leaf : (v : LogMemory) (x : Entry) (n q : ℕ) → x ≡ Leaf n q → (q ≡ 0 → ⊥) → IsInMemory v (Double n) → IsInMemory v (parent x)
-above_leaf v x n zero named some there = absurd (some refl)
-above_leaf v x n (suc q) named some there = subst (IsInMemory v) (sym (ap parent named)) there
-
-pub above_double : (v : LogMemory) (x : Entry) (n : ℕ) → x ≡ Double n → IsInMemory v (Inode n) → IsInMemory v (parent x)
-above_double v x n named there = subst (IsInMemory v) (sym (ap parent named)) there
-
-pub above_low : (v : LogMemory) (n i : ℕ) → i < 112 → IsInMemory v (Inode n) → IsInMemory v (parent (Data n i))
-above_low v n i low there = subst (IsInMemory v) (sym (data_parent_low n i low)) there
-
-pub above_high : (v : LogMemory) (n i : ℕ) → 112 ≤ i → IsInMemory v (Leaf n ((i - 112) / 128)) → IsInMemory v (parent (Data n i))
-above_high v n i high there = subst (IsInMemory v) (sym (data_parent_high n i high)) there
-
 -- ---- blocks that aren't stored
 module _ (d : DeviceState) (v : LogMemory) (k : CheckpointValue) (m0 m : LogMap) (is : IsLoose d v k m0 m) where
   below_none : (x : Entry) → is.running.memory.at (parent x) ≡ 0 → is.running.memory.at x ≡ 0
@@ -56,25 +34,32 @@ module _ (d : DeviceState) (v : LogMemory) (k : CheckpointValue) (m0 m : LogMap)
   none_below_double n zero some none = absurd (some refl)
   none_below_double n (suc q) some none = below_none (Leaf n (suc q)) none
 
-pub no_leaf : (a c : DeviceState) (v v' : LogMemory) (most : ℕ) (x : Entry) (n q : ℕ) → Prepares a c v v' most → x ≡ Leaf n q → IsAtAddress (blocks_of v'.dirty) (tables_of v') x 0 → IsLeafAbsent a c v n q
+pub no_leaf : (a c : DeviceState) (v v' : LogMemory) (most : ℕ) (x : Entry) (n q : ℕ) → Prepares a c v v' most → x ≡ Leaf n q
+    → IsAtAddress (blocks_of v'.dirty) (tables_of v') x 0 → IsLeafAbsent a c v n q
 no_leaf a c v v' most x n q one named at i up k m0 m keeps is =
     let now = one.log k m0 m keeps is in
     none_below_leaf c v' k m0 m now n q i (sym (ap now.running.memory.at named) ∙ nowhere c v' k m0 m now x at) up
 
-pub no_double : (a c : DeviceState) (v v' : LogMemory) (most : ℕ) (x : Entry) (n q : ℕ) → Prepares a c v v' most → x ≡ Double n → (q ≡ 0 → ⊥) → IsAtAddress (blocks_of v'.dirty) (tables_of v') x 0 → IsLeafAbsent a c v n q
+pub no_double : (a c : DeviceState) (v v' : LogMemory) (most : ℕ) (x : Entry) (n q : ℕ) → Prepares a c v v' most → x ≡ Double n
+    → (q ≡ 0 → ⊥) → IsAtAddress (blocks_of v'.dirty) (tables_of v') x 0 → IsLeafAbsent a c v n q
 no_double a c v v' most x n q one named some at i up k m0 m keeps is =
     let now = one.log k m0 m keeps is in
-    none_below_leaf c v' k m0 m now n q i (none_below_double c v' k m0 m now n q some (sym (ap now.running.memory.at named) ∙ nowhere c v' k m0 m now x at)) up
+    none_below_leaf c v' k m0 m now n q i
+    (none_below_double c v' k m0 m now n q some (sym (ap now.running.memory.at named) ∙ nowhere c v' k m0 m now x at)) up
 
 pub no_inode_way : (a c : DeviceState) (v : LogMemory) (n i : ℕ) → (n ≡ 0) ⊎ (address_in v.map n ≡ 0) → AnswersBlock a c v n i [] false
 no_inode_way a c v n i none = block_absent a c v n i 0 (address_none a c v n i none) refl
 
 -- the same after another call
-pub leaf_absent_then : (a b c : DeviceState) (v v' : LogMemory) (most n q : ℕ) → Prepares a b v v' most → Looks b c → IsLeafAbsent b c v' n q → IsLeafAbsent a c v n q
-leaf_absent_then a b c v v' most n q one two none i up k m0 m keeps is = none i up k m0 m keeps (one.log k m0 m (two.carries.kept_before keeps) is)
+pub leaf_absent_then : (a b c : DeviceState) (v v' : LogMemory) (most n q : ℕ) → Prepares a b v v' most → Looks b c
+    → IsLeafAbsent b c v' n q → IsLeafAbsent a c v n q
+leaf_absent_then a b c v v' most n q one two none i up k m0 m keeps is =
+    none i up k m0 m keeps (one.log k m0 m (two.carries.kept_before keeps) is)
 
-pub no_leaf_way : (a b c : DeviceState) (v v' : LogMemory) (most n i : ℕ) → Prepares a b v v' most → Looks b c → 112 ≤ i → IsLeafAbsent b c v' n ((i - 112) / 128) → AnswersBlock a c v n i [] false
-no_leaf_way a b c v v' most n i one two high none = leaf_absent_then a b c v v' most n ((i - 112) / 128) one two none i (data_parent_high n i high)
+pub no_leaf_way : (a b c : DeviceState) (v v' : LogMemory) (most n i : ℕ) → Prepares a b v v' most → Looks b c → 112 ≤ i
+    → IsLeafAbsent b c v' n ((i - 112) / 128) → AnswersBlock a c v n i [] false
+no_leaf_way a b c v v' most n i one two high none =
+    leaf_absent_then a b c v v' most n ((i - 112) / 128) one two none i (data_parent_high n i high)
 
 pub if_ok : {T E : Type 0} (r : Result T E) (P Q : T → Type 0) → ((x : T) → P x → Q x) → IfOk r P → IfOk r Q
 if_ok (Ok x) P Q f p = f x p

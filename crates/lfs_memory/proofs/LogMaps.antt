@@ -1,5 +1,6 @@
 -- Log maps with another block or header, and blocks of zeros.
-use Rattle.std.proofs.Common.{◌≡◌, ⊎_elim, ◌*◌, ◌==◌, ◌&&◌, cond, ℕ, zero, suc, Bool, true, false, List, [], ◌∷◌, length, take, drop, Option, ◌⊎◌, inl, inr, refl, sym, ◌∙◌, ap, arith}
+use Rattle.std.proofs.Common.{◌≡◌, ⊎_elim, ◌*◌, ◌==◌, ◌&&◌, cond, ℕ, zero, suc, Bool, true, false, List, [], ◌∷◌, length, take, drop}
+use Rattle.std.proofs.Common.{Option, ◌⊎◌, inl, inr, refl, sym, ◌∙◌, ap, arith}
 use Rattle.std.proofs.Math.Path.{fun_ext}
 use Rattle.std.proofs.lemmas.Bool.{cases_eq, cases_Bool}
 use Rattle.std.proofs.lemmas.Bool.Decides.{nat_tests}
@@ -30,10 +31,13 @@ equal_is k n e = ⊎_elim (λ (is : k ≡ n). is) (λ (ne : k ≡ n → ⊥). le
 
 -- ---- another block
 own_block : (m : LogMap) (n i : ℕ) (bytes : List ℕ) → cond ((n == n) && (i == i)) bytes (m.block n i) ≡ bytes
-own_block m n i bytes = ap (λ (b : Bool). cond (b && (i == i)) bytes (m.block n i)) (equal_yes n n refl) ∙ ap (λ (b : Bool). cond b bytes (m.block n i)) (equal_yes i i refl)
+own_block m n i bytes = ap (λ (b : Bool). cond (b && (i == i)) bytes (m.block n i)) (equal_yes n n refl)
+    ∙ ap (λ (b : Bool). cond b bytes (m.block n i)) (equal_yes i i refl)
 
-other_block : (m : LogMap) (n i : ℕ) (bytes : List ℕ) (k l : ℕ) → (Data k l ≡ Data n i → ⊥) → cond ((k == n) && (l == i)) bytes (m.block k l) ≡ m.block k l
-other_block m n i bytes k l ne = ap (λ (b : Bool). cond b bytes (m.block k l)) (both_no (k == n) (l == i) (λ a b. let x = equal_is k n a in let y = equal_is l i b in ne cc))
+other_block : (m : LogMap) (n i : ℕ) (bytes : List ℕ) (k l : ℕ) → (Data k l ≡ Data n i → ⊥)
+    → cond ((k == n) && (l == i)) bytes (m.block k l) ≡ m.block k l
+other_block m n i bytes k l ne = ap (λ (b : Bool). cond b bytes (m.block k l))
+    (both_no (k == n) (l == i) (λ a b. let x = equal_is k n a in let y = equal_is l i b in ne cc))
 
 pub is_with_block : (m : LogMap) (n i : ℕ) (bytes : List ℕ) → IsWithBlock m n i bytes (with_block m n i bytes)
 is_with_block m n i bytes = record {

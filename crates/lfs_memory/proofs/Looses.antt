@@ -25,33 +25,30 @@ use Rattle.lfs_memory.proofs.Stales.{stays_stale}
 pub loose : (d : DeviceState) (v : LogMemory) (k : CheckpointValue) (m0 m : LogMap) → IsLog d v k m0 m → IsLoose d v k m0 m
 loose d v k m0 m is = record { running = is.running; hidden = is.hidden; segments = is.segments }
 
-pub tight_again : (d : DeviceState) (v : LogMemory) (k : CheckpointValue) (m0 m : LogMap) → IsLoose d v k m0 m → IsTight (blocks_of v.dirty) → IsLog d v k m0 m
+pub tight_again : (d : DeviceState) (v : LogMemory) (k : CheckpointValue) (m0 m : LogMap) → IsLoose d v k m0 m → IsTight (blocks_of v.dirty)
+    → IsLog d v k m0 m
 tight_again d v k m0 m is tight = record { running = is.running; hidden = is.hidden; segments = is.segments; tight = tight }
 
 -- ---- memory
 pub stays_memory : (v v' : LogMemory) → IsMemory v → v'.chunk ≡ v.chunk → length v'.usage.segments ≡ length v.usage.segments
-    → (IsOpenChunk v.chunk v.usage → IsOpenChunk v.chunk v'.usage) → ((j : ℕ) → (tables_of v').at (Usage j) ≡ (tables_of v).at (Usage j)) → ((j : ℕ) → stale_of v.usage j ≡ true → stale_of v'.usage j ≡ true)
+    → (IsOpenChunk v.chunk v.usage → IsOpenChunk v.chunk v'.usage) → ((j : ℕ) → (tables_of v').at (Usage j) ≡ (tables_of v).at (Usage j))
+    → ((j : ℕ) → stale_of v.usage j ≡ true → stale_of v'.usage j ≡ true)
     → v'.dirty.capacity ≡ v.dirty.capacity → IsMemory v'
 stays_memory v v' memory chunk segments opened same stale capacity = record {
   count = subst IsSegmentCount (sym segments) memory.count;
-  opened = λ some. subst (λ (c : Chunk). IsOpenChunk c v'.usage) (sym chunk) (opened (memory.opened (subst (λ (c : Chunk). 0 < length c.names) chunk some)));
+  opened = λ some. subst (λ (c : Chunk). IsOpenChunk c v'.usage) (sym chunk)
+      (opened (memory.opened (subst (λ (c : Chunk). 0 < length c.names) chunk some)));
   short = subst (λ (c : Chunk). 0 < length c.names → c.start + length c.names ≤ 62) (sym chunk) memory.short;
   usages = λ j one. stale j (memory.usages j (sym (same j) ∙ one));
   few = let f = memory.few in let c = ap (λ (c : Capacity). c.limit) capacity in omega (arith, f, c, segments);
 }
 
-pub stays_same : (v v' : LogMemory) → v'.chunk ≡ v.chunk → v'.usage ≡ v.usage → v'.dirty.capacity ≡ v.dirty.capacity → IsMemory v → IsMemory v'
+pub stays_same : (v v' : LogMemory) → v'.chunk ≡ v.chunk → v'.usage ≡ v.usage → v'.dirty.capacity ≡ v.dirty.capacity → IsMemory v
+    → IsMemory v'
 stays_same v v' chunk usage capacity memory =
-    stays_memory v v' memory chunk (ap (λ (u : UsageTable). length u.segments) usage) (subst (λ (u : UsageTable). IsOpenChunk v.chunk u) (sym usage)) (λ j. ap (λ (u : UsageTable). table_at v.map u (Usage j)) usage)
+    stays_memory v v' memory chunk (ap (λ (u : UsageTable). length u.segments) usage)
+    (subst (λ (u : UsageTable). IsOpenChunk v.chunk u) (sym usage)) (λ j. ap (λ (u : UsageTable). table_at v.map u (Usage j)) usage)
     (λ j on. ap (λ (u : UsageTable). stale_of u j) usage ∙ on) capacity
-
-lifted_open : (c : Chunk) (old new : UsageTable) (s : ℕ) (lives : Bool) → Lifts old new s lives → IsOpenChunk c old → IsOpenChunk c new
-lifted_open c old new s lives go is = record {
-  inside = subst (λ (n : ℕ). c.segment < n) (sym go.size) is.inside;
-  used = go.used c.segment ∙ is.used;
-  free = let k = go.kept c.segment in let f = is.free in omega (arith, k, f);
-  last = go.last ∙ is.last;
-}
 
 pub below_or : (a : ℕ) (P : Type 0) → (a < 2 → P) → (2 ≤ a → P) → P
 below_or zero P low high = low (omega arith)
@@ -59,34 +56,8 @@ below_or (suc zero) P low high = low (omega arith)
 below_or (suc (suc a)) P low high = high (omega arith)
 
 -- ---- a block that leaves its address
-pub departs_size : (old new : UsageTable) (a : ℕ) (lives : Bool) → Departs old new a lives → length new.segments ≡ length old.segments
-departs_size old new a lives go = below_or a (length new.segments ≡ length old.segments) (λ low. ap (λ (u : UsageTable). length u.segments) (go.none low)) (λ high. (go.lifts high).size)
-
-departs_address : (map : MapValue) (old new : UsageTable) (a : ℕ) (lives : Bool) → Departs old new a lives → (j : ℕ) → table_at map new (Usage j) ≡ table_at map old (Usage j)
-departs_address map old new a lives go j =
-    below_or a (table_at map new (Usage j) ≡ table_at map old (Usage j)) (λ low. ap (λ (u : UsageTable). table_at map u (Usage j)) (go.none low)) (λ high. (go.lifts high).blocks.address j)
-
-departs_stale : (old new : UsageTable) (a : ℕ) (lives : Bool) → Departs old new a lives → (j : ℕ) → stale_of old j ≡ true → stale_of new j ≡ true
-departs_stale old new a lives go j on =
-    below_or a (stale_of new j ≡ true) (λ low. ap (λ (u : UsageTable). stale_of u j) (go.none low) ∙ on) (λ high. stays_stale old new (segment_of a / 64) j (go.lifts high).blocks on)
-
-departs_open : (c : Chunk) (old new : UsageTable) (a : ℕ) (lives : Bool) → Departs old new a lives → IsOpenChunk c old → IsOpenChunk c new
-departs_open c old new a lives go is =
-    below_or a (IsOpenChunk c new) (λ low. subst (λ (u : UsageTable). IsOpenChunk c u) (sym (go.none low)) is) (λ high. lifted_open c old new (segment_of a) lives (go.lifts high) is)
-
-pub departed : (n : ℕ) (v v' : LogMemory) (a : ℕ) (lives : Bool) → Departs v.usage v'.usage a lives → v'.chunk ≡ v.chunk → v'.dirty.capacity ≡ v.dirty.capacity
+pub stays_put : (n : ℕ) (v v' : LogMemory) → v'.usage ≡ v.usage → v'.chunk ≡ v.chunk → v'.dirty.capacity ≡ v.dirty.capacity
     → length v'.dirty.blocks ≤ length v.dirty.blocks + n → Stays n v v'
-departed n v v' a lives go chunk capacity blocks = record {
-  memory = λ memory. stays_memory v v' memory chunk (departs_size v.usage v'.usage a lives go) (departs_open v.chunk v.usage v'.usage a lives go) (departs_address v.map v.usage v'.usage a lives go)
-      (departs_stale v.usage v'.usage a lives go) capacity;
-  chunk = chunk;
-  segments = departs_size v.usage v'.usage a lives go;
-  clean = below_or a (clean_in v'.usage.segments ≡ clean_in v.usage.segments) (λ low. ap (λ (u : UsageTable). clean_in u.segments) (go.none low)) (λ high. (go.lifts high).clean);
-  capacity = capacity;
-  blocks = blocks;
-}
-
-pub stays_put : (n : ℕ) (v v' : LogMemory) → v'.usage ≡ v.usage → v'.chunk ≡ v.chunk → v'.dirty.capacity ≡ v.dirty.capacity → length v'.dirty.blocks ≤ length v.dirty.blocks + n → Stays n v v'
 stays_put n v v' usage chunk capacity blocks = record {
   memory = stays_same v v' chunk usage capacity;
   chunk = chunk;
@@ -97,9 +68,17 @@ stays_put n v v' usage chunk capacity blocks = record {
 }
 
 pub stays_more : (v v' : LogMemory) → Stays 0 v v' → Stays 1 v v'
-stays_more v v' s = record { memory = s.memory; chunk = s.chunk; segments = s.segments; clean = s.clean; capacity = s.capacity; blocks = let b = s.blocks in omega (arith, b) }
+stays_more v v' s = record {
+  memory = s.memory;
+  chunk = s.chunk;
+  segments = s.segments;
+  clean = s.clean;
+  capacity = s.capacity;
+  blocks = let b = s.blocks in omega (arith, b);
+}
 
-tops_same : (map map' : MapValue) (old new : UsageTable) → map' ≡ map → ((j : ℕ) → table_at map new (Usage j) ≡ table_at map old (Usage j)) → (y : Entry) → table_at map' new y ≡ table_at map old y
+tops_same : (map map' : MapValue) (old new : UsageTable) → map' ≡ map → ((j : ℕ) → table_at map new (Usage j) ≡ table_at map old (Usage j))
+    → (y : Entry) → table_at map' new y ≡ table_at map old y
 tops_same map map' old new is same (Data n i) = refl
 tops_same map map' old new is same (Leaf n q) = refl
 tops_same map map' old new is same (Double n) = refl
@@ -107,7 +86,8 @@ tops_same map map' old new is same (Inode n) = ap (λ (a : MapValue). table_at a
 tops_same map map' old new is same (Map j) = ap (λ (a : MapValue). table_at a old (Map j)) is
 tops_same map map' old new is same (Usage j) = same j
 
-pub lifts_tables : (m : LogMap) (map map' : MapValue) (old new : UsageTable) (x : Entry) (s w : ℕ) (lives : Bool) → map' ≡ map → Lifts old new s lives → lives ≡ is_shown m x → (parent x ≡ x → ⊥)
+pub lifts_tables : (m : LogMap) (map map' : MapValue) (old new : UsageTable) (x : Entry) (s w : ℕ) (lives : Bool) → map' ≡ map
+    → Lifts old new s lives → lives ≡ is_shown m x → (parent x ≡ x → ⊥)
     → IsLifted m (tables_by map old) (tables_by map' new) x w s
 lifts_tables m map map' old new x s w lives same go shows below = record {
   at = record { own = λ top. absurd (below top); others = λ y top ne. tops_same map map' old new same (λ j. go.blocks.address j) y };
@@ -120,12 +100,15 @@ lifts_tables m map map' old new x s w lives same go shows below = record {
 }
 
 -- ---- the pointer to a block below another
-pub pointed_at : (dirty : Dirty) (t : Tables) (x : Entry) (a : ℕ) → (parent x ≡ x → ⊥) → ((n q : ℕ) → x ≡ Leaf n q → q ≤ 128) → IsPointedIn dirty x a → IsAtAddress dirty t x a
+pub pointed_at : (dirty : Dirty) (t : Tables) (x : Entry) (a : ℕ) → (parent x ≡ x → ⊥) → ((n q : ℕ) → x ≡ Leaf n q → q ≤ 128)
+    → IsPointedIn dirty x a → IsAtAddress dirty t x a
 pointed_at dirty t x a below low p = record { top = λ top. absurd (below top); pointed = λ ne. p; low = low }
 
 -- ---- a running log by other words
-pub as_memory : (d : DeviceState) (dirty : Dirty) (k : CheckpointValue) (m0 m : LogMap) (v v' : LogMemory) (t : Tables) → v'.chunk ≡ v.chunk → t ≡ tables_of v'
-    → Running d dirty t k m0 m (segment_in v.chunk) (chunk_in v.chunk) → Running d dirty (tables_of v') k m0 m (segment_in v'.chunk) (chunk_in v'.chunk)
+pub as_memory : (d : DeviceState) (dirty : Dirty) (k : CheckpointValue) (m0 m : LogMap) (v v' : LogMemory) (t : Tables) → v'.chunk ≡ v.chunk
+    → t ≡ tables_of v'
+    → Running d dirty t k m0 m (segment_in v.chunk) (chunk_in v.chunk)
+    → Running d dirty (tables_of v') k m0 m (segment_in v'.chunk) (chunk_in v'.chunk)
 as_memory d dirty k m0 m v v' t chunk same w =
     subst (λ (c : Chunk). Running d dirty (tables_of v') k m0 m (segment_in c) (chunk_in c)) (sym chunk)
     (subst (λ (u : Tables). Running d dirty u k m0 m (segment_in v.chunk) (chunk_in v.chunk)) same w)
@@ -134,7 +117,8 @@ pub tables_same : (v v' : LogMemory) → v'.map ≡ v.map → v'.usage ≡ v.usa
 tables_same v v' map usage = ap (λ (a : MapValue). tables_by a v.usage) (sym map) ∙ ap (λ (u : UsageTable). tables_by v'.map u) (sym usage)
 
 -- ---- a block below another that has an address is counted there
-module _ (d : DeviceState) (v : LogMemory) (k : CheckpointValue) (m0 m : LogMap) (is : IsLoose d v k m0 m) (x : Entry) (a : ℕ) (at : IsAtAddress (blocks_of v.dirty) (tables_of v) x a) (above : 2 ≤ a) where
+module _ (d : DeviceState) (v : LogMemory) (k : CheckpointValue) (m0 m : LogMap) (is : IsLoose d v k m0 m) (x : Entry) (a : ℕ)
+    (at : IsAtAddress (blocks_of v.dirty) (tables_of v) x a) (above : 2 ≤ a) where
   where_is : is.running.memory.at x ≡ a
   where_is = address_at d (blocks_of v.dirty) (tables_of v) k m0 m (segment_in v.chunk) (chunk_in v.chunk) x a is.running at
 
@@ -144,7 +128,8 @@ module _ (d : DeviceState) (v : LogMemory) (k : CheckpointValue) (m0 m : LogMap)
   count_some : (p : Entry → Bool) → p x ≡ true → 0 < count_of p is.running.memory (segment_of (is.running.memory.at x))
   count_some p on =
       let M = is.running.memory in
-      let c = (taken_counts d.content m M (segment_in v.chunk) x 1 (taken_memory M x 1 M.bytes) is.running.laid there (is_taken M x 1 M.bytes (omega arith)) p).0 on in
+      let c = (taken_counts d.content m M (segment_in v.chunk) x 1 (taken_memory M x 1 M.bytes) is.running.laid there
+      (is_taken M x 1 M.bytes (omega arith)) p).0 on in
       omega (arith, c)
 
   pub counted : (lives : Bool) → lives ≡ is_shown m x → IsCountedThere v.usage a lives
@@ -156,10 +141,13 @@ module _ (d : DeviceState) (v : LogMemory) (k : CheckpointValue) (m0 m : LogMap)
         live = λ on. subst (λ (n : ℕ). 0 < live_of v.usage (segment_of n)) e
             (let c = count_some (is_shown m) (sym shows ∙ on) in let l = w.tables.live (segment_of (w.memory.at x)) in omega (arith, c, l));
         held = λ off. subst (λ (n : ℕ). 0 < held_of v.usage (segment_of n)) e
-            (let c = count_some (is_held m) (ap not (sym shows ∙ off)) in let l = w.tables.held (segment_of (w.memory.at x)) in omega (arith, c, l));
+            (let c = count_some (is_held m) (ap not (sym shows ∙ off)) in let l = w.tables.held (segment_of (w.memory.at x)) in
+            omega (arith, c, l));
       }
 
 -- so its leaving doesn't fail
-pub never_miscounted : (d : DeviceState) (v : LogMemory) (k : CheckpointValue) (m0 m : LogMap) → IsLoose d v k m0 m → (x : Entry) (n a : ℕ) → file_of x ≡ Some n → n < 4096
+pub never_miscounted : (d : DeviceState) (v : LogMemory) (k : CheckpointValue) (m0 m : LogMap) → IsLoose d v k m0 m → (x : Entry) (n a : ℕ)
+    → file_of x ≡ Some n → n < 4096
     → IsAtAddress (blocks_of v.dirty) (tables_of v) x a → IsMiscounted v.usage a (not (is_hidden_in v.map n)) → ⊥
-never_miscounted d v k m0 m is x n a file few at bad = bad.1 (counted d v k m0 m is x a at bad.0 (not (is_hidden_in v.map n)) (shows m x n (is_hidden_in v.map n) file (is.hidden n few)))
+never_miscounted d v k m0 m is x n a file few at bad =
+    bad.1 (counted d v k m0 m is x a at bad.0 (not (is_hidden_in v.map n)) (shows m x n (is_hidden_in v.map n) file (is.hidden n few)))

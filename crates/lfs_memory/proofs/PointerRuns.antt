@@ -1,5 +1,6 @@
 -- The pointers of a run are those of the log map that memory and device hold.
-use Rattle.std.proofs.Common.{◌≡◌, ◌<◌, ◌≤◌, ◌⊎◌, ⊎_elim, inl, inr, ◌+◌, ◌*◌, ◌-◌, ◌/◌, ◌%◌, ◌==◌, ℕ, Bool, true, false, not, List, length, get_or, Option, Some, None, refl, sym, ◌∙◌, ap, ap₂, subst, arith, eq-eqb, eqb-true}
+use Rattle.std.proofs.Common.{◌≡◌, ◌<◌, ◌≤◌, ◌⊎◌, ⊎_elim, inl, inr, ◌+◌, ◌*◌, ◌-◌, ◌/◌, ◌%◌, ◌==◌, ℕ, Bool, true, false, not, List, length}
+use Rattle.std.proofs.Common.{get_or, Option, Some, None, refl, sym, ◌∙◌, ap, ap₂, subst, arith, eq-eqb, eqb-true}
 use Rattle.std.specs.Prelude.{IfSome, Result, Ok, Err, IfOk}
 use mir.Val.{bool_byte}
 use Rattle.std.proofs.lemmas.Bool.{cases_eq, cond-true, cond-false, false_from_ne_true, lt-ltb, le-ltb, ltb-true}
@@ -22,18 +23,22 @@ use Rattle.lfs_memory.specs.declared.pointers.PointerRun.{PointerRun}
 use Rattle.lfs_memory.specs.Memory.{IsLoose}
 use Rattle.lfs_memory.specs.Pointers.{IsInRun, IsRunOf, KeepsRun, IsKeptFor, HasNoWay, CountsRun, AnswersCount, pointer_in, blocks_in}
 use Rattle.lfs_memory.specs.Present.{Looks, FailsFromDevice, AnswersAddress}
-use Rattle.lfs_memory.proofs.Presents.{address_failed, data_at, data_none, data_past, inode_at, inode_bytes, looks_none, looks_then, nobody_at, not_missing, still_log}
+use Rattle.lfs_memory.proofs.Presents.{address_failed, data_at, data_none, data_past, inode_at, inode_bytes, looks_none, looks_then}
+use Rattle.lfs_memory.proofs.Presents.{nobody_at, not_missing, still_log}
 use Rattle.lfs_memory.proofs.Ranges.{passing, passing_more, passing_nothing, passing_same, passing_split}
 
 -- ---- runs that are read
 
 -- the pointers of an inode
-module _ (a b : DeviceState) (v : LogMemory) (n address : ℕ) (x : Entry) (looks : Looks a b) (some : 1 ≤ n) (at : address ≡ address_in v.map n) (there : 0 < address) (named : x ≡ Inode n) where
+module _ (a b : DeviceState) (v : LogMemory) (n address : ℕ) (x : Entry) (looks : Looks a b) (some : 1 ≤ n)
+    (at : address ≡ address_in v.map n) (there : 0 < address) (named : x ≡ Inode n) where
   on_map : 0 < address_in v.map n
   on_map = omega (arith, at, there)
 
-  shown_is : (shown : List ℕ) → shown ≡ present a.content (blocks_of v.dirty) x address → shown ≡ present a.content (blocks_of v.dirty) (Inode n) (address_in v.map n)
-  shown_is shown e = e ∙ ap (λ (y : Entry). present a.content (blocks_of v.dirty) y address) named ∙ ap (present a.content (blocks_of v.dirty) (Inode n)) at
+  shown_is : (shown : List ℕ) → shown ≡ present a.content (blocks_of v.dirty) x address
+      → shown ≡ present a.content (blocks_of v.dirty) (Inode n) (address_in v.map n)
+  shown_is shown e = e ∙ ap (λ (y : Entry). present a.content (blocks_of v.dirty) y address) named
+      ∙ ap (present a.content (blocks_of v.dirty) (Inode n)) at
 
   pub inode_run : (numbers : List ℕ) → (b.keeps_model → ArePointers numbers (present a.content (blocks_of v.dirty) x address))
       → IsRunOf b v (record { number = n; first = 0; len = 112; place = 8; pointers = numbers })
@@ -45,13 +50,15 @@ module _ (a b : DeviceState) (v : LogMemory) (n address : ℕ) (x : Entry) (look
         there = on_map;
         low = omega (arith, direct);
         value = λ keeps. (
-            subst (λ (e : Content). get_or numbers (8 + (i - 0)) 0 ≡ data_now e (blocks_of v.dirty) n (present e (blocks_of v.dirty) (Inode n) (address_in v.map n)) i) (sym looks.untouched.content)
+            subst (λ (e : Content). get_or numbers (8 + (i - 0)) 0 ≡ data_now e (blocks_of v.dirty) n
+            (present e (blocks_of v.dirty) (Inode n) (address_in v.map n)) i) (sym looks.untouched.content)
             (ap (λ (k : ℕ). get_or numbers k 0) place ∙ read keeps (8 + i) (omega (arith, direct))
             ∙ ap (λ (b : List ℕ). word b (8 + i)) (shown_is (present a.content (blocks_of v.dirty) x address) refl)
             ∙ sym (cond-true _ _ _ (lt-ltb i 112 direct))));
       }
 
-  pub inode_run_failed : (fault : ReadFault) → (fault ≡ kind.Unreadable → b.keeps_model → IsAway a.content address) → (fault ≡ kind.Failed → a.failures < b.failures) → FailsFromDevice a b v
+  pub inode_run_failed : (fault : ReadFault) → (fault ≡ kind.Unreadable → b.keeps_model → IsAway a.content address)
+      → (fault ≡ kind.Failed → a.failures < b.failures) → FailsFromDevice a b v
   inode_run_failed kind.Unreadable away failed k m0 m keeps is =
       let gone = away refl keeps in
       absurd (not_missing a v k m0 m is (Inode n) address (n, refl) (inode_at a v k m0 m is n ∙ sym at) there
@@ -65,13 +72,16 @@ module _ (a b : DeviceState) (v : LogMemory) (n address : ℕ) (x : Entry) (look
       (record { inside = λ e. subst (λ (y : Entry). blocks_of v.dirty y ≡ None) named none; outside = λ ne. absurd (ne one) }))
 
 -- those of a leaf
-module _ (a b c : DeviceState) (v : LogMemory) (n q address first : ℕ) (x : Entry) (shown : List ℕ) (one : Looks a b) (two : Looks b c) (some : 1 ≤ n) (at : address ≡ address_in v.map n) (there : 0 < address) (named : x ≡ Inode n)
-    (below : q ≤ 128) (read : b.keeps_model → shown ≡ present a.content (blocks_of v.dirty) x address) (begins : first ≡ word shown (leaf_first q)) where
+module _ (a b c : DeviceState) (v : LogMemory) (n q address first : ℕ) (x : Entry) (shown : List ℕ) (one : Looks a b) (two : Looks b c)
+    (some : 1 ≤ n) (at : address ≡ address_in v.map n) (there : 0 < address) (named : x ≡ Inode n)
+    (below : q ≤ 128) (read : b.keeps_model → shown ≡ present a.content (blocks_of v.dirty) x address)
+    (begins : first ≡ word shown (leaf_first q)) where
   inode_is : b.keeps_model → shown ≡ present a.content (blocks_of v.dirty) (Inode n) (address_in v.map n)
   inode_is keeps = shown_is a b v n address x one some at there named shown (read keeps)
 
   pub leaf_run : (numbers : List ℕ)
-      → ((inode : List ℕ) → first ≡ word inode (leaf_first q) → c.keeps_model → ArePointers numbers (present b.content (blocks_of v.dirty) (Leaf n q) (leaf_now b.content (blocks_of v.dirty) n inode q)))
+      → ((inode : List ℕ) → first ≡ word inode (leaf_first q) → c.keeps_model
+      → ArePointers numbers (present b.content (blocks_of v.dirty) (Leaf n q) (leaf_now b.content (blocks_of v.dirty) n inode q)))
       → IsRunOf c v (record { number = n; first = 112 + 128 * q; len = 128; place = 0; pointers = numbers })
   leaf_run numbers found i inside =
       let low = inside.low in
@@ -83,26 +93,36 @@ module _ (a b c : DeviceState) (v : LogMemory) (n q address first : ℕ) (x : En
         there = omega (arith, at, there);
         low = omega (arith, below, high);
         value = λ keeps. (
-            subst (λ (e : Content). get_or numbers (0 + (i - (112 + 128 * q))) 0 ≡ data_now e (blocks_of v.dirty) n (present e (blocks_of v.dirty) (Inode n) (address_in v.map n)) i) (sym (two.untouched.content ∙ one.untouched.content))
+            subst (λ (e : Content). get_or numbers (0 + (i - (112 + 128 * q))) 0 ≡ data_now e (blocks_of v.dirty) n
+            (present e (blocks_of v.dirty) (Inode n) (address_in v.map n)) i) (sym (two.untouched.content ∙ one.untouched.content))
             (ap (λ (k : ℕ). get_or numbers k 0) place
             ∙ found shown begins keeps ((i - 112) % 128) (omega arith)
-            ∙ ap (λ (e : Content). word (present e (blocks_of v.dirty) (Leaf n q) (leaf_now e (blocks_of v.dirty) n shown q)) ((i - 112) % 128)) one.untouched.content
-            ∙ ap (λ (b : List ℕ). word (present a.content (blocks_of v.dirty) (Leaf n q) (leaf_now a.content (blocks_of v.dirty) n b q)) ((i - 112) % 128)) (inode_is (two.carries.kept_before keeps))
-            ∙ ap (λ (l : ℕ). word (present a.content (blocks_of v.dirty) (Leaf n l) (leaf_now a.content (blocks_of v.dirty) n (present a.content (blocks_of v.dirty) (Inode n) (address_in v.map n)) l)) ((i - 112) % 128)) (sym leaf)
+            ∙ ap (λ (e : Content). word (present e (blocks_of v.dirty) (Leaf n q) (leaf_now e (blocks_of v.dirty) n shown q))
+            ((i - 112) % 128)) one.untouched.content
+            ∙ ap (λ (b : List ℕ). word (present a.content (blocks_of v.dirty) (Leaf n q) (leaf_now a.content (blocks_of v.dirty) n b q))
+            ((i - 112) % 128)) (inode_is (two.carries.kept_before keeps))
+            ∙ ap (λ (l : ℕ). word (present a.content (blocks_of v.dirty) (Leaf n l) (leaf_now a.content (blocks_of v.dirty) n
+            (present a.content (blocks_of v.dirty) (Inode n) (address_in v.map n)) l)) ((i - 112) % 128)) (sym leaf)
             ∙ sym (cond-false _ _ _ (le-ltb i 112 (omega (arith, low))))));
       }
 
   pub leaf_run_failed : (fault : ReadFault)
-      → (fault ≡ kind.Unreadable → (inode : List ℕ) → first ≡ word inode (leaf_first q) → c.keeps_model → IsLeafAway b.content inode q ⊎ IsAway b.content (leaf_now b.content (blocks_of v.dirty) n inode q))
+      → (fault ≡ kind.Unreadable → (inode : List ℕ) → first ≡ word inode (leaf_first q) → c.keeps_model
+      → IsLeafAway b.content inode q ⊎ IsAway b.content (leaf_now b.content (blocks_of v.dirty) n inode q))
       → (fault ≡ kind.Failed → b.failures < c.failures) → FailsFromDevice a c v
   leaf_run_failed fault away failed =
       let leaf : q ≡ (112 + 128 * q - 112) / 128 = omega arith in
       address_failed a b c v n (112 + 128 * q) shown fault one two (omega (arith, at, there)) (omega (arith, below)) inode_is
-      (λ is keeps. (omega arith, subst (λ (l : ℕ). IsLeafAway b.content shown l ⊎ IsAway b.content (leaf_now b.content (blocks_of v.dirty) n shown l)) leaf (away is shown begins keeps)))
+      (λ is keeps. (
+        omega arith,
+        subst (λ (l : ℕ). IsLeafAway b.content shown l
+            ⊎ IsAway b.content (leaf_now b.content (blocks_of v.dirty) n shown l)) leaf (away is shown begins keeps),
+      ))
       failed
 
 -- where a run has the pointers to some blocks, it has each
-pub ok_for : {E : Type 0} (r : Result PointerRun E) (n first end i : ℕ) → first ≤ i → i < end → IfOk r (λ run. (j : ℕ) → first ≤ j → j < end → IsInRun run n j) → IfOk r (λ run. IsInRun run n i)
+pub ok_for : {E : Type 0} (r : Result PointerRun E) (n first end i : ℕ) → first ≤ i → i < end
+    → IfOk r (λ run. (j : ℕ) → first ≤ j → j < end → IsInRun run n j) → IfOk r (λ run. IsInRun run n i)
 ok_for (Ok run) n first end i low high from = from i low high
 ok_for (Err e) n first end i low high from = tt
 
@@ -117,11 +137,13 @@ run_still a b v (Some r) looks is = λ i inside.
       some = p.some;
       there = p.there;
       low = p.low;
-      value = λ keeps. subst (λ (e : Content). pointer_in r i ≡ data_now e (blocks_of v.dirty) r.number (present e (blocks_of v.dirty) (Inode r.number) (address_in v.map r.number)) i) (sym looks.untouched.content) (p.value (looks.carries.kept_before keeps));
+      value = λ keeps. subst (λ (e : Content). pointer_in r i ≡ data_now e (blocks_of v.dirty) r.number (present e (blocks_of v.dirty)
+          (Inode r.number) (address_in v.map r.number)) i) (sym looks.untouched.content) (p.value (looks.carries.kept_before keeps));
     }
 
 -- what its pointers are
-module _ (a b : DeviceState) (v : LogMemory) (r : PointerRun) (looks : Looks a b) (run : IsRunOf b v r) (n i : ℕ) (inside : IsInRun r n i) where
+module _ (a b : DeviceState) (v : LogMemory) (r : PointerRun) (looks : Looks a b) (run : IsRunOf b v r) (n i : ℕ)
+    (inside : IsInRun r n i) where
   own : IsInRun r r.number i
   own = record { own = refl; low = inside.low; high = inside.high }
 
@@ -129,15 +151,19 @@ module _ (a b : DeviceState) (v : LogMemory) (r : PointerRun) (looks : Looks a b
   in_run k m0 m keeps is =
       let p = run i own in
       let shown = present a.content (blocks_of v.dirty) (Inode r.number) (address_in v.map r.number) in
-      let found = subst (λ (e : Content). pointer_in r i ≡ data_now e (blocks_of v.dirty) r.number (present e (blocks_of v.dirty) (Inode r.number) (address_in v.map r.number)) i) looks.untouched.content (p.value keeps) in
+      let found = subst (λ (e : Content). pointer_in r i ≡ data_now e (blocks_of v.dirty) r.number
+      (present e (blocks_of v.dirty) (Inode r.number) (address_in v.map r.number)) i) looks.untouched.content (p.value keeps) in
       ap (λ (n : ℕ). is.running.memory.at (Data n i)) (sym inside.own)
       ∙ sym (found ∙ data_at a v k m0 m is r.number i shown p.there (inode_bytes a v k m0 m is r.number shown p.there refl) p.low)
 
-pub kept_found : (a b : DeviceState) (v : LogMemory) (kept : Option PointerRun) (n i p : ℕ) → Looks a b → KeepsRun b v kept → IsKeptFor kept n i → IfSome kept (λ r. p ≡ pointer_in r i) → AnswersAddress a b v (Data n i) p
+pub kept_found : (a b : DeviceState) (v : LogMemory) (kept : Option PointerRun) (n i p : ℕ) → Looks a b → KeepsRun b v kept
+    → IsKeptFor kept n i → IfSome kept (λ r. p ≡ pointer_in r i) → AnswersAddress a b v (Data n i) p
 kept_found a b v None n i p looks run inside found = absurd inside
-kept_found a b v (Some r) n i p looks run inside found = subst (AnswersAddress a b v (Data n i)) (sym found) (in_run a b v r looks run n i inside)
+kept_found a b v (Some r) n i p looks run inside found =
+    subst (AnswersAddress a b v (Data n i)) (sym found) (in_run a b v r looks run n i inside)
 
-pub kept_some : (b : DeviceState) (v : LogMemory) (kept : Option PointerRun) (n i : ℕ) → KeepsRun b v kept → IsKeptFor kept n i → (1 ≤ n) × (i ≤ 16623)
+pub kept_some : (b : DeviceState) (v : LogMemory) (kept : Option PointerRun) (n i : ℕ) → KeepsRun b v kept → IsKeptFor kept n i
+    → (1 ≤ n) × (i ≤ 16623)
 kept_some b v None n i run inside = absurd inside
 kept_some b v (Some r) n i run inside =
     let p = run i (record { own = refl; low = inside.low; high = inside.high }) in
@@ -158,10 +184,12 @@ no_way a b v n i none k m0 m keeps is = ⊎_elim
 pub blocks_none : (pointer : ℕ → ℕ) (from : ℕ) → blocks_in pointer from from ≡ 0
 blocks_none pointer from = let none : from - from ≡ 0 = omega arith in ap (passing (λ i. not (pointer i == 0)) from) none
 
-pub blocks_more : (pointer : ℕ → ℕ) (from i count : ℕ) → from ≤ i → blocks_in pointer from i ≡ count → blocks_in pointer from (i + 1) ≡ count + bool_byte (not (pointer i == 0))
+pub blocks_more : (pointer : ℕ → ℕ) (from i count : ℕ) → from ≤ i → blocks_in pointer from i ≡ count
+    → blocks_in pointer from (i + 1) ≡ count + bool_byte (not (pointer i == 0))
 blocks_more pointer from i count order was =
     let next : i + 1 - from ≡ i - from + 1 = omega (arith, order) in
-    let more = ap (passing (λ i. not (pointer i == 0)) from) next ∙ passing_more (λ i. not (pointer i == 0)) from (i - from) i (omega (arith, order)) in
+    let more = ap (passing (λ i. not (pointer i == 0)) from) next
+    ∙ passing_more (λ i. not (pointer i == 0)) from (i - from) i (omega (arith, order)) in
     omega (arith, was, more, byte (not (pointer i == 0)))
   where
     byte : (b : Bool) → bool_byte b ≡ one_if b
@@ -183,12 +211,14 @@ some_test a on = ⊎_elim
     (cases_eq a 0)
 
 -- a block is stored exactly where it has an address
-pub block_test : (d : DeviceState) (v : LogMemory) (k : CheckpointValue) (m0 m : LogMap) (is : IsLoose d v k m0 m) (n i a : ℕ) → is.running.memory.at (Data n i) ≡ a → is_stored m n i ≡ not (a == 0)
+pub block_test : (d : DeviceState) (v : LogMemory) (k : CheckpointValue) (m0 m : LogMap) (is : IsLoose d v k m0 m) (n i a : ℕ)
+    → is.running.memory.at (Data n i) ≡ a → is_stored m n i ≡ not (a == 0)
 block_test d v k m0 m is n i a at = same_tests (is_stored m n i) (not (a == 0))
     (λ on. let has = (is.running.laid.blocks n i).0 (ltb-true 0 (length (m.block n i)) on) in test_some a (omega (arith, has, at)))
     (λ on. let some = some_test a on in lt-ltb 0 (length (m.block n i)) ((is.running.laid.blocks n i).1 (omega (arith, some, at))))
 
-pub kept_count : (a b : DeviceState) (v : LogMemory) (kept : Option PointerRun) (n from end count : ℕ) → Looks a b → KeepsRun b v kept → IsKeptFor kept n from → from < end → IfSome kept (CountsRun from end count)
+pub kept_count : (a b : DeviceState) (v : LogMemory) (kept : Option PointerRun) (n from end count : ℕ) → Looks a b → KeepsRun b v kept
+    → IsKeptFor kept n from → from < end → IfSome kept (CountsRun from end count)
     → AnswersCount a b v n from end count
 unfolding stored_in
 kept_count a b v None n from end count looks run inside order counted = absurd inside
@@ -197,7 +227,8 @@ kept_count a b v (Some r) n from end count looks run inside order counted = λ k
     let most = counted.inside in
     passing_same (is_stored m n) (λ i. not (pointer_in r i == 0)) from (end - from)
     (λ i le lt. block_test a v k m0 m is n i (pointer_in r i)
-    (in_run a b v r looks run n i (record { own = inside.own; low = omega (arith, low, le); high = omega (arith, most, lt, order) }) k m0 m keeps is))
+    (in_run a b v r looks run n i (record { own = inside.own; low = omega (arith, low, le); high = omega (arith, most, lt, order) }) k m0 m
+    keeps is))
     ∙ counted.value
 
 pub no_way_count : (a b : DeviceState) (v : LogMemory) (n from end : ℕ) → HasNoWay v n from → AnswersCount a b v n from end 0
@@ -207,7 +238,8 @@ no_way_count a b v n from end none k m0 m keeps is =
     (λ i le lt. block_test a v k m0 m is n i 0 (no_way a b v n i (later i le none) k m0 m keeps is))
   where
     later : (i : ℕ) → from ≤ i → HasNoWay v n from → HasNoWay v n i
-    later i le none = ⊎_elim (λ (past : 16624 ≤ from). inl (omega (arith, past, le))) (λ (gone : (n ≡ 0) ⊎ (address_in v.map n ≡ 0)). inr gone) none
+    later i le none =
+        ⊎_elim (λ (past : 16624 ≤ from). inl (omega (arith, past, le))) (λ (gone : (n ≡ 0) ⊎ (address_in v.map n ≡ 0)). inr gone) none
 
 -- one part after the other
 pub record CountedTo (a b : DeviceState) (v : LogMemory) (n from at count : ℕ) : Type 0 where
@@ -225,7 +257,8 @@ counted_none a v n from = record {
   answer = λ k m0 m keeps is. (let none : from - from ≡ 0 = omega arith in ap (passing (is_stored m n) from) none);
 }
 
-pub counted_more : (a b c : DeviceState) (v : LogMemory) (n from at end count more : ℕ) → IsLawful a → CountedTo a b v n from at count → Looks b c → c.failures ≡ b.failures → at < end → more ≤ end - at
+pub counted_more : (a b c : DeviceState) (v : LogMemory) (n from at end count more : ℕ) → IsLawful a → CountedTo a b v n from at count
+    → Looks b c → c.failures ≡ b.failures → at < end → more ≤ end - at
     → AnswersCount b c v n at end more → CountedTo a c v n from end (count + more)
 unfolding stored_in
 counted_more a b c v n from at end count more lawful was looks no_failure order few answer = record {
@@ -242,11 +275,13 @@ counted_more a b c v n from at end count more lawful was looks no_failure order 
       both ∙ ap₂ (λ (x y : ℕ). x + y) before part;
 }
 
-pub counted_fault : (a b c : DeviceState) (v : LogMemory) (n from at count : ℕ) → CountedTo a b v n from at count → FailsFromDevice b c v → FailsFromDevice a c v
+pub counted_fault : (a b c : DeviceState) (v : LogMemory) (n from at count : ℕ) → CountedTo a b v n from at count → FailsFromDevice b c v
+    → FailsFromDevice a c v
 counted_fault a b c v n from at count was failed k m0 m keeps is =
     let rose = failed k m0 m keeps (still_log a b v k m0 m was.looks is) in
     let before = was.no_failure in
     omega (arith, rose, before)
 
-pub counted_all : (a b : DeviceState) (v : LogMemory) (n from at to count : ℕ) → at ≡ to → CountedTo a b v n from at count → AnswersCount a b v n from to count
+pub counted_all : (a b : DeviceState) (v : LogMemory) (n from at to count : ℕ) → at ≡ to → CountedTo a b v n from at count
+    → AnswersCount a b v n from to count
 counted_all a b v n from at to count same was = subst (λ (e : ℕ). AnswersCount a b v n from e count) same was.answer

@@ -1,5 +1,6 @@
 -- What a batch of changes needs comes into memory: what is ready stays so, and how many blocks came.
-use Rattle.std.proofs.Common.{◌≡◌, ◌<◌, ◌≤◌, ◌⊎◌, ⊎_elim, inl, inr, ◌+◌, ◌-◌, ◌/◌, ◌==◌, cond, nat_lt, ℕ, Bool, true, false, List, [], ◌∷◌, length, get_or, drop, Option, None, Some, refl, sym, ◌∙◌, ap, subst, arith}
+use Rattle.std.proofs.Common.{◌≡◌, ◌<◌, ◌≤◌, ◌⊎◌, ⊎_elim, inl, inr, ◌+◌, ◌-◌, ◌/◌, ◌==◌, cond, nat_lt, ℕ, Bool, true, false, List, [], ◌∷◌}
+use Rattle.std.proofs.Common.{length, get_or, drop, Option, None, Some, refl, sym, ◌∙◌, ap, subst, arith}
 use Rattle.std.proofs.lemmas.Bool.{cases_lt, cases_Bool, lt-ltb, le-ltb, cond-true, cond-false}
 use Rattle.std.proofs.lemmas.List.{drop_more}
 use Rattle.lfs_model.specs.Device.{DeviceState, IsLawful}
@@ -18,7 +19,8 @@ use Rattle.lfs_memory.specs.Memory.{IsMemory, tables_of}
 use Rattle.lfs_memory.specs.Present.{Looks, FailsFromDevice}
 use Rattle.lfs_memory.specs.Changing.{Grows, HasAbove}
 use Rattle.lfs_memory.specs.Lifting.{IsAbsent, IsInMemory, MapLifts, Prepares}
-use Rattle.lfs_memory.specs.Preparing.{HasParent, AreBlocksReady, IsHeaderReady, AreHeadersReady, LacksRoom, AreWithin, IsExcusedWithin, AreExcusedWithin, is_beside, row_of, way_from, ways, ways_from}
+use Rattle.lfs_memory.specs.Preparing.{HasParent, AreBlocksReady, IsHeaderReady, AreHeadersReady, LacksRoom, AreWithin, IsExcusedWithin}
+use Rattle.lfs_memory.specs.Preparing.{AreExcusedWithin, is_beside, row_of, way_from, ways, ways_from}
 use Rattle.lfs_memory.proofs.Aboves.{grown_memory}
 use Rattle.lfs_memory.proofs.BlockSteps.{grown_log}
 use Rattle.lfs_memory.proofs.Lifted.{map_of_prepares, prepares_at_most, prepares_excused, prepares_looks, prepares_then}
@@ -26,7 +28,8 @@ use Rattle.lfs_memory.proofs.LogMaps.{both_yes, equal_is}
 use Rattle.lfs_memory.proofs.Presents.{looks_none}
 
 -- ---- an empty block of pointers
-grow_prepares : (d : DeviceState) (v v' : LogMemory) (x : Entry) → IsMemory v → IsPointers x → IsAtAddress (blocks_of v.dirty) (tables_of v) x 0 → Grows v v' x → Prepares d d v v' 1
+grow_prepares : (d : DeviceState) (v v' : LogMemory) (x : Entry) → IsMemory v → IsPointers x
+    → IsAtAddress (blocks_of v.dirty) (tables_of v) x 0 → Grows v v' x → Prepares d d v v' 1
 grow_prepares d v v' x memory pointers at go = record {
   looks = looks_none d;
   memory = go.stays.memory memory;
@@ -45,21 +48,26 @@ grow_prepares d v v' x memory pointers at go = record {
 }
 
 -- after a call that only looked
-prepares_same : (d d' : DeviceState) (v v' : LogMemory) (n l : ℕ) → IsLawful d → IsMemory v → v' ≡ v → Prepares d d' v v' n → Prepares d d' v v' l
+prepares_same : (d d' : DeviceState) (v v' : LogMemory) (n l : ℕ) → IsLawful d → IsMemory v → v' ≡ v → Prepares d d' v v' n
+    → Prepares d d' v v' l
 prepares_same d d' v v' n l lawful memory same one =
-    subst (λ (w : LogMemory). Prepares d d' v w l) (sym same) (prepares_at_most d d' v v 0 l (omega arith) (prepares_looks d d' v lawful memory one.looks))
+    subst (λ (w : LogMemory). Prepares d d' v w l) (sym same)
+    (prepares_at_most d d' v v 0 l (omega arith) (prepares_looks d d' v lawful memory one.looks))
 
-pub grown_after : (d d' : DeviceState) (v v' v'' : LogMemory) (x : Entry) → IsLawful d → IsMemory v → v' ≡ v → IsPointers x → IsAtAddress (blocks_of v'.dirty) (tables_of v') x 0 → Grows v' v'' x
+pub grown_after : (d d' : DeviceState) (v v' v'' : LogMemory) (x : Entry) → IsLawful d → IsMemory v → v' ≡ v → IsPointers x
+    → IsAtAddress (blocks_of v'.dirty) (tables_of v') x 0 → Grows v' v'' x
     → Prepares d d' v v' 1 → Prepares d d' v v'' 1
 grown_after d d' v v' v'' x lawful memory same pointers at go one =
-    prepares_then d d' d' v v' v'' 0 1 lawful (prepares_same d d' v v' 1 0 lawful memory same one) (grow_prepares d' v' v'' x one.memory pointers at go)
+    prepares_then d d' d' v v' v'' 0 1 lawful (prepares_same d d' v v' 1 0 lawful memory same one)
+    (grow_prepares d' v' v'' x one.memory pointers at go)
 
 -- ---- room
 lacks_more : (v : LogMemory) (a b : ℕ) → a ≤ b → LacksRoom v a → LacksRoom v b
 lacks_more v a b le lacks = omega (arith, le, lacks)
 
 lacks_then : (d d' : DeviceState) (v v' : LogMemory) (a b : ℕ) → Prepares d d' v v' a → LacksRoom v' b → LacksRoom v (a + b)
-lacks_then d d' v v' a b one lacks = let few = one.few in let capacity = ap (λ (c : Capacity). c.limit) one.capacity in omega (arith, few, capacity, lacks)
+lacks_then d d' v v' a b one lacks = let few = one.few in let capacity = ap (λ (c : Capacity). c.limit) one.capacity in
+    omega (arith, few, capacity, lacks)
 
 -- ---- what stays
 pub record Keeps (v w : LogMemory) : Type 0 where
@@ -94,7 +102,8 @@ header_ready_kept v w n links keeps was = record {
 
 pub headers_ready_kept : (v w : LogMemory) (edits : List HeaderEdit) → Keeps v w → AreHeadersReady v edits → AreHeadersReady w edits
 headers_ready_kept v w [] keeps was = was
-headers_ready_kept v w (e ∷ edits) keeps was = (header_ready_kept v w e.number e.header.links keeps was.0, headers_ready_kept v w edits keeps was.1)
+headers_ready_kept v w (e ∷ edits) keeps was =
+    (header_ready_kept v w e.number e.header.links keeps was.0, headers_ready_kept v w edits keeps was.1)
 
 -- ---- a data block
 pub way_high : (v : LogMemory) (n i : ℕ) → 112 ≤ i → IsInMemory v (Leaf n ((i - 112) / 128)) → HasParent v n i
@@ -109,7 +118,8 @@ excused_within d d' v n i failed k m0 m keeps is within = failed k m0 m keeps is
 
 -- ---- a header
 -- after the inode map's block
-module _ (d d' : DeviceState) (v v' v'' : LogMemory) (j : ℕ) (lawful : IsLawful d) (memory : IsMemory v) (named : (v' ≡ v) ⊎ MapLifts v v' j) (one : Prepares d d' v' v'' 1) where
+module _ (d d' : DeviceState) (v v' v'' : LogMemory) (j : ℕ) (lawful : IsLawful d) (memory : IsMemory v)
+    (named : (v' ≡ v) ⊎ MapLifts v v' j) (one : Prepares d d' v' v'' 1) where
   pub named_prepares : Prepares d d' v v'' 1
   named_prepares = prepares_then d d d' v v' v'' 0 1 lawful (map_of_prepares d v v' j lawful memory named) one
 
@@ -122,12 +132,14 @@ pub record HeadersPrepared (d0 d : DeviceState) (v0 v : LogMemory) (edits rest :
   pub ready : (w : LogMemory) → Keeps v w → AreHeadersReady w rest → AreHeadersReady w edits
   pub no_failure : d.failures ≡ d0.failures
 
-module _ (d0 d : DeviceState) (v0 v : LogMemory) (edits : List HeaderEdit) (i : ℕ) (e : HeaderEdit) (lawful : IsLawful d0) (within : i < length edits) (own : get_or edits i e ≡ e)
+module _ (d0 d : DeviceState) (v0 v : LogMemory) (edits : List HeaderEdit) (i : ℕ) (e : HeaderEdit) (lawful : IsLawful d0)
+    (within : i < length edits) (own : get_or edits i e ≡ e)
     (was : HeadersPrepared d0 d v0 v edits (drop i edits) i) (d' : DeviceState) (v' : LogMemory) (one : Prepares d d' v v' 1) where
   first_header : drop i edits ≡ e ∷ drop (i + 1) edits
   first_header = drop_more edits i e within ∙ ap (λ (f : HeaderEdit). f ∷ drop (i + 1) edits) own
 
-  pub headers_next : IsHeaderReady v' e.number e.header.links → d'.failures ≡ d.failures → HeadersPrepared d0 d' v0 v' edits (drop (i + 1) edits) (i + 1)
+  pub headers_next : IsHeaderReady v' e.number e.header.links → d'.failures ≡ d.failures
+      → HeadersPrepared d0 d' v0 v' edits (drop (i + 1) edits) (i + 1)
   headers_next ready no_failure = record {
     prepares = prepares_then d0 d d' v0 v v' i 1 lawful was.prepares one;
     ready = λ w keeps rest. was.ready w (keeps_prepared d d' v v' w 1 one keeps)
@@ -136,7 +148,8 @@ module _ (d0 d : DeviceState) (v0 v : LogMemory) (edits : List HeaderEdit) (i : 
   }
 
   pub headers_fault : Prepares d0 d' v0 v' (length edits)
-  headers_fault = prepares_at_most d0 d' v0 v' (i + 1) (length edits) (omega (arith, within)) (prepares_then d0 d d' v0 v v' i 1 lawful was.prepares one)
+  headers_fault = prepares_at_most d0 d' v0 v' (i + 1) (length edits) (omega (arith, within))
+      (prepares_then d0 d d' v0 v v' i 1 lawful was.prepares one)
 
   pub headers_excused : FailsFromDevice d d' v → FailsFromDevice d0 d' v0
   headers_excused failed = prepares_excused d0 d d' v0 v i was.prepares one.looks failed
@@ -175,7 +188,8 @@ beside_ready v a b beside was =
     ⊎_elim
     (λ (has : HasAbove (blocks_of v.dirty) (Data a.number a.index)).
     inl (subst (IsInMemory v) (row_parent a.number a.index b.index rows ∙ ap (λ (n : ℕ). parent (Data n b.index)) file) has))
-    (λ (made : (address_in v.map a.number ≡ 0) × (a.index < 112)). inr (ap (address_in v.map) (sym file) ∙ made.0, row_still_low a.index b.index rows made.1))
+    (λ (made : (address_in v.map a.number ≡ 0) × (a.index < 112)).
+    inr (ap (address_in v.map) (sym file) ∙ made.0, row_still_low a.index b.index rows made.1))
     was
 
 -- ---- blocks, one after the other
@@ -189,14 +203,16 @@ pub record BlocksPrepared (d0 d : DeviceState) (v0 v : LogMemory) (edits rest : 
   pub within : (m : LogMap) → AreWithin m edits → AreWithin m rest
   pub no_failure : d.failures ≡ d0.failures
 
-way_cases : (v : LogMemory) (before : Option BlockEdit) (e : BlockEdit) → ((b : BlockEdit) → before ≡ Some b → HasParent v b.number b.index) → (way_from before e ≡ 3) ⊎ ((way_from before e ≡ 0) × HasParent v e.number e.index)
+way_cases : (v : LogMemory) (before : Option BlockEdit) (e : BlockEdit) → ((b : BlockEdit) → before ≡ Some b → HasParent v b.number b.index)
+    → (way_from before e ≡ 3) ⊎ ((way_from before e ≡ 0) × HasParent v e.number e.index)
 way_cases v None e last = inl refl
 way_cases v (Some b) e last = ⊎_elim
     (λ (on : is_beside b e ≡ true). inr (ap (λ (t : Bool). cond {A = ℕ} t 0 3) on, beside_ready v b e on (last b refl)))
     (λ (off : is_beside b e ≡ false). inl (ap (λ (t : Bool). cond {A = ℕ} t 0 3) off))
     (cases_Bool (is_beside b e))
 
-module _ (d0 d : DeviceState) (v0 v : LogMemory) (edits : List BlockEdit) (i : ℕ) (e : BlockEdit) (lawful0 : IsLawful d0) (lawful : IsLawful d) (within : i < length edits) (own : get_or edits i e ≡ e)
+module _ (d0 d : DeviceState) (v0 v : LogMemory) (edits : List BlockEdit) (i : ℕ) (e : BlockEdit) (lawful0 : IsLawful d0)
+    (lawful : IsLawful d) (within : i < length edits) (own : get_or edits i e ≡ e)
     (was : BlocksPrepared d0 d v0 v edits (drop i edits)) (d' : DeviceState) (v' : LogMemory) (one : Prepares d d' v v' 3) where
   first_block : drop i edits ≡ e ∷ drop (i + 1) edits
   first_block = drop_more edits i e within ∙ ap (λ (f : BlockEdit). f ∷ drop (i + 1) edits) own
@@ -207,17 +223,20 @@ module _ (d0 d : DeviceState) (v0 v : LogMemory) (edits : List BlockEdit) (i : �
   sharp : (HasParent v e.number e.index → v' ≡ v) → Prepares d d' v v' (way_from was.before e)
   sharp same = ⊎_elim
       (λ (three : way_from was.before e ≡ 3). subst (Prepares d d' v v') (sym three) one)
-      (λ (none : (way_from was.before e ≡ 0) × HasParent v e.number e.index). prepares_same d d' v v' 3 (way_from was.before e) lawful was.prepares.memory (same none.1) one)
+      (λ (none : (way_from was.before e ≡ 0) × HasParent v e.number e.index).
+      prepares_same d d' v v' 3 (way_from was.before e) lawful was.prepares.memory (same none.1) one)
       (way_cases v was.before e was.last)
 
-  pub blocks_next : (HasParent v e.number e.index → v' ≡ v) → HasParent v' e.number e.index → d'.failures ≡ d.failures → BlocksPrepared d0 d' v0 v' edits (drop (i + 1) edits)
+  pub blocks_next : (HasParent v e.number e.index → v' ≡ v) → HasParent v' e.number e.index → d'.failures ≡ d.failures
+      → BlocksPrepared d0 d' v0 v' edits (drop (i + 1) edits)
   blocks_next same ready no_failure = record {
     before = Some e;
     last = λ b is. let own : e ≡ b = some_is e b is in subst (λ (f : BlockEdit). HasParent v' f.number f.index) own ready;
     most = was.most + way_from was.before e;
     all = let sum = sum_is in omega (arith, sum);
     prepares = prepares_then d0 d d' v0 v v' was.most (way_from was.before e) lawful0 was.prepares (sharp same);
-    ready = λ w keeps rest. was.ready w (keeps_prepared d d' v v' w 3 one keeps) (subst (AreBlocksReady w) (sym first_block) (ready_kept v' w e.number e.index keeps ready, rest));
+    ready = λ w keeps rest. was.ready w (keeps_prepared d d' v v' w 3 one keeps)
+        (subst (AreBlocksReady w) (sym first_block) (ready_kept v' w e.number e.index keeps ready, rest));
     within = λ m all. (subst (AreWithin m) first_block (was.within m all)).1;
     no_failure = no_failure ∙ was.no_failure;
   }
@@ -233,7 +252,8 @@ module _ (d0 d : DeviceState) (v0 v : LogMemory) (edits : List BlockEdit) (i : �
         (way_cases v was.before e was.last)
 
     pub blocks_fault : Prepares d0 d' v0 v' (ways edits)
-    blocks_fault = prepares_at_most d0 d' v0 v' (was.most + 3) (ways edits) three_more (prepares_then d0 d d' v0 v v' was.most 3 lawful0 was.prepares one)
+    blocks_fault = prepares_at_most d0 d' v0 v' (was.most + 3) (ways edits) three_more
+        (prepares_then d0 d d' v0 v v' was.most 3 lawful0 was.prepares one)
 
     pub blocks_short : LacksRoom v 3 → LacksRoom v0 (ways edits)
     blocks_short lacks = lacks_more v0 (was.most + 3) (ways edits) three_more (lacks_then d0 d v0 v was.most 3 was.prepares lacks)
@@ -246,13 +266,15 @@ module _ (d0 d : DeviceState) (v0 v : LogMemory) (edits : List BlockEdit) (i : �
       omega (arith, rose, before)
 
 -- ---- blocks after headers
-pub headers_ready_after : (d d' : DeviceState) (v w : LogMemory) (n : ℕ) (edits : List HeaderEdit) → Prepares d d' v w n → AreHeadersReady v edits → AreHeadersReady w edits
+pub headers_ready_after : (d d' : DeviceState) (v w : LogMemory) (n : ℕ) (edits : List HeaderEdit) → Prepares d d' v w n
+    → AreHeadersReady v edits → AreHeadersReady w edits
 headers_ready_after d d' v w n edits one was = headers_ready_kept v w edits (keeps_prepared d d' v w w n one (keeps_none w)) was
 
 pub all_excused : (d d' : DeviceState) (v : LogMemory) (edits : List BlockEdit) → FailsFromDevice d d' v → AreExcusedWithin d d' v edits
 all_excused d d' v edits failed k m0 m keeps is all = failed k m0 m keeps is
 
-pub excused_then : (a b c : DeviceState) (v w : LogMemory) (n : ℕ) (edits : List BlockEdit) → Prepares a b v w n → Looks b c → AreExcusedWithin b c w edits → AreExcusedWithin a c v edits
+pub excused_then : (a b c : DeviceState) (v w : LogMemory) (n : ℕ) (edits : List BlockEdit) → Prepares a b v w n → Looks b c
+    → AreExcusedWithin b c w edits → AreExcusedWithin a c v edits
 excused_then a b c v w n edits one two failed k m0 m keeps is all =
     let back = two.carries.kept_before keeps in
     let rose = failed k m0 m keeps (one.log k m0 m back is) all in

@@ -1,5 +1,6 @@
 -- A device that holds a log map answers each read with what the log map says.
-use Rattle.std.proofs.Common.{◌≡◌, ◌<◌, ◌≤◌, ◌⊎◌, ⊎_elim, ◌-◌, ◌/◌, ℕ, List, [], length, Some, None, refl, Option, sym, ◌∙◌, ap, ap₂, subst, arith, inl, inr, zero, suc, Bool, true, false}
+use Rattle.std.proofs.Common.{◌≡◌, ◌<◌, ◌≤◌, ◌⊎◌, ⊎_elim, ◌-◌, ◌/◌, ℕ, List, [], length, Some, None, refl, Option, sym, ◌∙◌, ap, ap₂, subst}
+use Rattle.std.proofs.Common.{arith, inl, inr, zero, suc, Bool, true, false}
 use Rattle.std.proofs.Math.Path.{fun_ext}
 use Rattle.std.proofs.lemmas.Bool.{cases_eq, cases_lt}
 use Rattle.lfs_model.specs.Checkpoint.{CheckpointValue}
@@ -28,10 +29,12 @@ use Rattle.lfs_inodes.proofs.PresentPointers.{present_is, leaf_is, present_is_la
 use Rattle.lfs_files.specs.declared.header.Header.{Header}
 use Rattle.lfs_memory.specs.declared.memory.LogMemory.{LogMemory}
 use Rattle.lfs_memory.specs.Memory.{IsLoose, tables_of, segment_in, chunk_in}
-use Rattle.lfs_memory.specs.Present.{Looks, IsMissing, FailsFromDevice, AnswersInode, AnswersHeader, AnswersBlock, AnswersAddress, as_header}
+use Rattle.lfs_memory.specs.Present.{Looks, IsMissing, FailsFromDevice, AnswersInode, AnswersHeader, AnswersBlock, AnswersAddress}
+use Rattle.lfs_memory.specs.Present.{as_header}
 
 -- ---- calls that only read
-pub still_log : (d d' : DeviceState) (v : LogMemory) (k : CheckpointValue) (m0 m : LogMap) → Looks d d' → IsLoose d v k m0 m → IsLoose d' v k m0 m
+pub still_log : (d d' : DeviceState) (v : LogMemory) (k : CheckpointValue) (m0 m : LogMap) → Looks d d' → IsLoose d v k m0 m
+    → IsLoose d' v k m0 m
 still_log d d' v k m0 m looks is = record {
   running = staying d d' (blocks_of v.dirty) (tables_of v) k m0 m (segment_in v.chunk) (chunk_in v.chunk) is.running looks.untouched;
   hidden = is.hidden;
@@ -39,7 +42,8 @@ still_log d d' v k m0 m looks is = record {
 }
 
 -- a stop meanwhile leaves what is acknowledged
-pub looks_quiet : (d d' : DeviceState) (v : LogMemory) (k : CheckpointValue) (m0 m : LogMap) → IsLawful d → Looks d d' → IsLoose d v k m0 m → LeavesOnly d d' (λ c. StandsOn k.segments c m0)
+pub looks_quiet : (d d' : DeviceState) (v : LogMemory) (k : CheckpointValue) (m0 m : LogMap) → IsLawful d → Looks d d' → IsLoose d v k m0 m
+    → LeavesOnly d d' (λ c. StandsOn k.segments c m0)
 looks_quiet d d' v k m0 m lawful looks is =
     let P : Content → Type 0 = λ c. StandsOn k.segments c m0 in
     goes_on d d d' P (started d P lawful (settled_stands d k m0 is.running.settled)) looks.carries looks.time
@@ -71,10 +75,12 @@ module _ (d : DeviceState) (v : LogMemory) (k : CheckpointValue) (m0 m : LogMap)
       (cases_eq a 1)
 
   not_away : (x : Entry) (a : ℕ) → IsOfFile x → M.at x ≡ a → IsAway d.content a → ⊥
-  not_away x a file at away = not_missing x a file at away.lost.some (record { inside = λ one. absurd (away.outside one); outside = λ ne. away.lost.lost })
+  not_away x a file at away =
+      not_missing x a file at away.lost.some (record { inside = λ one. absurd (away.outside one); outside = λ ne. away.lost.lost })
 
   pub is_there : (x : Entry) (a : ℕ) → IsOfFile x → M.at x ≡ a → 0 < a → present d.content dirty x a ≡ M.bytes x
-  is_there x a file at some = ap (present d.content dirty x) (sym at) ∙ present_is d.content m M (segment_in v.chunk) dirty laid is.running.cached x file (omega (arith, at, some))
+  is_there x a file at some = ap (present d.content dirty x) (sym at)
+      ∙ present_is d.content m M (segment_in v.chunk) dirty laid is.running.cached x file (omega (arith, at, some))
 
   -- ---- inodes
   pub inode_at : (n : ℕ) → M.at (Inode n) ≡ address_in v.map n
@@ -96,10 +102,12 @@ module _ (d : DeviceState) (v : LogMemory) (k : CheckpointValue) (m0 m : LogMap)
   pub nobody : m.header 0 ≡ None
   nobody = (reading d.content m M (segment_in v.chunk) laid).no_header 0 nobody_at
 
-  pub inode_bytes : (n : ℕ) (out : List ℕ) → 0 < address_in v.map n → out ≡ present d.content dirty (Inode n) (address_in v.map n) → out ≡ M.bytes (Inode n)
+  pub inode_bytes : (n : ℕ) (out : List ℕ) → 0 < address_in v.map n → out ≡ present d.content dirty (Inode n) (address_in v.map n)
+      → out ≡ M.bytes (Inode n)
   inode_bytes n out some e = e ∙ is_there (Inode n) (address_in v.map n) (n, refl) (inode_at n) some
 
-  pub inode_answer : (n : ℕ) (out : List ℕ) → 0 < address_in v.map n → out ≡ present d.content dirty (Inode n) (address_in v.map n) → HoldsInode n out × (m.header n ≡ Some (header out))
+  pub inode_answer : (n : ℕ) (out : List ℕ) → 0 < address_in v.map n → out ≡ present d.content dirty (Inode n) (address_in v.map n)
+      → HoldsInode n out × (m.header n ≡ Some (header out))
   inode_answer n out some e =
       let at = inode_at n in
       let f = laid.spells (Inode n) (omega (arith, at, some)) in
@@ -120,7 +128,8 @@ module _ (d : DeviceState) (v : LogMemory) (k : CheckpointValue) (m0 m : LogMap)
       (cases_lt i 112)
 
   pub data_past : (n i : ℕ) → 16624 ≤ i → M.at (Data n i) ≡ 0
-  data_past n i past = below_none (Data n i) (ap M.at (data_parent_high n i (omega (arith, past))) ∙ no_leaf ((i - 112) / 128) (omega (arith, past)))
+  data_past n i past =
+      below_none (Data n i) (ap M.at (data_parent_high n i (omega (arith, past))) ∙ no_leaf ((i - 112) / 128) (omega (arith, past)))
     where
       no_leaf : (q : ℕ) → 129 ≤ q → M.at (Leaf n q) ≡ 0
       no_leaf q far = ⊎_elim
@@ -128,19 +137,22 @@ module _ (d : DeviceState) (v : LogMemory) (k : CheckpointValue) (m0 m : LogMap)
           (λ (some : M.at (Leaf n q) ≡ 0 → ⊥). let low = laid.low n q (omega (arith, some)) in absurd (omega (arith, far, low)))
           (cases_eq (M.at (Leaf n q)) 0)
 
-  pub data_at : (n i : ℕ) (inode : List ℕ) → 0 < address_in v.map n → inode ≡ M.bytes (Inode n) → i < 16624 → data_now d.content dirty n inode i ≡ M.at (Data n i)
+  pub data_at : (n i : ℕ) (inode : List ℕ) → 0 < address_in v.map n → inode ≡ M.bytes (Inode n) → i < 16624
+      → data_now d.content dirty n inode i ≡ M.at (Data n i)
   data_at n i inode some e low =
       let at = inode_at n in
       ap (λ (b : List ℕ). data_now d.content dirty n b i) e
       ∙ present_is_laid d.content m M (segment_in v.chunk) dirty laid is.running.cached n i (omega (arith, at, some)) low
 
-  pub data_not_away : (n i : ℕ) (inode : List ℕ) → 0 < address_in v.map n → inode ≡ M.bytes (Inode n) → i < 16624 → IsDataAway d.content dirty n inode i → ⊥
+  pub data_not_away : (n i : ℕ) (inode : List ℕ) → 0 < address_in v.map n → inode ≡ M.bytes (Inode n) → i < 16624
+      → IsDataAway d.content dirty n inode i → ⊥
   data_not_away n i inode some e low away =
       let at = inode_at n in
       let there : 0 < M.at (Inode n) = omega (arith, at, some) in
       let w : IsDataAway d.content dirty n (M.bytes (Inode n)) i = subst (λ (b : List ℕ). IsDataAway d.content dirty n b i) e away in
       ⊎_elim
-      (λ (root : IsLeafAway d.content (M.bytes (Inode n)) ((i - 112) / 128)). not_away (Double n) (word (M.bytes (Inode n)) 121) (n, refl) (sym (laid.spells (Inode n) there).double) root.1)
+      (λ (root : IsLeafAway d.content (M.bytes (Inode n)) ((i - 112) / 128)).
+      not_away (Double n) (word (M.bytes (Inode n)) 121) (n, refl) (sym (laid.spells (Inode n) there).double) root.1)
       (λ (leaf : IsAway d.content (leaf_now d.content dirty n (M.bytes (Inode n)) ((i - 112) / 128))).
       not_away (Leaf n ((i - 112) / 128)) _ (n, refl)
       (sym (leaf_is d.content m M (segment_in v.chunk) dirty laid is.running.cached n there ((i - 112) / 128) (omega (arith, low)))) leaf)
@@ -151,22 +163,26 @@ module _ (d : DeviceState) (v : LogMemory) (k : CheckpointValue) (m0 m : LogMap)
 
   pub block_is : (n i a : ℕ) (out : List ℕ) → M.at (Data n i) ≡ a → 0 < a → out ≡ present d.content dirty (Data n i) a → m.block n i ≡ out
   block_is n i a out at some e =
-      sym ((reading d.content m M (segment_in v.chunk) laid).block n i (omega (arith, at, some))) ∙ sym (e ∙ is_there (Data n i) a (n, refl) at some)
+      sym ((reading d.content m M (segment_in v.chunk) laid).block n i (omega (arith, at, some)))
+      ∙ sym (e ∙ is_there (Data n i) a (n, refl) at some)
 
 -- ---- answers
-module _ (d d' : DeviceState) (v : LogMemory) (n a : ℕ) (x : Entry) (at : a ≡ address_in v.map n) (named : x ≡ Inode n) (some : a ≡ 0 → ⊥) where
+module _ (d d' : DeviceState) (v : LogMemory) (n a : ℕ) (x : Entry) (at : a ≡ address_in v.map n) (named : x ≡ Inode n)
+    (some : a ≡ 0 → ⊥) where
   there : 0 < address_in v.map n
   there = omega (arith, at, some)
 
   pub inode_answered : (out : List ℕ) → (d'.keeps_model → out ≡ present d.content (blocks_of v.dirty) x a) → AnswersInode d d' v n out true
   inode_answered out read k m0 m keeps is = inode_answer d v k m0 m is n out there
-      (read keeps ∙ ap (λ (y : Entry). present d.content (blocks_of v.dirty) y a) named ∙ ap (present d.content (blocks_of v.dirty) (Inode n)) at)
+      (read keeps ∙ ap (λ (y : Entry). present d.content (blocks_of v.dirty) y a) named
+      ∙ ap (present d.content (blocks_of v.dirty) (Inode n)) at)
 
   pub inode_failed : (d'.keeps_model → (d.failures < d'.failures) ⊎ IsMissing d.content (blocks_of v.dirty) x a) → FailsFromDevice d d' v
   inode_failed unread k m0 m keeps is = ⊎_elim
       (λ (failed : d.failures < d'.failures). failed)
       (λ (missing : IsMissing d.content (blocks_of v.dirty) x a).
-      absurd (not_missing d v k m0 m is x a (subst IsOfFile (sym named) (n, refl)) (ap is.running.memory.at named ∙ inode_at d v k m0 m is n ∙ sym at) (omega (arith, some)) missing))
+      absurd (not_missing d v k m0 m is x a (subst IsOfFile (sym named) (n, refl))
+      (ap is.running.memory.at named ∙ inode_at d v k m0 m is n ∙ sym at) (omega (arith, some)) missing))
       (unread keeps)
 
 pub address_past : (d : DeviceState) (v : LogMemory) (n i : ℕ) → 16624 ≤ i → AnswersAddress d d v (Data n i) 0
@@ -179,52 +195,63 @@ address_none d d' v n i none k m0 m keeps is = data_none d v k m0 m is n i (⊎_
     none)
 
 -- an inode that was read, and then blocks of pointers
-module _ (a b c : DeviceState) (v : LogMemory) (n i : ℕ) (inode : List ℕ) (one : Looks a b) (two : Looks b c) (some : 0 < address_in v.map n) (low : i < 16624)
+module _ (a b c : DeviceState) (v : LogMemory) (n i : ℕ) (inode : List ℕ) (one : Looks a b) (two : Looks b c)
+    (some : 0 < address_in v.map n) (low : i < 16624)
     (read : b.keeps_model → inode ≡ present a.content (blocks_of v.dirty) (Inode n) (address_in v.map n)) where
   inode_read : (k : CheckpointValue) (m0 m : LogMap) → c.keeps_model → (is : IsLoose a v k m0 m) → inode ≡ is.running.memory.bytes (Inode n)
   inode_read k m0 m keeps is = inode_bytes a v k m0 m is n inode some (read (two.carries.kept_before keeps))
 
-  pub address_found : (address : ℕ) → (c.keeps_model → address ≡ data_now b.content (blocks_of v.dirty) n inode i) → AnswersAddress a c v (Data n i) address
+  pub address_found : (address : ℕ) → (c.keeps_model → address ≡ data_now b.content (blocks_of v.dirty) n inode i)
+      → AnswersAddress a c v (Data n i) address
   address_found address found k m0 m keeps is =
-      sym (found keeps ∙ ap (λ (e : Content). data_now e (blocks_of v.dirty) n inode i) one.untouched.content ∙ data_at a v k m0 m is n i inode some (inode_read k m0 m keeps is) low)
+      sym (found keeps ∙ ap (λ (e : Content). data_now e (blocks_of v.dirty) n inode i) one.untouched.content
+      ∙ data_at a v k m0 m is n i inode some (inode_read k m0 m keeps is) low)
 
   pub address_away : (c.keeps_model → IsDataAway b.content (blocks_of v.dirty) n inode i) → FailsFromDevice a c v
   address_away away k m0 m keeps is =
-      absurd (data_not_away a v k m0 m is n i inode some (inode_read k m0 m keeps is) low (subst (λ (e : Content). IsDataAway e (blocks_of v.dirty) n inode i) one.untouched.content (away keeps)))
+      absurd (data_not_away a v k m0 m is n i inode some (inode_read k m0 m keeps is) low
+      (subst (λ (e : Content). IsDataAway e (blocks_of v.dirty) n inode i) one.untouched.content (away keeps)))
 
 -- a failure after calls that only read
 pub excused_then : (a b c : DeviceState) (v : LogMemory) → Looks a b → Looks b c → b.failures < c.failures → FailsFromDevice a c v
 excused_then a b c v one two failed k m0 m keeps is = let before = one.carries.failures in omega (arith, failed, before)
 
-pub excused_before : (a b c : DeviceState) (v : LogMemory) → Looks b c → FailsFromDevice a b v → FailsFromDevice a c v
-excused_before a b c v two failed k m0 m keeps is = let rose = failed k m0 m (two.carries.kept_before keeps) is in let after = two.carries.failures in omega (arith, rose, after)
-
 -- a fault of what follows the pointers
-pub address_failed : (a b c : DeviceState) (v : LogMemory) (n i : ℕ) (inode : List ℕ) (fault : ReadFault) → Looks a b → Looks b c → 0 < address_in v.map n → i < 16624
+pub address_failed : (a b c : DeviceState) (v : LogMemory) (n i : ℕ) (inode : List ℕ) (fault : ReadFault) → Looks a b → Looks b c
+    → 0 < address_in v.map n → i < 16624
     → (b.keeps_model → inode ≡ present a.content (blocks_of v.dirty) (Inode n) (address_in v.map n))
-    → (fault ≡ kind.Unreadable → c.keeps_model → IsDataAway b.content (blocks_of v.dirty) n inode i) → (fault ≡ kind.Failed → b.failures < c.failures) → FailsFromDevice a c v
-address_failed a b c v n i inode kind.Unreadable one two some low read away failed = address_away a b c v n i inode one two some low read (away refl)
+    → (fault ≡ kind.Unreadable → c.keeps_model → IsDataAway b.content (blocks_of v.dirty) n inode i)
+    → (fault ≡ kind.Failed → b.failures < c.failures) → FailsFromDevice a c v
+address_failed a b c v n i inode kind.Unreadable one two some low read away failed =
+    address_away a b c v n i inode one two some low read (away refl)
 address_failed a b c v n i inode kind.Failed one two some low read away failed = excused_then a b c v one two (failed refl)
 
 -- a block whose address is known
-pub block_absent : (a b : DeviceState) (v : LogMemory) (n i address : ℕ) → AnswersAddress a b v (Data n i) address → address ≡ 0 → AnswersBlock a b v n i [] false
+pub block_absent : (a b : DeviceState) (v : LogMemory) (n i address : ℕ) → AnswersAddress a b v (Data n i) address → address ≡ 0
+    → AnswersBlock a b v n i [] false
 block_absent a b v n i address at none k m0 m keeps is = no_block a v k m0 m is n i (at k m0 m keeps is ∙ none)
 
-module _ (a b c : DeviceState) (v : LogMemory) (n i address : ℕ) (x : Entry) (one : Looks a b) (two : Looks b c) (named : x ≡ Data n i) (at : AnswersAddress a b v (Data n i) address) where
-  pub block_answered : (out : List ℕ) → (address ≡ 0 → ⊥) → (c.keeps_model → out ≡ present b.content (blocks_of v.dirty) x address) → AnswersBlock a c v n i out true
+module _ (a b c : DeviceState) (v : LogMemory) (n i address : ℕ) (x : Entry) (one : Looks a b) (two : Looks b c) (named : x ≡ Data n i)
+    (at : AnswersAddress a b v (Data n i) address) where
+  pub block_answered : (out : List ℕ) → (address ≡ 0 → ⊥) → (c.keeps_model → out ≡ present b.content (blocks_of v.dirty) x address)
+      → AnswersBlock a c v n i out true
   block_answered out some read k m0 m keeps is =
       block_is a v k m0 m is n i address out (at k m0 m (two.carries.kept_before keeps) is) (omega (arith, some))
-      (read keeps ∙ ap (λ (y : Entry). present b.content (blocks_of v.dirty) y address) named ∙ ap (λ (e : Content). present e (blocks_of v.dirty) (Data n i) address) one.untouched.content)
+      (read keeps ∙ ap (λ (y : Entry). present b.content (blocks_of v.dirty) y address) named
+      ∙ ap (λ (e : Content). present e (blocks_of v.dirty) (Data n i) address) one.untouched.content)
 
-  pub block_failed : (address ≡ 0 → ⊥) → (c.keeps_model → (b.failures < c.failures) ⊎ IsMissing b.content (blocks_of v.dirty) x address) → FailsFromDevice a c v
+  pub block_failed : (address ≡ 0 → ⊥) → (c.keeps_model → (b.failures < c.failures) ⊎ IsMissing b.content (blocks_of v.dirty) x address)
+      → FailsFromDevice a c v
   block_failed some unread k m0 m keeps is = ⊎_elim
       (λ (failed : b.failures < c.failures). excused_then a b c v one two failed k m0 m keeps is)
       (λ (missing : IsMissing b.content (blocks_of v.dirty) x address).
-      absurd (not_missing a v k m0 m is x address (subst IsOfFile (sym named) (n, refl)) (ap is.running.memory.at named ∙ at k m0 m (two.carries.kept_before keeps) is) (omega (arith, some))
+      absurd (not_missing a v k m0 m is x address (subst IsOfFile (sym named) (n, refl))
+      (ap is.running.memory.at named ∙ at k m0 m (two.carries.kept_before keeps) is) (omega (arith, some))
       (subst (λ (e : Content). IsMissing e (blocks_of v.dirty) x address) one.untouched.content missing)))
       (unread keeps)
 
-pub header_read : (d d' : DeviceState) (v : LogMemory) (n : ℕ) (out : List ℕ) (found : Bool) (h : Header) → AnswersInode d d' v n out found → found ≡ true → header out ≡ as_header h → AnswersHeader d d' v n (Some h)
+pub header_read : (d d' : DeviceState) (v : LogMemory) (n : ℕ) (out : List ℕ) (found : Bool) (h : Header) → AnswersInode d d' v n out found
+    → found ≡ true → header out ≡ as_header h → AnswersHeader d d' v n (Some h)
 header_read d d' v n out true h answer yes_found is k m0 m keeps log = (answer k m0 m keeps log).1 ∙ ap Some is
 header_read d d' v n out false h answer yes_found is k m0 m keeps log = absurd (cc)
 
@@ -235,13 +262,15 @@ header_absent d v n none k m0 m keeps is = ⊎_elim
     none
 
 -- ---- memory and device hold one log map
-module _ (d : DeviceState) (v : LogMemory) (k k' : CheckpointValue) (m0 m m0' m' : LogMap) (is : IsLoose d v k m0 m) (is' : IsLoose d v k' m0' m') (version : m.version ≡ m'.version) where
+module _ (d : DeviceState) (v : LogMemory) (k k' : CheckpointValue) (m0 m m0' m' : LogMap) (is : IsLoose d v k m0 m)
+    (is' : IsLoose d v k' m0' m') (version : m.version ≡ m'.version) where
   same_header : (n : ℕ) → m.header n ≡ m'.header n
   same_header n = ⊎_elim
       (λ (none : address_in v.map n ≡ 0). no_inode d v k m0 m is n none ∙ sym (no_inode d v k' m0' m' is' n none))
       (λ (some : address_in v.map n ≡ 0 → ⊥).
       let out = present d.content (blocks_of v.dirty) (Inode n) (address_in v.map n) in
-      (inode_answer d v k m0 m is n out (omega (arith, some)) refl).1 ∙ sym (inode_answer d v k' m0' m' is' n out (omega (arith, some)) refl).1)
+      (inode_answer d v k m0 m is n out (omega (arith, some)) refl).1
+      ∙ sym (inode_answer d v k' m0' m' is' n out (omega (arith, some)) refl).1)
       (cases_eq (address_in v.map n) 0)
 
   same_data_at : (n i : ℕ) → is.running.memory.at (Data n i) ≡ is'.running.memory.at (Data n i)
@@ -249,7 +278,8 @@ module _ (d : DeviceState) (v : LogMemory) (k k' : CheckpointValue) (m0 m m0' m'
       (λ (past : 16624 ≤ i). data_past d v k m0 m is n i past ∙ sym (data_past d v k' m0' m' is' n i past))
       (λ (low : i < 16624). ⊎_elim
       (λ (none : address_in v.map n ≡ 0).
-      data_none d v k m0 m is n i (inode_at d v k m0 m is n ∙ none) ∙ sym (data_none d v k' m0' m' is' n i (inode_at d v k' m0' m' is' n ∙ none)))
+      data_none d v k m0 m is n i (inode_at d v k m0 m is n ∙ none)
+      ∙ sym (data_none d v k' m0' m' is' n i (inode_at d v k' m0' m' is' n ∙ none)))
       (λ (some : address_in v.map n ≡ 0 → ⊥).
       let out = present d.content (blocks_of v.dirty) (Inode n) (address_in v.map n) in
       sym (data_at d v k m0 m is n i out (omega (arith, some)) (inode_bytes d v k m0 m is n out (omega (arith, some)) refl) low)
@@ -263,14 +293,17 @@ module _ (d : DeviceState) (v : LogMemory) (k k' : CheckpointValue) (m0 m m0' m'
 
   same_block : (n i : ℕ) → m.block n i ≡ m'.block n i
   same_block n i = ⊎_elim
-      (λ (none : is.running.memory.at (Data n i) ≡ 0). no_block d v k m0 m is n i none ∙ sym (no_block d v k' m0' m' is' n i (sym (same_data_at n i) ∙ none)))
+      (λ (none : is.running.memory.at (Data n i) ≡ 0). no_block d v k m0 m is n i none
+      ∙ sym (no_block d v k' m0' m' is' n i (sym (same_data_at n i) ∙ none)))
       (λ (some : is.running.memory.at (Data n i) ≡ 0 → ⊥).
       let a = is.running.memory.at (Data n i) in
       let out = present d.content (blocks_of v.dirty) (Data n i) a in
-      block_is d v k m0 m is n i a out refl (omega (arith, some)) refl ∙ sym (block_is d v k' m0' m' is' n i a out (sym (same_data_at n i)) (omega (arith, some)) refl))
+      block_is d v k m0 m is n i a out refl (omega (arith, some)) refl
+      ∙ sym (block_is d v k' m0' m' is' n i a out (sym (same_data_at n i)) (omega (arith, some)) refl))
       (cases_eq (is.running.memory.at (Data n i)) 0)
 
   pub same_map : m ≡ m'
   same_map =
-      ap₂ (λ (h : ℕ → Option entry.Header) (b : ℕ → ℕ → List ℕ). record m { header = h; block = b }) (fun_ext same_header) (fun_ext (λ n. fun_ext (same_block n)))
+      ap₂ (λ (h : ℕ → Option entry.Header) (b : ℕ → ℕ → List ℕ). record m { header = h; block = b }) (fun_ext same_header)
+      (fun_ext (λ n. fun_ext (same_block n)))
       ∙ ap (λ (n : ℕ). record m' { version = n }) version

@@ -19,7 +19,8 @@ use Rattle.lfs_inodes.specs.MapValue.{IsMap, block_in}
 use Rattle.lfs_memory.specs.declared.memory.LogMemory.{LogMemory}
 use Rattle.lfs_memory.specs.Memory.{IsMemory, IsLog}
 
--- All is saved, no chunk is open, at least an eighth of the segments is clean but fewer than a quarter, and the totals are within the volume.
+-- All is saved, no chunk is open, at least an eighth of the segments is
+-- clean but fewer than a quarter, and the totals are within the volume.
 pub record MayPass (d : DeviceState) (v : LogMemory) (k : CheckpointValue) (m : LogMap) (meta : ℕ) : Type 0 where
   pub log : IsLog d v k (dropped m) m
   pub map : IsLogMap m
@@ -31,14 +32,16 @@ pub record MayPass (d : DeviceState) (v : LogMemory) (k : CheckpointValue) (m : 
   pub need : data_in m + 7 * meta + 720 ≤ 47 * length v.usage.segments
 
 -- The table of usage is pressed then: `victims` finds a list.
-pub pressed : (d : DeviceState) (v : LogMemory) (k : CheckpointValue) (m : LogMap) (meta : ℕ) → IsMemory v → IsMap v.map → MayPass d v k m meta → IsPressed v.usage meta
+pub pressed : (d : DeviceState) (v : LogMemory) (k : CheckpointValue) (m : LogMap) (meta : ℕ) → IsMemory v → IsMap v.map
+    → MayPass d v k m meta → IsPressed v.usage meta
 pressed d v k m meta memory maps may = record {
   count = memory.count;
   few = may.few;
   blocks =
       let w = may.log.running in
       let counted = stored_counted d.content m w.memory _ w.laid may.map none_inside (λ j high. w.tables.at (Map j) refl ∙ past j high) in
-      let same = sum_same (load_of v.usage) (λ s. live_of m w.memory s + held_of m w.memory s) (length v.usage.segments) (λ s. let l = w.tables.live s in let h = w.tables.held s in omega (arith, l, h)) in
+      let same = sum_same (load_of v.usage) (λ s. live_of m w.memory s + held_of m w.memory s) (length v.usage.segments)
+      (λ s. let l = w.tables.live s in let h = w.tables.held s in omega (arith, l, h)) in
       let size : w.memory.segments ≡ length v.usage.segments = w.segments ∙ sym may.log.segments in
       let all = ap (sum_below (λ s. live_of m w.memory s + held_of m w.memory s)) size in
       let need = may.need in
@@ -51,7 +54,8 @@ pressed d v k m meta memory maps may = record {
     none_of t none x = ap (λ (l : List (ℕ × List ℕ)). blocks_of (record t { blocks = l }) x) none
 
     none_inside : (x : Entry) → IsOfFile x → may.log.running.memory.at x ≡ 1 → ⊥
-    none_inside x file one = let f = may.log.running.cached.found x file one in let bad : None ≡ Some f.0 = sym (none_of v.dirty may.nothing x) ∙ f.1 in absurd (cc)
+    none_inside x file one = let f = may.log.running.cached.found x file one in
+        let bad : None ≡ Some f.0 = sym (none_of v.dirty may.nothing x) ∙ f.1 in absurd (cc)
 
     -- the inode map has 32 blocks
     past : (j : ℕ) → 32 ≤ j → block_in v.map j ≡ 0

@@ -1,5 +1,6 @@
 -- A file goes: what the tables and the blocks in memory hold then is the log map without it.
-use Rattle.std.proofs.Common.{◌≡◌, ◌<◌, ◌≤◌, ⊎_elim, ◌/◌, ◌==◌, not, ℕ, Bool, true, false, List, [], length, get_or, Some, None, refl, sym, ◌∙◌, ap, subst, arith, eq-eqb, eqb-true}
+use Rattle.std.proofs.Common.{◌≡◌, ◌<◌, ◌≤◌, ⊎_elim, ◌/◌, ◌==◌, not, ℕ, Bool, true, false, List, [], length, get_or, Some, None, refl, sym}
+use Rattle.std.proofs.Common.{◌∙◌, ap, subst, arith, eq-eqb, eqb-true}
 use Rattle.std.proofs.lemmas.Bool.{cases_eq, cases_lt, cond-true, cond-false, false_from_ne_true}
 use Rattle.std.proofs.lemmas.List.{get_or_past}
 use Rattle.lfs_model.specs.Checkpoint.{CheckpointValue}
@@ -43,7 +44,8 @@ is_without m n = record {
   version = refl;
 }
 
-module _ (d : DeviceState) (v v' : LogMemory) (k : CheckpointValue) (m0 m : LogMap) (is : IsLoose d v k m0 m) (n : ℕ) (low : n < 4096) (lives : Bool) (counts : List ℕ) (shown : lives ≡ not (is_hidden_in v.map n))
+module _ (d : DeviceState) (v v' : LogMemory) (k : CheckpointValue) (m0 m : LogMap) (is : IsLoose d v k m0 m) (n : ℕ) (low : n < 4096)
+    (lives : Bool) (counts : List ℕ) (shown : lives ≡ not (is_hidden_in v.map n))
     (counted : (s : ℕ) → get_or counts s 0 ≡ count_of (is_of n) is.running.memory s) where
   -- an honest device has so many blocks there
   pub all_covered : AreUncovered v.usage lives counts → ⊥
@@ -54,7 +56,8 @@ module _ (d : DeviceState) (v v' : LogMemory) (k : CheckpointValue) (m0 m : LogM
     none_at (Data k i) top on = refl
     none_at (Leaf k q) top on = refl
     none_at (Double k) top on = refl
-    none_at (Inode k) top on = let f : Some k ≡ Some n = is_of_true n (Inode k) on in let s : k ≡ n = cc in ap (address_in v'.map) s ∙ go.address.own
+    none_at (Inode k) top on = let f : Some k ≡ Some n = is_of_true n (Inode k) on in let s : k ≡ n = cc in
+        ap (address_in v'.map) s ∙ go.address.own
     none_at (Map j) top on = let f : None ≡ Some n = is_of_true n (Map j) on in absurd (cc)
     none_at (Usage j) top on = let f : None ≡ Some n = is_of_true n (Usage j) on in absurd (cc)
 
@@ -62,7 +65,8 @@ module _ (d : DeviceState) (v v' : LogMemory) (k : CheckpointValue) (m0 m : LogM
     others_at (Data k i) top off = refl
     others_at (Leaf k q) top off = refl
     others_at (Double k) top off = refl
-    others_at (Inode k) top off = go.address.others k (λ h. let on = is_of_yes n (Inode k) (ap Some h) in let bad : true ≡ false = sym on ∙ off in absurd (cc))
+    others_at (Inode k) top off =
+        go.address.others k (λ h. let on = is_of_yes n (Inode k) (ap Some h) in let bad : true ≡ false = sym on ∙ off in absurd (cc))
     others_at (Map j) top off = ap (λ (b : List ℕ). get_or b j 0) go.blocks
     others_at (Usage j) top off = go.usage.address j
 
@@ -81,37 +85,44 @@ module _ (d : DeviceState) (v v' : LogMemory) (k : CheckpointValue) (m0 m : LogM
 
     still_hidden : AreHidden v'.map (without_file n m)
     still_hidden i small = ⊎_elim
-        (λ (here : i ≡ n). ap (λ (i : ℕ). is_nameless (without_file n m) i) here ∙ ap is_unlinked (is_without m n).header ∙ sym (ap (is_hidden_in v'.map) here ∙ go.hidden.own))
+        (λ (here : i ≡ n). ap (λ (i : ℕ). is_nameless (without_file n m) i) here ∙ ap is_unlinked (is_without m n).header
+        ∙ sym (ap (is_hidden_in v'.map) here ∙ go.hidden.own))
         (λ (away : i ≡ n → ⊥). ap is_unlinked ((is_without m n).headers i away) ∙ is.hidden i small ∙ sym (go.hidden.others i away))
         (cases_eq i n)
 
     pub dropped_log : IsLoose d v' k m0 (without_file n m)
     dropped_log = record {
-      running = subst (λ (c : Chunk). Running d (blocks_of v'.dirty) (tables_of v') k m0 (without_file n m) (segment_in c) (chunk_in c)) (sym go.chunk)
-          (file_removing d (blocks_of v.dirty) (blocks_of v'.dirty) (tables_of v) (tables_of v') k m0 m (without_file n m) (segment_in v.chunk) (chunk_in v.chunk) n (counts_in counts)
+      running = subst (λ (c : Chunk). Running d (blocks_of v'.dirty) (tables_of v') k m0 (without_file n m) (segment_in c) (chunk_in c))
+          (sym go.chunk)
+          (file_removing d (blocks_of v.dirty) (blocks_of v'.dirty) (tables_of v) (tables_of v') k m0 m (without_file n m)
+          (segment_in v.chunk) (chunk_in v.chunk) n (counts_in counts)
           is.running (λ has named. mapped (sym (is.hidden n low) ∙ named)) counted (is_without m n) go.dirty detached);
       hidden = still_hidden;
       segments = go.usage.size ∙ is.segments;
     }
 
-pub covered_all : (usage : UsageTable) (lives : Bool) (counts : List ℕ) (i : ℕ) → length counts ≤ i → ((s : ℕ) → s < i → get_or counts s 0 ≤ counted_in usage lives s) → AreCovered usage lives counts
+pub covered_all : (usage : UsageTable) (lives : Bool) (counts : List ℕ) (i : ℕ) → length counts ≤ i
+    → ((s : ℕ) → s < i → get_or counts s 0 ≤ counted_in usage lives s) → AreCovered usage lives counts
 covered_all usage lives counts i all before s = ⊎_elim
     (λ (low : s < i). before s low)
     (λ (high : i ≤ s). let none = get_or_past counts s 0 (omega (arith, high, all)) in omega (arith, none))
     (cases_lt s i)
 
 -- ---- the whole call: the inode map's block first, then the counts, and then what leaves
-module _ (a b : DeviceState) (v mid : LogMemory) (n : ℕ) (lives : Bool) (counts : List ℕ) (lawful : IsLawful a) (first : Prepares a a v mid 0) (looks : Looks a b) (low : n < 4096) (shown : lives ≡ not (is_hidden_in mid.map n))
+module _ (a b : DeviceState) (v mid : LogMemory) (n : ℕ) (lives : Bool) (counts : List ℕ) (lawful : IsLawful a)
+    (first : Prepares a a v mid 0) (looks : Looks a b) (low : n < 4096) (shown : lives ≡ not (is_hidden_in mid.map n))
     (counted : CountsFile a b mid n counts) where
   pub uncovered_excused : AreUncovered mid.usage lives counts → FailsFromDevice a b v
   uncovered_excused over k m0 m keeps is =
       let log = first.log k m0 m (looks.carries.kept_before keeps) is in
       absurd (all_covered a mid mid k m0 m log n low lives counts shown (counted k m0 m keeps log) over)
 
-  pub file_removed : (v' : LogMemory) → DropsFile mid v' n lives counts → (is_hidden_in mid.map n ≡ false → block_in mid.map (n / 128) ≡ 1) → RemovesFile a b v v' n
+  pub file_removed : (v' : LogMemory) → DropsFile mid v' n lives counts → (is_hidden_in mid.map n ≡ false → block_in mid.map (n / 128) ≡ 1)
+      → RemovesFile a b v v' n
   file_removed v' go mapped = record {
     looks = looks;
-    memory = kept_memory mid v' first.memory go.usage.size go.chunk go.usage.used go.usage.kept go.usage.last go.usage.address (never_fresh mid.usage v'.usage go.usage.stale) go.capacity;
+    memory = kept_memory mid v' first.memory go.usage.size go.chunk go.usage.used go.usage.kept go.usage.last go.usage.address
+        (never_fresh mid.usage v'.usage go.usage.stale) go.capacity;
     segments = go.usage.size ∙ first.segments;
     clean = go.usage.clean ∙ first.clean;
     used = λ s. go.usage.used s ∙ first.used s;
@@ -122,8 +133,10 @@ module _ (a b : DeviceState) (v mid : LogMemory) (n : ℕ) (lives : Bool) (count
     stay = λ x out was. let held = first.stay x was in (held.0, go.dirty.kept x out ∙ held.1);
     hidden = record { own = go.hidden.own; others = λ l ne. go.hidden.others l ne ∙ ap (λ (a : List Bool). get_or a l false) first.hidden };
     mapped = λ j one. ap (λ (a : List ℕ). get_or a j 0) go.blocks ∙ first.mapped j one;
-    absent = λ l none. ⊎_elim (λ (here : l ≡ n). ap (address_in v'.map) here ∙ go.address.own) (λ (ne : l ≡ n → ⊥). go.address.others l ne ∙ first.absent l none) (cases_eq l n);
+    absent = λ l none. ⊎_elim (λ (here : l ≡ n). ap (address_in v'.map) here ∙ go.address.own)
+        (λ (ne : l ≡ n → ⊥). go.address.others l ne ∙ first.absent l none) (cases_eq l n);
     log = λ k m0 m keeps is.
         let log = first.log k m0 m (looks.carries.kept_before keeps) is in
-        still_log a b v' k m0 (without_file n m) looks (dropped_log a mid v' k m0 m log n low lives counts shown (counted k m0 m keeps log) go mapped);
+        still_log a b v' k m0 (without_file n m) looks
+        (dropped_log a mid v' k m0 m log n low lives counts shown (counted k m0 m keeps log) go mapped);
   }

@@ -1,5 +1,6 @@
 -- How many blocks still find a place.
-use Rattle.std.proofs.Common.{rules, ◌≡◌, ◌≢◌, ◌<◌, ◌≤◌, ⊎_elim, ◌+◌, ◌-◌, ◌==◌, cond, ℕ, zero, suc, Bool, false, List, [], ◌∷◌, length, refl, ◌∙◌, ap, arith, eqb-true, ◌⊎◌, inl, inr}
+use Rattle.std.proofs.Common.{rules, ◌≡◌, ◌≢◌, ◌<◌, ◌≤◌, ⊎_elim, ◌+◌, ◌-◌, ◌==◌, cond, ℕ, zero, suc, Bool, false, List, [], ◌∷◌, length}
+use Rattle.std.proofs.Common.{refl, ◌∙◌, ap, arith, eqb-true, ◌⊎◌, inl, inr}
 use Rattle.std.proofs.lemmas.List.{length-append}
 use Rattle.std.specs.Prelude.{get_or, Option, Some, None, IfNone, IsSome}
 use Rattle.std.proofs.lemmas.Bool.{false_from_ne_true}
@@ -28,17 +29,21 @@ none_up p (suc n) none =
     let last : cond {A = ℕ} (p n) 1 0 ≡ 0 = ap {B = ℕ} (λ (b : Bool). cond {A = ℕ} b 1 0) (none n (omega arith)) in
     omega (arith, rest, last, count_up_more p n)
 
-pub no_clean : (segments : List SegmentNumbers) → ((s : ℕ) → s < length segments → (get_or segments s no_segment).used ≢ 0) → clean_in segments ≡ 0
+pub no_clean : (segments : List SegmentNumbers) → ((s : ℕ) → s < length segments → (get_or segments s no_segment).used ≢ 0)
+    → clean_in segments ≡ 0
 unfolding clean_in
-no_clean segments none = none_up (is_clean_in segments) (length segments) (λ i lt. false_from_ne_true (is_clean_in segments i) (λ h. none i lt (eqb-true (get_or segments i no_segment).used 0 h)))
+no_clean segments none = none_up (is_clean_in segments) (length segments)
+    (λ i lt. false_from_ne_true (is_clean_in segments i) (λ h. none i lt (eqb-true (get_or segments i no_segment).used 0 h)))
 
 -- a chunk has room, or a segment is clean
 pub has_clean : (v : LogMemory) → 0 < room_of v → length v.chunk.names ≡ 0 → 0 < clean_in v.usage.segments
 has_clean v some none = let r = room_none v.chunk none in omega (arith, some, r)
 
-pub takes_place : (v v' : LogMemory) (name : BlockNameValue) (lives : Bool) (age place : ℕ) → IsMemory v → Places v v' name lives age place → room_of v ≤ suc (room_of v')
+pub takes_place : (v v' : LogMemory) (name : BlockNameValue) (lives : Bool) (age place : ℕ) → IsMemory v → Places v v' name lives age place
+    → room_of v ≤ suc (room_of v')
 takes_place v v' name lives age place memory places =
-    let long : length v'.chunk.names ≡ suc (length v.chunk.names) = ap length places.names ∙ length-append v.chunk.names (name ∷ []) ∙ omega arith in
+    let long : length v'.chunk.names ≡ suc (length v.chunk.names) = ap length places.names ∙ length-append v.chunk.names (name ∷ [])
+    ∙ omega arith in
     let after = room_some v'.chunk (omega (arith, long)) in
     let same = places.noted.clean in
     ⊎_elim
@@ -47,7 +52,8 @@ takes_place v v' name lives age place memory places =
     let noted = places.noted.used.own in
     let used = places.opened.used in
     ⊎_elim
-    (λ (t : TakesSegment v.usage places.middle v'.chunk.segment age). let c = t.count in let one = t.used.own in omega (arith, after, same, c, before, none, long, noted, used, one))
+    (λ (t : TakesSegment v.usage places.middle v'.chunk.segment age). let c = t.count in let one = t.used.own in
+    omega (arith, after, same, c, before, none, long, noted, used, one))
     (λ (g : GoesOn v.usage places.middle v'.chunk.segment age). let c = g.clean in omega (arith, after, same, c, before))
     (places.begun none))
     (λ (some : 0 < length v.chunk.names).
@@ -63,6 +69,7 @@ takes_place v v' name lives age place memory places =
     zero_or_more zero = inl refl
     zero_or_more (suc n) = inr (omega arith)
 
-pub some_taken : (found : Option ℕ) (segments : List SegmentNumbers) → IfNone found ((s : ℕ) → s < length segments → (get_or segments s no_segment).used ≢ 0) → 0 < clean_in segments → IsSome found
+pub some_taken : (found : Option ℕ) (segments : List SegmentNumbers)
+    → IfNone found ((s : ℕ) → s < length segments → (get_or segments s no_segment).used ≢ 0) → 0 < clean_in segments → IsSome found
 some_taken None segments none some = absurd (let z = no_clean segments none in omega (arith, z, some))
 some_taken (Some s) segments none some = search rules

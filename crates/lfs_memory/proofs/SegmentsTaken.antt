@@ -8,7 +8,8 @@ use Rattle.lfs_memory.proofs.Begun.{zero_or_more}
 use Rattle.lfs_memory.proofs.Rooms.{room_none, room_some}
 
 -- Begun with no chunk, a commit of so many blocks takes no more segments than these blocks fill.
-pub segments_taken : (v v' : LogMemory) (placed most : ℕ) → v.chunk.names ≡ [] → room_of v ≤ room_of v' + placed → placed ≤ 63 * most → clean_in v.usage.segments ≤ clean_in v'.usage.segments + most
+pub segments_taken : (v v' : LogMemory) (placed most : ℕ) → v.chunk.names ≡ [] → room_of v ≤ room_of v' + placed → placed ≤ 63 * most
+    → clean_in v.usage.segments ≤ clean_in v'.usage.segments + most
 segments_taken v v' placed most closed room fits =
     let none = room_none v.chunk (ap length closed) in
     let few : room_in v'.chunk ≤ 62 = ⊎_elim

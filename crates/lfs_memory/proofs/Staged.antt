@@ -89,7 +89,8 @@ blocks_lost d d' v v' c go = record {
 in_range : (n : ℕ) → n ≤ 4095 → n < 4096
 in_range n few = omega (arith, few)
 
-pub link_lost : (d d' : DeviceState) (v v' : LogMemory) (l : LastLink) → Hides d d' v v' l.number l.kind l.form l.size → Loses d d' v v' (loss.Link l)
+pub link_lost : (d d' : DeviceState) (v v' : LogMemory) (l : LastLink) → Hides d d' v v' l.number l.kind l.form l.size
+    → Loses d d' v v' (loss.Link l)
 link_lost d d' v v' l go = record {
   looks = go.looks;
   memory = go.memory;
@@ -120,7 +121,8 @@ file_lost d d' v v' r go = record {
 }
 
 pub link_excused : (d d' : DeviceState) (v : LogMemory) (l : LastLink) → IsLinkExcused d d' v l.number → IsLossExcused d d' v (loss.Link l)
-link_excused d d' v l failed k m0 m keeps is fits = failed k m0 m keeps is (sym (is.hidden l.number (in_range l.number l.few)) ∙ fits.2) fits.1
+link_excused d d' v l failed k m0 m keeps is fits =
+    failed k m0 m keeps is (sym (is.hidden l.number (in_range l.number l.few)) ∙ fits.2) fits.1
 
 pub loss_excused : (d d' : DeviceState) (v : LogMemory) (x : Loss) → FailsFromDevice d d' v → IsLossExcused d d' v x
 loss_excused d d' v x failed k m0 m keeps is fits = failed k m0 m keeps is
@@ -129,7 +131,8 @@ loss_excused d d' v x failed k m0 m keeps is fits = failed k m0 m keeps is
 module _ (d d' : DeviceState) (v v' : LogMemory) (x : Loss) (go : Loses d d' v v' x) where
   header_ready : (n links : ℕ) → is_lost x (Inode n) ≡ false → IsHeaderReady v n links → IsHeaderReady v' n links
   header_ready n links apart was = record {
-    inside = ⊎_elim (λ (has : IsInMemory v (Inode n)). inl (go.stay (Inode n) apart has)) (λ (none : address_in v.map n ≡ 0). inr (go.absent n none)) was.inside;
+    inside = ⊎_elim (λ (has : IsInMemory v (Inode n)). inl (go.stay (Inode n) apart has))
+        (λ (none : address_in v.map n ≡ 0). inr (go.absent n none)) was.inside;
     mapped = λ some. go.mapped _ (was.mapped some);
   }
 
@@ -148,7 +151,8 @@ module _ (d d' : DeviceState) (v v' : LogMemory) (x : Loss) (go : Loses d d' v v
   blocks_ready (e ∷ edits) apart was = (block_ready e.number e.index apart.0 was.0, blocks_ready edits apart.1 was.1)
 
 -- ---- a batch that is refused before anything changed
-pub refuses_prepared : (a b : DeviceState) (v v' : LogMemory) (n : ℕ) (x : Loss) (hs : List HeaderEdit) (bs : List BlockEdit) → n ≤ room_for_edits hs bs → Prepares a b v v' n → RefusesBatch a b v v' x hs bs
+pub refuses_prepared : (a b : DeviceState) (v v' : LogMemory) (n : ℕ) (x : Loss) (hs : List HeaderEdit) (bs : List BlockEdit)
+    → n ≤ room_for_edits hs bs → Prepares a b v v' n → RefusesBatch a b v v' x hs bs
 refuses_prepared a b v v' n x hs bs le go = record {
   stands = record {
     looks = go.looks;
@@ -162,12 +166,6 @@ refuses_prepared a b v v' n x hs bs le go = record {
   log = λ k m0 m keeps is fits. go.log k m0 m keeps is;
 }
 
-pub refuses_at_once : (d : DeviceState) (v : LogMemory) (x : Loss) (hs : List HeaderEdit) (bs : List BlockEdit) → IsLawful d → IsMemory v → RefusesBatch d d v v x hs bs
-refuses_at_once d v x hs bs lawful memory = refuses_prepared d d v v 0 x hs bs (omega arith) (prepares_looks d d v lawful memory (looks_none d))
-
-pub batch_excused : (d d' : DeviceState) (v : LogMemory) (x : Loss) (hs : List HeaderEdit) (bs : List BlockEdit) → FailsFromDevice d d' v → IsBatchExcused d d' v x hs bs
-batch_excused d d' v x hs bs failed k m0 m keeps is fits = failed k m0 m keeps is
-
 -- ---- with room enough no fault is for want of it
 device_only : (r : Result (Unit {0}) LiftFault) (P : Type 0) → (IsErrOf r fault.Full → ⊥) → (IsErrOf r fault.Device → P) → OnErr r P
 device_only (Ok x) P never go = tt
@@ -175,14 +173,17 @@ device_only (Err fault.Full) P never go = absurd (never refl)
 device_only (Err fault.Device) P never go = go refl
 
 -- ---- its headers and blocks are made ready
-module _ (a b : DeviceState) (v v1 : LogMemory) (x : Loss) (hs : List HeaderEdit) (bs : List BlockEdit) (lawful : IsLawful a) (first : Prepares a b v v1 (length hs + ways bs)) where
+module _ (a b : DeviceState) (v v1 : LogMemory) (x : Loss) (hs : List HeaderEdit) (bs : List BlockEdit) (lawful : IsLawful a)
+    (first : Prepares a b v v1 (length hs + ways bs)) where
   pub prepared_refuses : RefusesBatch a b v v1 x hs bs
   prepared_refuses = refuses_prepared a b v v1 (length hs + ways bs) x hs bs (omega arith) first
 
-  pub prepared_excused : (r : Result (Unit {0}) LiftFault) → length v.dirty.blocks + room_for_edits hs bs ≤ v.dirty.capacity.limit → (IsErrOf r fault.Full → LacksRoom v (length hs + ways bs))
+  pub prepared_excused : (r : Result (Unit {0}) LiftFault) → length v.dirty.blocks + room_for_edits hs bs ≤ v.dirty.capacity.limit
+      → (IsErrOf r fault.Full → LacksRoom v (length hs + ways bs))
       → (IsErrOf r fault.Device → AreExcusedWithin a b v bs) → OnErr r (IsBatchExcused a b v x hs bs)
   prepared_excused r room full failed =
-      device_only r (IsBatchExcused a b v x hs bs) (λ is. let lacks = full is in omega (arith, lacks, room)) (λ is. λ k m0 m keeps log fits. failed is k m0 m keeps log fits.within)
+      device_only r (IsBatchExcused a b v x hs bs) (λ is. let lacks = full is in omega (arith, lacks, room))
+      (λ is. λ k m0 m keeps log fits. failed is k m0 m keeps log fits.within)
 
   -- ---- what a file loses is lost
   module _ (e : DeviceState) (v2 : LogMemory) where
@@ -197,15 +198,19 @@ module _ (a b : DeviceState) (v v1 : LogMemory) (x : Loss) (hs : List HeaderEdit
         let before = first.looks.carries.failures in
         omega (arith, rose, before)
 
-    pub loss_excuses : (r : Result (Unit {0}) LiftFault) → length v.dirty.blocks + room_for_edits hs bs ≤ v.dirty.capacity.limit → Prepares b e v1 v2 3 → (IsErrOf r fault.Full → v2.dirty.capacity.limit ≤ length v2.dirty.blocks)
+    pub loss_excuses : (r : Result (Unit {0}) LiftFault) → length v.dirty.blocks + room_for_edits hs bs ≤ v.dirty.capacity.limit
+        → Prepares b e v1 v2 3 → (IsErrOf r fault.Full → v2.dirty.capacity.limit ≤ length v2.dirty.blocks)
         → (IsErrOf r fault.Device → IsLossExcused b e v1 x) → OnErr r (IsBatchExcused a e v x hs bs)
     loss_excuses r room second full failed =
         device_only r (IsBatchExcused a e v x hs bs)
-        (λ is. let lacks = full is in let few = second.few in let before = first.few in let same = ap (λ (c : Capacity). c.limit) second.capacity in let was = ap (λ (c : Capacity). c.limit) first.capacity in omega (arith, lacks, few, before, same, was, room))
+        (λ is. let lacks = full is in let few = second.few in let before = first.few in
+        let same = ap (λ (c : Capacity). c.limit) second.capacity in let was = ap (λ (c : Capacity). c.limit) first.capacity in
+        omega (arith, lacks, few, before, same, was, room))
         (λ is. loss_excused_then second.looks (failed is))
 
     module _ (go : Loses b e v1 v2 x) (ready_headers : AreHeadersReady v1 hs) (ready_blocks : AreBlocksReady v1 bs) where
-      log_lost : (k : CheckpointValue) (m0 m : LogMap) → e.keeps_model → IsLoose a v k m0 m → FitEdits m x hs bs → IsLoose e v2 k m0 (lost x m)
+      log_lost : (k : CheckpointValue) (m0 m : LogMap) → e.keeps_model → IsLoose a v k m0 m → FitEdits m x hs bs
+          → IsLoose e v2 k m0 (lost x m)
       log_lost k m0 m keeps is fits = go.log k m0 m keeps (first.log k m0 m (go.looks.carries.kept_before keeps) is) fits.fits_loss
 
       headers_now : (m : LogMap) → FitEdits m x hs bs → AreHeadersReady v2 hs
@@ -233,9 +238,11 @@ module _ (a b : DeviceState) (v v1 : LogMemory) (x : Loss) (hs : List HeaderEdit
               batch_applied e k m0 (lost x m) hs bs v2 (log_lost k m0 m keeps is fits) (headers_now m fits) fits.fit_headers v3 done;
         }
 
-        unready_never : (k : CheckpointValue) (m0 m : LogMap) → e.keeps_model → IsLoose a v k m0 m → FitEdits m x hs bs → FailsToApply v2 hs bs → ⊥
+        unready_never : (k : CheckpointValue) (m0 m : LogMap) → e.keeps_model → IsLoose a v k m0 m → FitEdits m x hs bs
+            → FailsToApply v2 hs bs → ⊥
         unready_never k m0 m keeps is fits bad =
-            batch_never_fails e k m0 (lost x m) hs bs v2 (log_lost k m0 m keeps is fits) (headers_now m fits) fits.fit_headers (blocks_now m fits) fits.fit_blocks bad
+            batch_never_fails e k m0 (lost x m) hs bs v2 (log_lost k m0 m keeps is fits) (headers_now m fits) fits.fit_headers
+            (blocks_now m fits) fits.fit_blocks bad
 
         pub unready_refuses : FailsToApply v2 hs bs → RefusesBatch a e v v3 x hs bs
         unready_refuses bad = record { stands = stands; log = λ k m0 m keeps is fits. absurd (unready_never k m0 m keeps is fits bad) }

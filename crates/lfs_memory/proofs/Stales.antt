@@ -11,7 +11,8 @@ stays_stale old new j i go on = ⊎_elim
     (cases_eq i j)
 
 -- where none becomes fresh
-pub never_fresh : (old new : UsageTable) → ((j : ℕ) → stale_of new j ≡ false → stale_of old j ≡ false) → (i : ℕ) → stale_of old i ≡ true → stale_of new i ≡ true
+pub never_fresh : (old new : UsageTable) → ((j : ℕ) → stale_of new j ≡ false → stale_of old j ≡ false) → (i : ℕ) → stale_of old i ≡ true
+    → stale_of new i ≡ true
 never_fresh old new back i on = either (stale_of new i) (back i)
   where
     either : (b : Bool) → (b ≡ false → stale_of old i ≡ false) → b ≡ true

@@ -31,8 +31,10 @@ use Rattle.lfs_memory.proofs.Presents.{looks_then, still_log}
 use Rattle.lfs_memory.proofs.Taken.{counts_covered}
 
 -- ---- the log map in which the file has no link
-module _ (d : DeviceState) (v v' : LogMemory) (k : CheckpointValue) (m0 m : LogMap) (is : IsLoose d v k m0 m) (n : ℕ) (low : n < 4096) (kind : Kind) (form size : ℕ) (fits : FitsHeader kind form 0 size) (counts : List ℕ)
-    (shown : is_hidden_in v.map n ≡ false) (counted : (s : ℕ) → get_or counts s 0 ≡ count_of (is_of n) is.running.memory s) (go : LosesLinks v v' n kind form size counts) where
+module _ (d : DeviceState) (v v' : LogMemory) (k : CheckpointValue) (m0 m : LogMap) (is : IsLoose d v k m0 m) (n : ℕ) (low : n < 4096)
+    (kind : Kind) (form size : ℕ) (fits : FitsHeader kind form 0 size) (counts : List ℕ)
+    (shown : is_hidden_in v.map n ≡ false) (counted : (s : ℕ) → get_or counts s 0 ≡ count_of (is_of n) is.running.memory s)
+    (go : LosesLinks v v' n kind form size counts) where
   same_tops : (x : Entry) → parent x ≡ x → (tables_of v').at x ≡ (tables_of v).at x
   same_tops (Data l i) top = refl
   same_tops (Leaf l q) top = refl
@@ -61,8 +63,10 @@ module _ (d : DeviceState) (v v' : LogMemory) (k : CheckpointValue) (m0 m : LogM
       let says : header (headed kind form n 0 size go.old) ≡ h = header_headed n go.old holds kind form 0 size fits in
       record {
         running = as_memory d (blocks_of v'.dirty) k m0 m' v v' (tables_of v') go.chunk refl
-            (link_losing d (blocks_of v.dirty) (blocks_of v'.dirty) (tables_of v) (tables_of v') k m0 m m' (segment_in v.chunk) (chunk_in v.chunk) n go.old (headed kind form n 0 size go.old) (counts_in counts)
-            is.running go.there (holds_headed n go.old holds kind form 0 size fits) (λ w high low. headed_words kind form n 0 size go.old w (omega (arith, high)))
+            (link_losing d (blocks_of v.dirty) (blocks_of v'.dirty) (tables_of v) (tables_of v') k m0 m m' (segment_in v.chunk)
+            (chunk_in v.chunk) n go.old (headed kind form n 0 size go.old) (counts_in counts)
+            is.running go.there (holds_headed n go.old holds kind form 0 size fits)
+            (λ w high low. headed_words kind form n 0 size go.old w (omega (arith, high)))
             (subst (λ (g : Header). IsWithHeader m n (Some g) m') (sym says) (is_with_header m n (Some h)))
             (is.hidden n low ∙ shown) (nameless_with m n h) counted go.changes held_from);
         hidden = hidden_with v.map v'.map m n h is.hidden (sym go.hidden.own) go.hidden.others;
@@ -70,7 +74,8 @@ module _ (d : DeviceState) (v v' : LogMemory) (k : CheckpointValue) (m0 m : LogM
       }
 
 -- ---- the whole call: the inode comes into memory, its blocks are counted, and then what the tables and the inode say changes
-module _ (a b c : DeviceState) (v mid : LogMemory) (n : ℕ) (counts : List ℕ) (lawful : IsLawful a) (first : Prepares a b v mid 1) (looks : Looks b c) (low : n < 4096) (shown : is_hidden_in v.map n ≡ false)
+module _ (a b c : DeviceState) (v mid : LogMemory) (n : ℕ) (counts : List ℕ) (lawful : IsLawful a) (first : Prepares a b v mid 1)
+    (looks : Looks b c) (low : n < 4096) (shown : is_hidden_in v.map n ≡ false)
     (counted : CountsFile b c mid n counts) where
   shown_then : is_hidden_in mid.map n ≡ false
   shown_then = ap (λ (l : List Bool). get_or l n false) first.hidden ∙ shown
@@ -78,12 +83,15 @@ module _ (a b c : DeviceState) (v mid : LogMemory) (n : ℕ) (counts : List ℕ)
   pub blocks_covered : AreUncovered mid.usage true counts → FailsFromDevice a c v
   blocks_covered over k m0 m keeps is =
       let log = first.log k m0 m (looks.carries.kept_before keeps) is in
-      absurd (counts_covered b mid k m0 m log n low true (sym (ap not shown_then)) (is_of n) (is_of_true n) counts (counted k m0 m keeps log) over)
+      absurd (counts_covered b mid k m0 m log n low true (sym (ap not shown_then)) (is_of n) (is_of_true n) counts
+      (counted k m0 m keeps log) over)
 
-  pub file_hidden : (v' : LogMemory) (kind : Kind) (form size : ℕ) → LosesLinks mid v' n kind form size counts → Hides a c v v' n kind form size
+  pub file_hidden : (v' : LogMemory) (kind : Kind) (form size : ℕ) → LosesLinks mid v' n kind form size counts
+      → Hides a c v v' n kind form size
   file_hidden v' kind form size go = record {
     looks = looks_then a b c lawful first.looks looks;
-    memory = kept_memory mid v' first.memory go.usage.size go.chunk go.usage.used go.usage.kept go.usage.last go.usage.address (never_fresh mid.usage v'.usage go.usage.stale) go.capacity;
+    memory = kept_memory mid v' first.memory go.usage.size go.chunk go.usage.used go.usage.kept go.usage.last go.usage.address
+        (never_fresh mid.usage v'.usage go.usage.stale) go.capacity;
     segments = go.usage.size ∙ first.segments;
     clean = go.usage.clean ∙ first.clean;
     chunk = go.chunk ∙ first.chunk;
@@ -112,7 +120,3 @@ link_excused d d' v n excused k m0 m keeps is shown has = excused k m0 m keeps i
 -- a file that isn't there
 pub absent_excused : (d d' : DeviceState) (v : LogMemory) (n : ℕ) → IsAbsent d d' v n → IsLinkExcused d d' v n
 absent_excused d d' v n absent k m0 m keeps is shown has = let bad : None ≡ Some has.0 = sym (absent k m0 m keeps is) ∙ has.1 in absurd (cc)
-
--- one that lost its last link before
-pub hidden_excused : (d : DeviceState) (v : LogMemory) (n : ℕ) → is_hidden_in v.map n ≡ true → IsLinkExcused d d v n
-hidden_excused d v n hidden k m0 m keeps is shown has = let bad : true ≡ false = sym hidden ∙ shown in absurd (cc)

@@ -26,4 +26,5 @@ lost_version FirstVersion m = refl
 
 pub staged_version : (c : Changes) (m : LogMap) → (staged c m).version ≡ version_after c.loss m.version
 staged_version c m =
-    blocks_version c.blocks.items (after_headers c.headers.items (lost c.loss m)) ∙ headers_version c.headers.items (lost c.loss m) ∙ lost_version c.loss m
+    blocks_version c.blocks.items (after_headers c.headers.items (lost c.loss m)) ∙ headers_version c.headers.items (lost c.loss m)
+    ∙ lost_version c.loss m

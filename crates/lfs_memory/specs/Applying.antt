@@ -10,7 +10,8 @@ use Rattle.lfs_inodes.specs.MapValue.{address_in}
 use Rattle.lfs_memory.specs.declared.batch.BlockEdit.{BlockEdit}
 use Rattle.lfs_memory.specs.declared.batch.HeaderEdit.{HeaderEdit}
 use Rattle.lfs_memory.specs.declared.memory.LogMemory.{LogMemory}
-use Rattle.lfs_memory.specs.Changing.{ChangesBlock, ChangesHeader, Creates, FitsHeader, IsBlockMiscounted, header_with, stored, with_block, with_header}
+use Rattle.lfs_memory.specs.Changing.{ChangesBlock, ChangesHeader, Creates, FitsHeader, IsBlockMiscounted, header_with, stored, with_block}
+use Rattle.lfs_memory.specs.Changing.{with_header}
 
 -- ---- log maps
 
@@ -76,7 +77,8 @@ AppliesBlocks v (e ∷ edits) w = (v' : LogMemory) × ChangesBlock v v' e.number
 
 abbrev pub FailsBlocks : LogMemory → List BlockEdit → Type 0
 FailsBlocks v [] = ⊥
-FailsBlocks v (e ∷ edits) = IsBlockAway v e.number e.index ⊎ ((v' : LogMemory) × ChangesBlock v v' e.number e.index e.bytes × FailsBlocks v' edits)
+FailsBlocks v (e ∷ edits) = IsBlockAway v e.number e.index
+    ⊎ ((v' : LogMemory) × ChangesBlock v v' e.number e.index e.bytes × FailsBlocks v' edits)
 
 -- headers, and then blocks
 abbrev pub Applies : LogMemory → List HeaderEdit → List BlockEdit → LogMemory → Type 0

@@ -1,5 +1,6 @@
 -- What changes of files in memory do, one block or header at a time.
-use Rattle.std.specs.Prelude.{◌≡◌, ◌<◌, ◌≤◌, ◌+◌, ◌==◌, ◌&&◌, cond, not, ℕ, Bool, true, false, List, [], ◌∷◌, length, Option, Some, ◌++◌, drop}
+use Rattle.std.specs.Prelude.{◌≡◌, ◌<◌, ◌≤◌, ◌+◌, ◌==◌, ◌&&◌, cond, not, ℕ, Bool, true, false, List, [], ◌∷◌, length, Option, Some, ◌++◌}
+use Rattle.std.specs.Prelude.{drop}
 use Rattle.lfs_model.specs.declared.Kind.{Kind}
 use Rattle.lfs_model.specs.Counting.{segment_of}
 use Rattle.lfs_model.specs.Entry.{Entry, Data, Leaf, Inode, Header, word}
@@ -113,7 +114,8 @@ pub record Grows (v v' : LogMemory) (x : Entry) : Type 0 where
 -- Blocks of pointers that lead nowhere leave memory, one after the other.
 pub data Prunes (old : TableValue) : TableValue → Type 0 where
   nothing : Prunes old old
-  more : (t t' : TableValue) (x : Entry) → Prunes old t → IsEmptyBlock (blocks_of t) x → Moves (blocks_of t) (blocks_of t') x 0 → Prunes old t'
+  more : (t t' : TableValue) (x : Entry) → Prunes old t → IsEmptyBlock (blocks_of t) x → Moves (blocks_of t) (blocks_of t') x 0
+      → Prunes old t'
 
 -- All of them do.
 pub record Tightens (v v' : LogMemory) : Type 0 where

@@ -1,5 +1,6 @@
 -- How many blocks of a file each segment holds, counted block by block in one order.
-use Rattle.std.specs.Prelude.{◌≡◌, ◌<◌, ◌≤◌, ◌⊎◌, ◌+◌, ◌*◌, ◌-◌, ◌/◌, ◌%◌, ◌==◌, ◌&&◌, nat_lt, cond, ℕ, suc, Bool, true, false, List, get_or}
+use Rattle.std.specs.Prelude.{◌≡◌, ◌<◌, ◌≤◌, ◌⊎◌, ◌+◌, ◌*◌, ◌-◌, ◌/◌, ◌%◌, ◌==◌, ◌&&◌, nat_lt, cond, ℕ, suc, Bool, true, false, List}
+use Rattle.std.specs.Prelude.{get_or}
 use Rattle.lfs_model.specs.Checkpoint.{CheckpointValue}
 use Rattle.lfs_model.specs.Content.{Content}
 use Rattle.lfs_model.specs.Counting.{segment_of}
@@ -29,7 +30,8 @@ abbrev pub below_leaf : ℕ → ℕ → ℕ → Entry
 below_leaf n q r = cond (r == 0) (Leaf n q) (Data n (112 + 128 * q + (r - 1)))
 
 abbrev pub at_place : ℕ → ℕ → Entry
-at_place n p = cond (p == 0) (Inode n) (cond (nat_lt p 113) (Data n (p - 1)) (cond (p == 113) (Double n) (below_leaf n ((p - 114) / 129) ((p - 114) % 129))))
+at_place n p = cond (p == 0) (Inode n)
+    (cond (nat_lt p 113) (Data n (p - 1)) (cond (p == 113) (Double n) (below_leaf n ((p - 114) / 129) ((p - 114) % 129))))
 
 -- so many of the pointers to blocks from `lowest` on are to blocks before block `first`
 pub record IsBefore (first lowest pointers count : ℕ) : Type 0 where
@@ -69,41 +71,50 @@ pub record IsHeldBy (e : Content) (dirty : Dirty) (M : Memory) : Type 0 where
 
 -- so many words of a block, from word `start` on, are the addresses of the blocks from place p on, all of them from block `first` on
 abbrev pub ArePointers : Memory → ℕ → ℕ → ℕ → List ℕ → ℕ → ℕ → Type 0
-ArePointers M n first p bytes start count = (i : ℕ) → i < count → (word bytes (start + i) ≡ M.at (at_place n (p + i))) × (is_past n first (at_place n (p + i)) ≡ true)
+ArePointers M n first p bytes start count = (i : ℕ) → i < count → (word bytes (start + i) ≡ M.at (at_place n (p + i)))
+    × (is_past n first (at_place n (p + i)) ≡ true)
 
 -- they are counted
 abbrev pub CountsWords : List ℕ → ℕ → ℕ → List ℕ → List ℕ → Type 0
-CountsWords bytes start count old new = (e : Content) (dirty : Dirty) (M : Memory) (n first p : ℕ) → IsHeldBy e dirty M → ArePointers M n first p bytes start count → IsCountedTo M n first p old → IsCountedTo M n first (p + count) new
+CountsWords bytes start count old new = (e : Content) (dirty : Dirty) (M : Memory) (n first p : ℕ) → IsHeldBy e dirty M
+    → ArePointers M n first p bytes start count → IsCountedTo M n first p old → IsCountedTo M n first (p + count) new
 
 -- they are none of a log's
 abbrev pub AreNoWords : List ℕ → ℕ → ℕ → List ℕ → Type 0
-AreNoWords bytes start count old = (e : Content) (dirty : Dirty) (M : Memory) (n first p : ℕ) → IsHeldBy e dirty M → ArePointers M n first p bytes start count → IsCountedTo M n first p old → ⊥
+AreNoWords bytes start count old = (e : Content) (dirty : Dirty) (M : Memory) (n first p : ℕ) → IsHeldBy e dirty M
+    → ArePointers M n first p bytes start count → IsCountedTo M n first p old → ⊥
 
 -- ---- calls that read blocks of pointers of file n, whose addresses are right by what is given
 
 -- leaf q and what is below it
 abbrev pub CountsLeaf : DeviceState → DeviceState → LogMemory → ℕ → ℕ → ℕ → ℕ → List ℕ → List ℕ → Type 0
-CountsLeaf d d' v n q address first old new = (M : Memory) → d'.keeps_model → IsHeldBy d.content (blocks_of v.dirty) M → M.at (Leaf n q) ≡ address → IsCountedTo M n first (114 + 129 * q) old → IsCountedTo M n first (114 + 129 * q + 129) new
+CountsLeaf d d' v n q address first old new = (M : Memory) → d'.keeps_model → IsHeldBy d.content (blocks_of v.dirty) M
+    → M.at (Leaf n q) ≡ address → IsCountedTo M n first (114 + 129 * q) old → IsCountedTo M n first (114 + 129 * q + 129) new
 
 abbrev pub FailsLeaf : DeviceState → DeviceState → LogMemory → ℕ → ℕ → ℕ → ℕ → List ℕ → Type 0
-FailsLeaf d d' v n q address first old = (M : Memory) → d'.keeps_model → IsHeldBy d.content (blocks_of v.dirty) M → M.at (Leaf n q) ≡ address → IsCountedTo M n first (114 + 129 * q) old → d.failures < d'.failures
+FailsLeaf d d' v n q address first old = (M : Memory) → d'.keeps_model → IsHeldBy d.content (blocks_of v.dirty) M
+    → M.at (Leaf n q) ≡ address → IsCountedTo M n first (114 + 129 * q) old → d.failures < d'.failures
 
 -- so many leaves below the double root
 abbrev pub AreLeaves : Memory → ℕ → List ℕ → ℕ → Type 0
 AreLeaves M n root count = (q : ℕ) → q < count → word root q ≡ M.at (Leaf n (suc q))
 
 abbrev pub CountsLeaves : DeviceState → DeviceState → LogMemory → ℕ → List ℕ → ℕ → ℕ → List ℕ → List ℕ → Type 0
-CountsLeaves d d' v n root count first old new = (M : Memory) → d'.keeps_model → IsHeldBy d.content (blocks_of v.dirty) M → AreLeaves M n root count → IsCountedTo M n first 243 old → IsCountedTo M n first (243 + 129 * count) new
+CountsLeaves d d' v n root count first old new = (M : Memory) → d'.keeps_model → IsHeldBy d.content (blocks_of v.dirty) M
+    → AreLeaves M n root count → IsCountedTo M n first 243 old → IsCountedTo M n first (243 + 129 * count) new
 
 abbrev pub FailsLeaves : DeviceState → DeviceState → LogMemory → ℕ → List ℕ → ℕ → ℕ → List ℕ → Type 0
-FailsLeaves d d' v n root count first old = (M : Memory) → d'.keeps_model → IsHeldBy d.content (blocks_of v.dirty) M → AreLeaves M n root count → IsCountedTo M n first 243 old → d.failures < d'.failures
+FailsLeaves d d' v n root count first old = (M : Memory) → d'.keeps_model → IsHeldBy d.content (blocks_of v.dirty) M
+    → AreLeaves M n root count → IsCountedTo M n first 243 old → d.failures < d'.failures
 
 -- all that is below the double root
 abbrev pub CountsDouble : DeviceState → DeviceState → LogMemory → ℕ → ℕ → ℕ → List ℕ → List ℕ → Type 0
-CountsDouble d d' v n address first old new = (M : Memory) → d'.keeps_model → IsHeldBy d.content (blocks_of v.dirty) M → M.at (Double n) ≡ address → IsCountedTo M n first 243 old → IsCountedTo M n first 16755 new
+CountsDouble d d' v n address first old new = (M : Memory) → d'.keeps_model → IsHeldBy d.content (blocks_of v.dirty) M
+    → M.at (Double n) ≡ address → IsCountedTo M n first 243 old → IsCountedTo M n first 16755 new
 
 abbrev pub FailsDouble : DeviceState → DeviceState → LogMemory → ℕ → ℕ → ℕ → List ℕ → Type 0
-FailsDouble d d' v n address first old = (M : Memory) → d'.keeps_model → IsHeldBy d.content (blocks_of v.dirty) M → M.at (Double n) ≡ address → IsCountedTo M n first 243 old → d.failures < d'.failures
+FailsDouble d d' v n address first old = (M : Memory) → d'.keeps_model → IsHeldBy d.content (blocks_of v.dirty) M
+    → M.at (Double n) ≡ address → IsCountedTo M n first 243 old → d.failures < d'.failures
 
 -- all that is below an inode
 pub record IsInodeOf (M : Memory) (n : ℕ) (bytes : List ℕ) : Type 0 where
@@ -111,17 +122,21 @@ pub record IsInodeOf (M : Memory) (n : ℕ) (bytes : List ℕ) : Type 0 where
   pub bytes_are : bytes ≡ M.bytes (Inode n)
 
 abbrev pub CountsInode : DeviceState → DeviceState → LogMemory → ℕ → List ℕ → ℕ → List ℕ → List ℕ → Type 0
-CountsInode d d' v n bytes first old new = (M : Memory) → d'.keeps_model → IsHeldBy d.content (blocks_of v.dirty) M → IsInodeOf M n bytes → IsCountedTo M n first 0 old → IsCountedTo M n first 16755 new
+CountsInode d d' v n bytes first old new = (M : Memory) → d'.keeps_model → IsHeldBy d.content (blocks_of v.dirty) M → IsInodeOf M n bytes
+    → IsCountedTo M n first 0 old → IsCountedTo M n first 16755 new
 
 abbrev pub FailsInode : DeviceState → DeviceState → LogMemory → ℕ → List ℕ → ℕ → List ℕ → Type 0
-FailsInode d d' v n bytes first old = (M : Memory) → d'.keeps_model → IsHeldBy d.content (blocks_of v.dirty) M → IsInodeOf M n bytes → IsCountedTo M n first 0 old → d.failures < d'.failures
+FailsInode d d' v n bytes first old = (M : Memory) → d'.keeps_model → IsHeldBy d.content (blocks_of v.dirty) M → IsInodeOf M n bytes
+    → IsCountedTo M n first 0 old → d.failures < d'.failures
 
 -- ---- a file from one block on, and a whole file, where memory and device hold a log map
 abbrev pub IsNothing : List ℕ → Type 0
 IsNothing counts = (s : ℕ) → get_or counts s 0 ≡ 0
 
 abbrev pub CountsPast : DeviceState → DeviceState → LogMemory → ℕ → ℕ → List ℕ → Type 0
-CountsPast d d' v n first counts = (k : CheckpointValue) (m0 m : LogMap) → d'.keeps_model → (is : IsLoose d v k m0 m) → (s : ℕ) → get_or counts s 0 ≡ count_of (is_past n first) is.running.memory s
+CountsPast d d' v n first counts = (k : CheckpointValue) (m0 m : LogMap) → d'.keeps_model → (is : IsLoose d v k m0 m) → (s : ℕ)
+    → get_or counts s 0 ≡ count_of (is_past n first) is.running.memory s
 
 abbrev pub CountsFile : DeviceState → DeviceState → LogMemory → ℕ → List ℕ → Type 0
-CountsFile d d' v n counts = (k : CheckpointValue) (m0 m : LogMap) → d'.keeps_model → (is : IsLoose d v k m0 m) → (s : ℕ) → get_or counts s 0 ≡ count_of (is_of n) is.running.memory s
+CountsFile d d' v n counts = (k : CheckpointValue) (m0 m : LogMap) → d'.keeps_model → (is : IsLoose d v k m0 m) → (s : ℕ)
+    → get_or counts s 0 ≡ count_of (is_of n) is.running.memory s

@@ -42,7 +42,8 @@ IsLiftedIfStored v x = IsInMemory v x ⊎ IsAtAddress (blocks_of v.dirty) (table
 -- So are the blocks of pointers of file n of which a part stays; there is no leaf below a double root that isn't stored.
 pub record HasEdge (v : LogMemory) (n first : ℕ) : Type 0 where
   pub double : 240 < first → IsLiftedIfStored v (Double n)
-  pub leaf : (q : ℕ) → IsCutLeaf first q → IsLiftedIfStored v (Leaf n q) ⊎ ((1 ≤ q) × IsAtAddress (blocks_of v.dirty) (tables_of v) (Double n) 0)
+  pub leaf : (q : ℕ) → IsCutLeaf first q
+      → IsLiftedIfStored v (Leaf n q) ⊎ ((1 ≤ q) × IsAtAddress (blocks_of v.dirty) (tables_of v) (Double n) 0)
 
 -- so many of the pointers of an inode don't lead to what goes: to data blocks, to the single leaf, to the double root
 pub record KeepsOfInode (first kept : ℕ) : Type 0 where
@@ -66,14 +67,16 @@ pub record IsFormed (x : Entry) (bytes : List ℕ) : Type 0 where
 
 -- the leaf of file n that is cut in part has no pointer to what goes, if it is in memory
 pub record ClearsLeaf (old new : Dirty) (n first : ℕ) : Type 0 where
-  pub cleared : (q : ℕ) (b : List ℕ) → IsCutLeaf first q → old (Leaf n q) ≡ Some b → length b ≡ 512 → (c : List ℕ) × (new (Leaf n q) ≡ Some c) × IsCleared (is_past n first) (Leaf n q) b c
+  pub cleared : (q : ℕ) (b : List ℕ) → IsCutLeaf first q → old (Leaf n q) ≡ Some b → length b ≡ 512
+      → (c : List ℕ) × (new (Leaf n q) ≡ Some c) × IsCleared (is_past n first) (Leaf n q) b c
   pub stay : (x : Entry) (b : List ℕ) → old x ≡ Some b → (c : List ℕ) × (new x ≡ Some c)
   pub absent : (x : Entry) → old x ≡ None → new x ≡ None
   pub others : (x : Entry) → ((q : ℕ) → IsCutLeaf first q → x ≡ Leaf n q → ⊥) → new x ≡ old x
 
 -- no block of file n in memory has a pointer to what goes
 pub record ClearsPointers (old new : Dirty) (n first : ℕ) : Type 0 where
-  pub cleared : (x : Entry) (b : List ℕ) → is_past n first x ≡ false → file_of x ≡ Some n → old x ≡ Some b → IsFormed x b → (c : List ℕ) × (new x ≡ Some c) × IsCleared (is_past n first) x b c
+  pub cleared : (x : Entry) (b : List ℕ) → is_past n first x ≡ false → file_of x ≡ Some n → old x ≡ Some b → IsFormed x b
+      → (c : List ℕ) × (new x ≡ Some c) × IsCleared (is_past n first) x b c
   pub stay : (x : Entry) (b : List ℕ) → old x ≡ Some b → (c : List ℕ) × (new x ≡ Some c)
   pub absent : (x : Entry) → old x ≡ None → new x ≡ None
   pub others : (x : Entry) → (file_of x ≡ Some n → ⊥) → new x ≡ old x

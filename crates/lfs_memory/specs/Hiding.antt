@@ -58,9 +58,11 @@ pub record Hides (d d' : DeviceState) (v v' : LogMemory) (n : ℕ) (kind : Kind)
   pub hidden : IsSet (is_hidden_in v.map) (is_hidden_in v'.map) n true
   pub mapped : (j : ℕ) → block_in v.map j ≡ 1 → block_in v'.map j ≡ 1
   pub absent : (l : ℕ) → address_in v.map l ≡ 0 → address_in v'.map l ≡ 0
-  pub log : (k : CheckpointValue) (m0 m : LogMap) → d'.keeps_model → IsLoose d v k m0 m → FitsHeader kind form 0 size → is_hidden_in v.map n ≡ false
+  pub log : (k : CheckpointValue) (m0 m : LogMap) → d'.keeps_model → IsLoose d v k m0 m → FitsHeader kind form 0 size
+      → is_hidden_in v.map n ≡ false
       → IsLoose d' v' k m0 (with_header m n (Some (header_with kind form 0 size)))
 
 -- Where memory and device hold a log map with file n, which has a name, a call of the device failed.
 abbrev pub IsLinkExcused : DeviceState → DeviceState → LogMemory → ℕ → Type 0
-IsLinkExcused d d' v n = (k : CheckpointValue) (m0 m : LogMap) → d'.keeps_model → IsLoose d v k m0 m → is_hidden_in v.map n ≡ false → HasInode m n → d.failures < d'.failures
+IsLinkExcused d d' v n = (k : CheckpointValue) (m0 m : LogMap) → d'.keeps_model → IsLoose d v k m0 m → is_hidden_in v.map n ≡ false
+    → HasInode m n → d.failures < d'.failures

@@ -44,7 +44,8 @@ HasTraces M M' = (y : Entry) → 2 ≤ M'.at y → M.at y ≡ M'.at y
 pub record Gathers (d d' : DeviceState) (v v' : LogMemory) : Type 0 where
   pub used : (s : ℕ) → used_of v'.usage s ≡ used_of v.usage s
   pub kept : (s : ℕ) → kept_of v'.usage s ≡ kept_of v.usage s
-  pub traces : (k : CheckpointValue) (m0 m : LogMap) → d'.keeps_model → (is : IsLoose d v k m0 m) → (is' : IsLoose d' v' k m0 m) × HasTraces is.running.memory is'.running.memory
+  pub traces : (k : CheckpointValue) (m0 m : LogMap) → d'.keeps_model → (is : IsLoose d v k m0 m)
+      → (is' : IsLoose d' v' k m0 m) × HasTraces is.running.memory is'.running.memory
 
 -- the block at this address is counted where it stands, among those that live there or those that hold the segment
 pub record IsCountedAbove (usage : UsageTable) (at : ℕ) (lives : Bool) : Type 0 where

@@ -74,7 +74,8 @@ HasRoom d v = 2 + 64 * length v.usage.segments ≤ d.size
 abbrev pub AreHidden : MapValue → LogMap → Type 0
 AreHidden map m = (n : ℕ) → n < 4096 → is_nameless m n ≡ is_hidden_in map n
 
--- Memory and device hold log map m, and the acknowledged checkpoint k stands for m0; a block of pointers in memory may lead nowhere for a while.
+-- Memory and device hold log map m, and the acknowledged checkpoint k stands
+-- for m0; a block of pointers in memory may lead nowhere for a while.
 pub record IsLoose (d : DeviceState) (v : LogMemory) (k : CheckpointValue) (m0 m : LogMap) : Type 0 where
   pub running : Running d (blocks_of v.dirty) (tables_of v) k m0 m (segment_in v.chunk) (chunk_in v.chunk)
   pub hidden : AreHidden v.map m

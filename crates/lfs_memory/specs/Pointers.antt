@@ -32,7 +32,8 @@ pub record IsPointer (d : DeviceState) (v : LogMemory) (n i pointer : ℕ) : Typ
   pub some : 1 ≤ n
   pub there : 0 < address_in v.map n
   pub low : i < 16624
-  pub value : d.keeps_model → pointer ≡ data_now d.content (blocks_of v.dirty) n (present d.content (blocks_of v.dirty) (Inode n) (address_in v.map n)) i
+  pub value : d.keeps_model
+      → pointer ≡ data_now d.content (blocks_of v.dirty) n (present d.content (blocks_of v.dirty) (Inode n) (address_in v.map n)) i
 
 -- a run has what memory and device have
 abbrev pub IsRunOf : DeviceState → LogMemory → PointerRun → Type 0
@@ -58,4 +59,5 @@ pub record CountsRun (from end count : ℕ) (r : PointerRun) : Type 0 where
 
 -- where memory and device hold a log map, this many blocks of file n at the indices from..to are stored
 abbrev pub AnswersCount : DeviceState → DeviceState → LogMemory → ℕ → ℕ → ℕ → ℕ → Type 0
-AnswersCount d d' v n from to count = (k : CheckpointValue) (m0 m : LogMap) → d'.keeps_model → IsLoose d v k m0 m → stored_in m n from to ≡ count
+AnswersCount d d' v n from to count = (k : CheckpointValue) (m0 m : LogMap) → d'.keeps_model → IsLoose d v k m0 m
+    → stored_in m n from to ≡ count

@@ -65,7 +65,9 @@ AreWithin m edits = AllByRecursion (λ (e : BlockEdit). IsWithin m e.number e.in
 
 -- where memory and device hold a log map in which that is so, a call of the device failed
 abbrev pub IsExcusedWithin : DeviceState → DeviceState → LogMemory → ℕ → ℕ → Type 0
-IsExcusedWithin d d' v n i = (k : CheckpointValue) (m0 m : LogMap) → d'.keeps_model → IsLoose d v k m0 m → IsWithin m n i → d.failures < d'.failures
+IsExcusedWithin d d' v n i = (k : CheckpointValue) (m0 m : LogMap) → d'.keeps_model → IsLoose d v k m0 m → IsWithin m n i
+    → d.failures < d'.failures
 
 abbrev pub AreExcusedWithin : DeviceState → DeviceState → LogMemory → List BlockEdit → Type 0
-AreExcusedWithin d d' v edits = (k : CheckpointValue) (m0 m : LogMap) → d'.keeps_model → IsLoose d v k m0 m → AreWithin m edits → d.failures < d'.failures
+AreExcusedWithin d d' v edits = (k : CheckpointValue) (m0 m : LogMap) → d'.keeps_model → IsLoose d v k m0 m → AreWithin m edits
+    → d.failures < d'.failures

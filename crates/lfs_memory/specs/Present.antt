@@ -54,8 +54,10 @@ abbrev pub AnswersHeader : DeviceState → DeviceState → LogMemory → ℕ →
 AnswersHeader d d' v n h = (k : CheckpointValue) (m0 m : LogMap) → d'.keeps_model → IsLoose d v k m0 m → HeaderAnswer m n h
 
 abbrev pub AnswersBlock : DeviceState → DeviceState → LogMemory → ℕ → ℕ → List ℕ → Bool → Type 0
-AnswersBlock d d' v n i out found = (k : CheckpointValue) (m0 m : LogMap) → d'.keeps_model → IsLoose d v k m0 m → BlockAnswer m n i out found
+AnswersBlock d d' v n i out found = (k : CheckpointValue) (m0 m : LogMap) → d'.keeps_model → IsLoose d v k m0 m
+    → BlockAnswer m n i out found
 
 -- and the address: 0 for no block, 1 for one in memory
 abbrev pub AnswersAddress : DeviceState → DeviceState → LogMemory → Entry → ℕ → Type 0
-AnswersAddress d d' v x address = (k : CheckpointValue) (m0 m : LogMap) → d'.keeps_model → (is : IsLoose d v k m0 m) → is.running.memory.at x ≡ address
+AnswersAddress d d' v x address = (k : CheckpointValue) (m0 m : LogMap) → d'.keeps_model → (is : IsLoose d v k m0 m)
+    → is.running.memory.at x ≡ address

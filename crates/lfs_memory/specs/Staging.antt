@@ -34,7 +34,8 @@ pub record Loses (d d' : DeviceState) (v v' : LogMemory) (loss : Loss) : Type 0 
 
 -- where memory and device hold a log map that may lose this, a call of the device failed
 abbrev pub IsLossExcused : DeviceState → DeviceState → LogMemory → Loss → Type 0
-IsLossExcused d d' v loss = (k : CheckpointValue) (m0 m : LogMap) → d'.keeps_model → IsLoose d v k m0 m → FitsLoss m loss → d.failures < d'.failures
+IsLossExcused d d' v loss = (k : CheckpointValue) (m0 m : LogMap) → d'.keeps_model → IsLoose d v k m0 m → FitsLoss m loss
+    → d.failures < d'.failures
 
 -- What holds of memory after a batch, be it staged or refused.
 pub record StandsWithBatch (d d' : DeviceState) (v v' : LogMemory) (headers : List HeaderEdit) (blocks : List BlockEdit) : Type 0 where
@@ -47,18 +48,23 @@ pub record StandsWithBatch (d d' : DeviceState) (v v' : LogMemory) (headers : Li
   pub few : length v'.dirty.blocks ≤ length v.dirty.blocks + room_for_edits headers blocks
 
 -- The log map is the one with all changes.
-pub record TakesBatch (d d' : DeviceState) (v v' : LogMemory) (loss : Loss) (headers : List HeaderEdit) (blocks : List BlockEdit) : Type 0 where
+pub record TakesBatch (d d' : DeviceState) (v v' : LogMemory) (loss : Loss) (headers : List HeaderEdit)
+    (blocks : List BlockEdit) : Type 0 where
   pub stands : StandsWithBatch d d' v v' headers blocks
-  pub log : (k : CheckpointValue) (m0 m : LogMap) → d'.keeps_model → IsLoose d v k m0 m → FitEdits m loss headers blocks → IsLoose d' v' k m0 (after_edits loss headers blocks m)
+  pub log : (k : CheckpointValue) (m0 m : LogMap) → d'.keeps_model → IsLoose d v k m0 m → FitEdits m loss headers blocks
+      → IsLoose d' v' k m0 (after_edits loss headers blocks m)
 
 -- Or it is as it was.
-pub record RefusesBatch (d d' : DeviceState) (v v' : LogMemory) (loss : Loss) (headers : List HeaderEdit) (blocks : List BlockEdit) : Type 0 where
+pub record RefusesBatch (d d' : DeviceState) (v v' : LogMemory) (loss : Loss) (headers : List HeaderEdit)
+    (blocks : List BlockEdit) : Type 0 where
   pub stands : StandsWithBatch d d' v v' headers blocks
-  pub log : (k : CheckpointValue) (m0 m : LogMap) → d'.keeps_model → IsLoose d v k m0 m → FitEdits m loss headers blocks → IsLoose d' v' k m0 m
+  pub log : (k : CheckpointValue) (m0 m : LogMap) → d'.keeps_model → IsLoose d v k m0 m → FitEdits m loss headers blocks
+      → IsLoose d' v' k m0 m
 
 -- where memory and device hold a log map that the batch fits, a call of the device failed
 abbrev pub IsBatchExcused : DeviceState → DeviceState → LogMemory → Loss → List HeaderEdit → List BlockEdit → Type 0
-IsBatchExcused d d' v loss headers blocks = (k : CheckpointValue) (m0 m : LogMap) → d'.keeps_model → IsLoose d v k m0 m → FitEdits m loss headers blocks → d.failures < d'.failures
+IsBatchExcused d d' v loss headers blocks = (k : CheckpointValue) (m0 m : LogMap) → d'.keeps_model → IsLoose d v k m0 m
+    → FitEdits m loss headers blocks → d.failures < d'.failures
 
 -- ---- and then the blocks of pointers in memory that lead nowhere leave it
 abbrev pub StagesTight : DeviceState → DeviceState → LogMemory → LogMemory → Changes → Type 0

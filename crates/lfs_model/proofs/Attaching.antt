@@ -1,5 +1,6 @@
 -- A directory that has no name gets one: the state is sound.
-use Rattle.std.proofs.Common.{◌≡◌, ◌≢◌, sym, ap, subst, ◌∙◌, ℕ, ◌+◌, ◌*◌, ◌<◌, ◌≤◌, Bool, true, false, List, Some, None, arith, cond, inl, inr, ◌⊎◌, length}
+use Rattle.std.proofs.Common.{◌≡◌, ◌≢◌, sym, ap, subst, ◌∙◌, ℕ, ◌+◌, ◌*◌, ◌<◌, ◌≤◌, Bool, true, false, List, Some, None, arith, cond, inl}
+use Rattle.std.proofs.Common.{inr, ◌⊎◌, length}
 use Rattle.std.specs.Prelude.{if◌then◌else◌, is_some}
 use Rattle.std.specs.Cmp.Lexicographic.{nat_list_cmp_total}
 use Rattle.std.specs.FinMap.{find, put}
@@ -12,10 +13,13 @@ use Rattle.lfs_model.proofs.Walks.{Some-injective}
 use Rattle.lfs_model.proofs.Growing.{same_or_not}
 use Rattle.lfs_model.proofs.Makes.{all_put}
 use Rattle.lfs_model.proofs.Detached.{IsDetached, Under, itself, inside}
-use Rattle.lfs_model.proofs.Gaining.{after_order, at_dir, at_other, dirs, names_kept, names_more, entry_new, entry_after, entry_kept, links_dir, links_other, reached_kept}
+use Rattle.lfs_model.proofs.Gaining.{after_order, at_dir, at_other, dirs, names_kept, names_more, entry_new, entry_after, entry_kept}
+use Rattle.lfs_model.proofs.Gaining.{links_dir, links_other, reached_kept}
 
-module _ (N : ℕ) (s : State) (d n form : ℕ) (m : Names) (nm : List ℕ) (was : IsDetached N s n) (is : node s.tree d ≡ Some (Dir form m)) (at : IsReachable s.tree d)
-    (absent : find byte_cmp nm m ≡ None) (good : IsGoodName (name_len form) nm) (few : length m < 1024) (room : links s.tree d < 1000) (fits : need (with_node s.tree d (Dir form (put byte_cmp nm n m))) ≤ 47 * N) where
+module _ (N : ℕ) (s : State) (d n form : ℕ) (m : Names) (nm : List ℕ) (was : IsDetached N s n) (is : node s.tree d ≡ Some (Dir form m))
+    (at : IsReachable s.tree d)
+    (absent : find byte_cmp nm m ≡ None) (good : IsGoodName (name_len form) nm) (few : length m < 1024) (room : links s.tree d < 1000)
+    (fits : need (with_node s.tree d (Dir form (put byte_cmp nm n m))) ≤ 47 * N) where
   abbrev t : Tree
   t = s.tree
 
@@ -66,8 +70,11 @@ module _ (N : ℕ) (s : State) (d n form : ℕ) (m : Names) (nm : List ℕ) (was
   grown_limits : IsWithinLimits grown
   grown_limits =
       let len = length-put byte_cmp nat_list_cmp_total nm n m limits_dir.0 in
-      let now : length (put byte_cmp nm n m) ≡ length m + 1 = len ∙ ap (λ o. cond (is_some o) (length m) (length m + 1)) absent in
-      (is_sorted-put byte_cmp nat_list_cmp_total nm n m limits_dir.0, omega arith, all_put byte_cmp (IsGoodName (name_len form)) nm n m good limits_dir.2)
+      let now : length (put byte_cmp nm n m) ≡ length m + 1 = len ∙ ap (λ o. cond (is_some o) (length m) (length m + 1)) absent in (
+        is_sorted-put byte_cmp nat_list_cmp_total nm n m limits_dir.0,
+        omega arith,
+        all_put byte_cmp (IsGoodName (name_len form)) nm n m good limits_dir.2,
+      )
 
   links_few : (q : ℕ) → node t' q ≢ None → links t' q ≤ 1000
   links_few q some = same_or_not q d
@@ -76,13 +83,15 @@ module _ (N : ℕ) (s : State) (d n form : ℕ) (m : Names) (nm : List ℕ) (was
       let one : ◌≡◌ {A = ℕ} (if is_dir (node t n) then 1 else 0) 1 = ap (λ (b : Bool). if b then 1 else 0) was.dir in
       omega arith))
       (λ b. (
-      let which : (q ≢ n) ⊎ (is_dir (node t q) ≡ true) = same_or_not q n (λ e. inr (subst (λ x. is_dir (node t x) ≡ true) (sym e) was.dir)) (λ ne. inl ne) in
+      let which : (q ≢ n) ⊎ (is_dir (node t q) ≡ true) =
+      same_or_not q n (λ e. inr (subst (λ x. is_dir (node t x) ≡ true) (sym e) was.dir)) (λ ne. inl ne) in
       let same = links_other t d n form m nm was.in_order is limits_dir.0 absent q b which in
       let old = was.few_links q (there q some) in
       omega arith))
 
   n_reached : IsReachable t' n
-  n_reached = below nm (reached_kept t d n form m nm was.in_order is limits_dir.0 absent at) (entry_new t d n form m nm was.in_order is limits_dir.0 absent)
+  n_reached = below nm (reached_kept t d n form m nm was.in_order is limits_dir.0 absent at)
+      (entry_new t d n form m nm was.in_order is limits_dir.0 absent)
 
   under_reached : {q : ℕ} → Under t n q → IsReachable t' q
   under_reached itself = n_reached
@@ -115,7 +124,8 @@ module _ (N : ℕ) (s : State) (d n form : ℕ) (m : Names) (nm : List ℕ) (was
     ];
     held = λ q ne some none. same_or_not q n
         (λ e. absurd (let more = one_more in let zero_is : names t' n ≡ 0 = subst (λ x. names t' x ≡ 0) e none in omega arith))
-        (λ a. let old = was.held q a ne (there q some) (sym (same_names q a) ∙ none) in record { file = file_kept q old.file; handle = old.handle });
+        (λ a. let old = was.held q a ne (there q some) (sym (same_names q a) ∙ none) in
+        record { file = file_kept q old.file; handle = old.handle });
     handles = λ h q e. ((was.handles h q e).0, file_kept q (was.handles h q e).1);
     room = fits;
   }

@@ -13,7 +13,8 @@ sum_same f g zero same = refl
 sum_same f g (suc n) same = let rest = sum_same f g n same in let here = same n in omega (arith, rest, here)
 
 -- where one of them is more by one at most, so is the sum
-pub sum_one : (f g : ℕ → ℕ) (c n : ℕ) → f c ≤ g c + 1 → ((s : ℕ) → (s ≡ c → ⊥) → f s ≡ g s) → (sum_below f n ≤ sum_below g n + 1) × (n ≤ c → sum_below f n ≡ sum_below g n)
+pub sum_one : (f g : ℕ → ℕ) (c n : ℕ) → f c ≤ g c + 1 → ((s : ℕ) → (s ≡ c → ⊥) → f s ≡ g s)
+    → (sum_below f n ≤ sum_below g n + 1) × (n ≤ c → sum_below f n ≡ sum_below g n)
 sum_one f g c zero here there = (omega arith, λ le. refl)
 sum_one f g c (suc n) here there =
     let rest = sum_one f g c n here there in (

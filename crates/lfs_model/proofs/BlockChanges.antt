@@ -23,7 +23,8 @@ in_place M M' x p was = record {
 }
 
 -- the inodes that are there stay, with their headers
-pub inodes_same : (e : Content) (m m' : LogMap) (M M' : Memory) (o : ℕ) → IsLaid e m M o → ((k : ℕ) → m'.header k ≡ m.header k) → ((k : ℕ) → M'.at (Inode k) ≡ M.at (Inode k))
+pub inodes_same : (e : Content) (m m' : LogMap) (M M' : Memory) (o : ℕ) → IsLaid e m M o → ((k : ℕ) → m'.header k ≡ m.header k)
+    → ((k : ℕ) → M'.at (Inode k) ≡ M.at (Inode k))
     → (k : ℕ) → HasInode m' k ↔ 0 < M'.at (Inode k)
 inodes_same e m m' M M' o laid headers at k =
     let s = at k in (
@@ -31,7 +32,8 @@ inodes_same e m m' M M' o laid headers at k =
       λ lt. let h = (laid.inodes k).1 (omega arith) in (h.0, headers k ∙ h.1),
     )
 
-module _ (e : Content) (m m' : LogMap) (M : Memory) (o : ℕ) (laid : IsLaid e m M o) (n i : ℕ) (bytes : List ℕ) (M' : Memory) (map : IsWithBlock m n i bytes m') where
+module _ (e : Content) (m m' : LogMap) (M : Memory) (o : ℕ) (laid : IsLaid e m M o) (n i : ℕ) (bytes : List ℕ) (M' : Memory)
+    (map : IsWithBlock m n i bytes m') where
   same_but_block : (y : Entry) → (y ≡ Data n i → ⊥) → SameAt m m' y
   same_but_block (Data k l) ne = map.others k l ne
   same_but_block (Leaf k q) ne = tt
@@ -55,11 +57,15 @@ module _ (e : Content) (m m' : LogMap) (M : Memory) (o : ℕ) (laid : IsLaid e m
         (λ has. let lt = f.0 (omega arith) in omega arith, λ lt. let has = f.1 (omega arith) in omega arith))
         (λ (away : Data k l ≡ Data n i → ⊥).
         let b = ap length (map.others k l away) in
-        let a = t.others (Data k l) away in
-        (λ has. let lt = (laid.blocks k l).0 (omega arith) in omega arith, λ lt. let has = (laid.blocks k l).1 (omega arith) in omega arith))
+        let a = t.others (Data k l) away in (
+          λ has. let lt = (laid.blocks k l).0 (omega arith) in omega arith,
+          λ lt. let has = (laid.blocks k l).1 (omega arith) in
+              omega arith,
+        ))
         (same_entry (Data k l) (Data n i))
 
-    module _ (kept : (y : Entry) → (y ≡ Data n i → ⊥) → (y ≡ parent (Data n i) → ⊥) → M'.bytes y ≡ M.bytes y) (above : M.at (parent (Data n i)) ≡ 1)
+    module _ (kept : (y : Entry) → (y ≡ Data n i → ⊥) → (y ≡ parent (Data n i) → ⊥) → M'.bytes y ≡ M.bytes y)
+        (above : M.at (parent (Data n i)) ≡ 1)
         (long_up : length (M'.bytes (parent (Data n i))) ≡ 512)
         (spells_up : SpellsBlock m' M'.at (M'.bytes (parent (Data n i))) (parent (Data n i)))
         (long : 0 < M'.at (Data n i) → length (M'.bytes (Data n i)) ≡ 512) (own : 0 < M'.at (Data n i) → M'.bytes (Data n i) ≡ bytes) where
@@ -81,7 +87,8 @@ module _ (e : Content) (m m' : LogMap) (M : Memory) (o : ℕ) (laid : IsLaid e m
         some = λ h le. absurd h;
         long = long;
         spells = λ lt. own lt ∙ sym map.own;
-        mapped = mapped_step m m' M M' (Data n i) (n, refl) t.others kept (λ k ne. map.header k) (λ k h none. absurd (not_inode k h)) laid.mapped;
+        mapped = mapped_step m m' M M' (Data n i) (n, refl) t.others kept (λ k ne. map.header k)
+            (λ k h none. absurd (not_inode k h)) laid.mapped;
       }
 
       pub changed : IsLaid e m' M' o
@@ -98,10 +105,12 @@ module _ (e : Content) (m m' : LogMap) (M : Memory) (o : ℕ) (laid : IsLaid e m
       no_leaf : (k q : ℕ) → Data n i ≡ Leaf k q → q ≤ 128
       no_leaf k q h = absurd (cc)
 
-      pub pointed : (0 < M'.at (Data n i) → length (M'.bytes (Data n i)) ≡ 512) → (0 < M'.at (Data n i) → M'.bytes (Data n i) ≡ bytes) → IsLaid e m' M' o
+      pub pointed : (0 < M'.at (Data n i) → length (M'.bytes (Data n i)) ≡ 512) → (0 < M'.at (Data n i) → M'.bytes (Data n i) ≡ bytes)
+          → IsLaid e m' M' o
       pointed = changed p.kept p.above
           (above_long e m M o laid (Data n i) M' t.others small no_leaf (data_below n i) p.above patch)
-          (above_spells e m M o laid (Data n i) M' t.others small no_leaf (data_below n i) p.above patch m' (same_but_block (parent (Data n i)) (data_below n i)))
+          (above_spells e m M o laid (Data n i) M' t.others small no_leaf (data_below n i) p.above patch m'
+          (same_but_block (parent (Data n i)) (data_below n i)))
 
 pub rewriting : Rewriting
 rewriting e m M o n i bytes m' M' laid p =
@@ -109,7 +118,8 @@ rewriting e m M o n i bytes m' M' laid p =
     (λ y ne away. p.kept y ne) above
     (ap length up ∙ laid.long (parent (Data n i)) (n, file_of_parent (Data n i)) (omega arith))
     (subst (λ (b : List ℕ). SpellsBlock m' M'.at b (parent (Data n i))) (sym up)
-    (spells_children m m' M.at M'.at (M.bytes (parent (Data n i))) (parent (Data n i)) (same_but_block e m m' M o laid n i bytes M' p.map (parent (Data n i)) (data_below n i))
+    (spells_children m m' M.at M'.at (M.bytes (parent (Data n i))) (parent (Data n i))
+    (same_but_block e m m' M o laid n i bytes M' p.map (parent (Data n i)) (data_below n i))
     (λ y ne here. ap (λ (f : Entry → ℕ). f y) p.place.at) (laid.spells (parent (Data n i)) (omega arith))))
     (λ lt. ap length p.own ∙ p.long) (λ lt. p.own)
   where
@@ -126,9 +136,11 @@ pub adding : Adding
 adding e m M o n i bytes m' M' laid p =
     let a = p.taken.at in
     let l = p.long in
-    pointed e m m' M o laid n i bytes M' p.map 1 p.taken (λ lt. omega arith, λ lt. omega arith) p.pointed (λ lt. ap length p.own ∙ p.long) (λ lt. p.own)
+    pointed e m m' M o laid n i bytes M' p.map 1 p.taken (λ lt. omega arith, λ lt. omega arith) p.pointed (λ lt. ap length p.own ∙ p.long)
+    (λ lt. p.own)
 
 pub removing : Removing
 removing e m M o n i m' M' laid p =
     let a = p.taken.at in
-    pointed e m m' M o laid n i [] M' p.map 0 p.taken (λ lt. absurd (omega arith), λ lt. absurd (omega arith)) p.pointed (λ lt. absurd (omega arith)) (λ lt. absurd (omega arith))
+    pointed e m m' M o laid n i [] M' p.map 0 p.taken (λ lt. absurd (omega arith), λ lt. absurd (omega arith)) p.pointed
+    (λ lt. absurd (omega arith)) (λ lt. absurd (omega arith))

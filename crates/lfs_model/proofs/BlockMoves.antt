@@ -1,12 +1,14 @@
 -- One block of a file comes, goes, moves or is another: what all other blocks keep.
-use Rattle.std.proofs.Common.{◌≡◌, ◌<◌, ◌≤◌, ◌↔◌, ⊎_elim, ◌+◌, ◌*◌, ◌^◌, ◌/◌, ◌%◌, ℕ, true, false, cond, not, List, length, get_or, Option, Some, None, refl, sym, ◌∙◌, ap, subst, arith}
+use Rattle.std.proofs.Common.{◌≡◌, ◌<◌, ◌≤◌, ◌↔◌, ⊎_elim, ◌+◌, ◌*◌, ◌^◌, ◌/◌, ◌%◌, ℕ, true, false, cond, not, List, length, get_or, Option}
+use Rattle.std.proofs.Common.{Some, None, refl, sym, ◌∙◌, ap, subst, arith}
 use Rattle.std.proofs.lemmas.Bool.{cases_Bool}
 use Rattle.lfs_model.specs.Entry.{Entry, Data, Leaf, Inode, Map, Usage, Header, word}
 use Rattle.lfs_model.specs.Content.{Content, block}
 use Rattle.lfs_model.specs.Reach.{Row, row_by}
 use Rattle.lfs_model.specs.Stands.{LogMap}
 use Rattle.lfs_model.specs.Encodes.{HasData, HasInode}
-use Rattle.lfs_model.specs.Memory.{Memory, parent, pointer, patched, IsOfFile, IsPointers, HasPointer, is_unlinked, is_nameless, is_shown, shown}
+use Rattle.lfs_model.specs.Memory.{Memory, parent, pointer, patched, IsOfFile, IsPointers, HasPointer, is_unlinked, is_nameless, is_shown}
+use Rattle.lfs_model.specs.Memory.{shown}
 use Rattle.lfs_model.specs.Laid.{IsLaid, IsMapped, SpellsBlock}
 use Rattle.lfs_model.specs.Lifting.{IsTaken}
 use Rattle.lfs_model.proofs.Entries.{same_entry, file_of_parent, map_child, below_of_file, pointer_low}
@@ -29,7 +31,8 @@ shown_none m at n none = ⊎_elim
     (cases_Bool (is_nameless m n))
 
 -- with the same header and address the same is shown
-pub shown_alike : (m m' : LogMap) (A B : Entry → ℕ) (n : ℕ) → m'.header n ≡ m.header n → B (Inode n) ≡ A (Inode n) → shown m' B (Inode n) ≡ shown m A (Inode n)
+pub shown_alike : (m m' : LogMap) (A B : Entry → ℕ) (n : ℕ) → m'.header n ≡ m.header n → B (Inode n) ≡ A (Inode n)
+    → shown m' B (Inode n) ≡ shown m A (Inode n)
 shown_alike m m' A B n headers at =
     ap (λ (h : Option Header). cond (not (is_unlinked h)) (B (Inode n)) 0) headers ∙ ap (λ (a : ℕ). cond (is_shown m (Inode n)) a 0) at
 
@@ -78,7 +81,8 @@ pub record IsStep (m m' : LogMap) (M : Memory) (x : Entry) (M' : Memory) : Type 
 
 module _ (e : Content) (m m' : LogMap) (M : Memory) (o : ℕ) (laid : IsLaid e m M o) (x : Entry) (M' : Memory) (p : IsStep m m' M x M') where
   pub bytes_kept : (y : Entry) → (y ≡ x → ⊥) → 2 ≤ M.at y → M'.bytes y ≡ M.bytes y
-  bytes_kept y ne le = p.kept y ne (λ is. let one = p.above (λ top. ne (is ∙ top)) in let same : M.at y ≡ M.at (parent x) = ap M.at is in absurd (omega arith))
+  bytes_kept y ne le = p.kept y ne
+      (λ is. let one = p.above (λ top. ne (is ∙ top)) in let same : M.at y ≡ M.at (parent x) = ap M.at is in absurd (omega arith))
 
   pub down_now : (y : Entry) → 0 < M'.at y → 0 < M'.at (parent y)
   down_now = by_entry x (λ y. 0 < M'.at y → 0 < M'.at (parent y))
@@ -133,7 +137,8 @@ module _ (e : Content) (m m' : LogMap) (M : Memory) (o : ℕ) (laid : IsLaid e m
       (λ (is : y ≡ parent x). subst (λ (z : Entry). SpellsBlock m' M'.at (M'.bytes z) z) (sym is) (p.above_spells (λ top. ne (is ∙ top))))
       (λ (away : y ≡ parent x → ⊥).
       subst (λ (b : List ℕ). SpellsBlock m' M'.at b y) (sym (p.kept y ne away))
-      (spells_children m m' M.at M'.at (M.bytes y) y (p.same y ne) (λ z nz up. p.others z (λ h. away (sym up ∙ ap parent h))) (laid.spells y (omega arith))))
+      (spells_children m m' M.at M'.at (M.bytes y) y (p.same y ne) (λ z nz up. p.others z (λ h. away (sym up ∙ ap parent h)))
+      (laid.spells y (omega arith))))
       (same_entry y (parent x)))
 
   pub usages_now : (j : ℕ) → (j < (M'.segments + 63) / 64) ↔ 0 < M'.at (Usage j)
@@ -176,7 +181,8 @@ module _ (e : Content) (m m' : LogMap) (M : Memory) (o : ℕ) (laid : IsLaid e m
 -- ---- the block above, where it is patched
 module _ (e : Content) (m : LogMap) (M : Memory) (o : ℕ) (laid : IsLaid e m M o) (x : Entry) (M' : Memory)
     (others : (y : Entry) → (y ≡ x → ⊥) → M'.at y ≡ M.at y) (small : M'.at x < 2 ^ 32) (low : (n q : ℕ) → x ≡ Leaf n q → q ≤ 128)
-    (ne : parent x ≡ x → ⊥) (above : M.at (parent x) ≡ 1) (patch : M'.bytes (parent x) ≡ patched (pointer x) (M'.at x) (M.bytes (parent x))) where
+    (ne : parent x ≡ x → ⊥) (above : M.at (parent x) ≡ 1)
+    (patch : M'.bytes (parent x) ≡ patched (pointer x) (M'.at x) (M.bytes (parent x))) where
   parent_of_file : IsOfFile (parent x)
   parent_of_file = let f = below_of_file x ne in (f.0, file_of_parent x ∙ f.1)
 
@@ -190,7 +196,8 @@ module _ (e : Content) (m : LogMap) (M : Memory) (o : ℕ) (laid : IsLaid e m M 
   above_spells m' like =
       subst (λ (b : List ℕ). SpellsBlock m' M'.at b (parent x)) (sym patch)
       (spells_children m m' M'.at M'.at (patched (pointer x) (M'.at x) (M.bytes (parent x))) (parent x) like (λ y nx up. refl)
-      (spells_patched M.at M'.at x others (M.bytes (parent x)) long_before small (pointer_low x low) m (parent x) refl (λ h. ne (sym h)) (laid.spells (parent x) (omega arith))))
+      (spells_patched M.at M'.at x others (M.bytes (parent x)) long_before small (pointer_low x low) m (parent x) refl (λ h. ne (sym h))
+      (laid.spells (parent x) (omega arith))))
 
 -- ---- the inode map blocks
 module _ (m m' : LogMap) (M M' : Memory) (x : Entry) (is : IsOfFile x) (others : (y : Entry) → (y ≡ x → ⊥) → M'.at y ≡ M.at y)
@@ -213,6 +220,7 @@ module _ (m m' : LogMap) (M M' : Memory) (x : Entry) (is : IsOfFile x) (others :
       (λ (here : Inode (128 * j + i) ≡ x).
       let e : (128 * j + i) / 128 ≡ j = omega arith in
       own (128 * j + i) here (subst (λ (k : ℕ). M.at (Map k) ≡ 1 → ⊥) (sym e) out))
-      (λ (away : Inode (128 * j + i) ≡ x → ⊥). shown_alike m m' M.at M'.at (128 * j + i) (headers (128 * j + i) away) (others (Inode (128 * j + i)) away))
+      (λ (away : Inode (128 * j + i) ≡ x → ⊥).
+      shown_alike m m' M.at M'.at (128 * j + i) (headers (128 * j + i) away) (others (Inode (128 * j + i)) away))
       (same_entry (Inode (128 * j + i)) x))
       (mapped j out)

@@ -1,5 +1,6 @@
 -- All segments together hold no more blocks than there are entries with an address.
-use Rattle.std.proofs.Common.{◌≡◌, ◌<◌, ◌≤◌, ◌⊎◌, ⊎_elim, ◌+◌, ◌&&◌, not, cond, ℕ, zero, suc, Bool, true, false, List, [], ◌∷◌, length, refl, sym, ◌∙◌, ap, ap₂, subst, arith, inl, inr}
+use Rattle.std.proofs.Common.{◌≡◌, ◌<◌, ◌≤◌, ◌⊎◌, ⊎_elim, ◌+◌, ◌&&◌, not, cond, ℕ, zero, suc, Bool, true, false, List, [], ◌∷◌, length}
+use Rattle.std.proofs.Common.{refl, sym, ◌∙◌, ap, ap₂, subst, arith, inl, inr}
 use Rattle.std.proofs.lemmas.Bool.{cases_lt, cases_Bool, false_from_ne_true}
 use Rattle.lfs_model.specs.Content.{Content}
 use Rattle.lfs_model.specs.Counting.{segment_of}
@@ -72,11 +73,13 @@ module _ (e : Content) (m : LogMap) (M : Memory) (opened_at : ℕ) (laid : IsLai
       ∙ none_pass 64
 
   same_tests : (is more : Entry → Bool) → ((x : Entry) → more x ≡ is x) → (s : ℕ) → count_of more M s ≡ count_of is M s
-  same_tests is more same s = same_counts is more M M laid.named laid.named (λ y. ap (λ (b : Bool). settled_at (cond b (M.at y) 0)) (same y)) s
+  same_tests is more same s =
+      same_counts is more M M laid.named laid.named (λ y. ap (λ (b : Bool). settled_at (cond b (M.at y) 0)) (same y)) s
 
   -- one entry more counts at most one in its segment
   one_counted : (is more : Entry → Bool) (x : Entry) → is x ≡ false → more x ≡ true → ((y : Entry) → (y ≡ x → ⊥) → more y ≡ is y)
-      → (count_of more M (segment_of (M.at x)) ≤ count_of is M (segment_of (M.at x)) + 1) × ((s : ℕ) → (s ≡ segment_of (M.at x) → ⊥) → count_of more M s ≡ count_of is M s)
+      → (count_of more M (segment_of (M.at x)) ≤ count_of is M (segment_of (M.at x)) + 1)
+      × ((s : ℕ) → (s ≡ segment_of (M.at x) → ⊥) → count_of more M s ≡ count_of is M s)
   one_counted is more x off on others =
       let c = one_more_counted e m M opened_at x laid is more off on others in (
         ⊎_elim
@@ -103,14 +106,18 @@ module _ (e : Content) (m : LogMap) (M : Memory) (opened_at : ℕ) (laid : IsLai
     one_more : sum_below (in_segment (x ∷ xs)) M.segments ≤ sum_below (in_segment xs) M.segments + 1
     one_more = ⊎_elim
         (λ (on : is_shown m x ≡ true).
-        let up = one_counted (shows xs) (shows (x ∷ xs)) x (shows_as xs x false true new on) (shows_as (x ∷ xs) x true true (own x xs) on) (λ y ne. ap (λ (b : Bool). b && is_shown m y) (others y ne)) in
-        let still = same_tests (holds xs) (holds (x ∷ xs)) (by_entry (λ y. holds (x ∷ xs) y ≡ holds xs y) (holds_as (x ∷ xs) x true true (own x xs) on ∙ sym (holds_as xs x false true new on)) (λ y ne. ap (λ (b : Bool). b && is_held m y) (others y ne))) in
+        let up = one_counted (shows xs) (shows (x ∷ xs)) x (shows_as xs x false true new on) (shows_as (x ∷ xs) x true true (own x xs) on)
+        (λ y ne. ap (λ (b : Bool). b && is_shown m y) (others y ne)) in
+        let still = same_tests (holds xs) (holds (x ∷ xs)) (by_entry (λ y. holds (x ∷ xs) y ≡ holds xs y) (holds_as (x ∷ xs) x true true
+        (own x xs) on ∙ sym (holds_as xs x false true new on)) (λ y ne. ap (λ (b : Bool). b && is_held m y) (others y ne))) in
         (sum_one (in_segment (x ∷ xs)) (in_segment xs) (segment_of (M.at x)) M.segments
         (let u = up.0 in let h = still (segment_of (M.at x)) in omega (arith, u, h))
         (λ s ne. let u = up.1 s ne in let h = still s in omega (arith, u, h))).0)
         (λ (off : is_shown m x ≡ false).
-        let up = one_counted (holds xs) (holds (x ∷ xs)) x (holds_as xs x false false new off) (holds_as (x ∷ xs) x true false (own x xs) off) (λ y ne. ap (λ (b : Bool). b && is_held m y) (others y ne)) in
-        let still = same_tests (shows xs) (shows (x ∷ xs)) (by_entry (λ y. shows (x ∷ xs) y ≡ shows xs y) (shows_as (x ∷ xs) x true false (own x xs) off ∙ sym (shows_as xs x false false new off)) (λ y ne. ap (λ (b : Bool). b && is_shown m y) (others y ne))) in
+        let up = one_counted (holds xs) (holds (x ∷ xs)) x (holds_as xs x false false new off)
+        (holds_as (x ∷ xs) x true false (own x xs) off) (λ y ne. ap (λ (b : Bool). b && is_held m y) (others y ne)) in
+        let still = same_tests (shows xs) (shows (x ∷ xs)) (by_entry (λ y. shows (x ∷ xs) y ≡ shows xs y) (shows_as (x ∷ xs) x true false
+        (own x xs) off ∙ sym (shows_as xs x false false new off)) (λ y ne. ap (λ (b : Bool). b && is_shown m y) (others y ne))) in
         (sum_one (in_segment (x ∷ xs)) (in_segment xs) (segment_of (M.at x)) M.segments
         (let u = up.0 in let h = still (segment_of (M.at x)) in omega (arith, u, h))
         (λ s ne. let u = up.1 s ne in let h = still s in omega (arith, u, h))).0)
@@ -118,7 +125,8 @@ module _ (e : Content) (m : LogMap) (M : Memory) (opened_at : ℕ) (laid : IsLai
 
   counted : (xs : List Entry) → sum_below (in_segment xs) M.segments ≤ length xs
   counted [] =
-      let none = sum_same (in_segment []) (λ s. 0) M.segments (λ s. let a = none_counted (shows []) (λ x. refl) s in let b = none_counted (holds []) (λ x. refl) s in omega (arith, a, b)) in
+      let none = sum_same (in_segment []) (λ s. 0) M.segments
+      (λ s. let a = none_counted (shows []) (λ x. refl) s in let b = none_counted (holds []) (λ x. refl) s in omega (arith, a, b)) in
       let zeros = sum_zero M.segments in
       omega (arith, none, zeros)
   counted (x ∷ xs) =
@@ -142,7 +150,8 @@ module _ (e : Content) (m : LogMap) (M : Memory) (opened_at : ℕ) (laid : IsLai
 
   -- the list has each entry with an address, so the counts are those of all
   module _ (xs : List Entry) (all : (x : Entry) → 2 ≤ M.at x → IsIn xs x) where
-    all_tests : (is is_in : Entry → Bool) → ((x : Entry) → member xs x ≡ true → is_in x ≡ is x) → (s : ℕ) → count_of is M s ≡ count_of is_in M s
+    all_tests : (is is_in : Entry → Bool) → ((x : Entry) → member xs x ≡ true → is_in x ≡ is x) → (s : ℕ)
+        → count_of is M s ≡ count_of is_in M s
     all_tests is is_in same s = same_counts is_in is M M laid.named laid.named (λ y. ⊎_elim
         (λ (low : M.at y < 2). settled_none is y low ∙ sym (settled_none is_in y low))
         (λ (above : 2 ≤ M.at y). ap (λ (b : Bool). settled_at (cond b (M.at y) 0)) (sym (same y (is_member xs y (all y above)))))
@@ -164,6 +173,7 @@ module _ (e : Content) (m : LogMap) (M : Memory) (opened_at : ℕ) (laid : IsLai
         omega (arith, same, c)
 
 -- Each block on the device is counted once: the segments hold no more blocks than a list has entries that has each of them.
-pub blocks_counted : (e : Content) (m : LogMap) (M : Memory) (opened_at : ℕ) → IsLaid e m M opened_at → (xs : List Entry) → ((x : Entry) → 2 ≤ M.at x → IsIn xs x)
+pub blocks_counted : (e : Content) (m : LogMap) (M : Memory) (opened_at : ℕ) → IsLaid e m M opened_at → (xs : List Entry)
+    → ((x : Entry) → 2 ≤ M.at x → IsIn xs x)
     → sum_below (λ s. live_of m M s + held_of m M s) M.segments ≤ length xs
 blocks_counted e m M opened_at laid xs all = all_counted e m M opened_at laid xs all

@@ -31,14 +31,6 @@ zero_at (suc n) (suc i) = zero_at n i
 pub zeros_are_bytes : AreSectorBytes (replicate 512 0)
 zeros_are_bytes = record { size = length-replicate {A = ℕ} 512 0; each = zero_at 512 }
 
-each_byte : (bytes : List ℕ) → ((i : ℕ) → slice_index bytes i < 256) → AllByRecursion (λ b. b < 256) bytes
-each_byte [] each = tt
-each_byte (b ∷ bytes) each = (each 0, each_byte bytes (λ i. each (suc i)))
-
--- the same by recursion
-pub bytes_by_recursion : (bytes : List ℕ) → AreSectorBytes bytes → AllByRecursion (λ b. b < 256) bytes
-bytes_by_recursion bytes are = each_byte bytes are.each
-
 -- the cell at a place is a sector's
 pub sector_at : (content : List Cell) (k : ℕ) → AllByRecursion IsSector content → IsSector (cell_at content k)
 sector_at [] k all = tt
@@ -50,7 +42,9 @@ size_written sector bytes d c (left_old is) = ap (λ (l : List Cell). length l) 
 size_written sector bytes d c (left_new is) = ap (λ (l : List Cell). length l) is ∙ length-set d sector _
 size_written sector bytes d c (left_bad is) = ap (λ (l : List Cell). length l) is ∙ length-set d sector _
 
-pub cells_written : (sector : ℕ) (bytes : List ℕ) (d c : List Cell) → AreSectorBytes bytes → AllByRecursion IsSector d → MayWrite sector bytes d c → AllByRecursion IsSector c
+pub cells_written : (sector : ℕ) (bytes : List ℕ) (d c : List Cell) → AreSectorBytes bytes → AllByRecursion IsSector d
+    → MayWrite sector bytes d c → AllByRecursion IsSector c
 cells_written sector bytes d c has all (left_old is) = subst (AllByRecursion IsSector) (sym is) all
-cells_written sector bytes d c has all (left_new is) = subst (AllByRecursion IsSector) (sym is) (all_set IsSector d sector (Some bytes) has all)
+cells_written sector bytes d c has all (left_new is) =
+    subst (AllByRecursion IsSector) (sym is) (all_set IsSector d sector (Some bytes) has all)
 cells_written sector bytes d c has all (left_bad is) = subst (AllByRecursion IsSector) (sym is) (all_set IsSector d sector None tt all)

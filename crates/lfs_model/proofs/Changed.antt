@@ -1,5 +1,6 @@
 -- Blocks in memory change, as the log runs.
-use Rattle.std.proofs.Common.{◌≡◌, ◌≤◌, ⊎_elim, cond, not, Bool, true, false, ℕ, List, length, Option, Some, None, refl, sym, ◌∙◌, ap, subst, arith}
+use Rattle.std.proofs.Common.{◌≡◌, ◌≤◌, ⊎_elim, cond, not, Bool, true, false, ℕ, List, length, Option, Some, None, refl, sym, ◌∙◌, ap}
+use Rattle.std.proofs.Common.{subst, arith}
 use Rattle.std.specs.Prelude.{option_map}
 use Rattle.lfs_model.specs.Changing.{IsWithBlock, IsPointed, IsRewriting}
 use Rattle.lfs_model.specs.Checkpoint.{CheckpointValue}
@@ -7,7 +8,8 @@ use Rattle.lfs_model.specs.Device.{DeviceState}
 use Rattle.lfs_model.specs.Entry.{Entry, Data, Usage, Header, word}
 use Rattle.lfs_model.specs.Laid.{IsLaid}
 use Rattle.lfs_model.specs.Lifting.{IsTaken}
-use Rattle.lfs_model.specs.Memory.{Memory, parent, pointer, patched, file_of, IsOfFile, is_unlinked, is_nameless, is_shown, is_held, settled_at, live_of, held_of}
+use Rattle.lfs_model.specs.Memory.{Memory, parent, pointer, patched, file_of, IsOfFile, is_unlinked, is_nameless, is_shown, is_held}
+use Rattle.lfs_model.specs.Memory.{settled_at, live_of, held_of}
 use Rattle.lfs_model.specs.Reach.{Row}
 use Rattle.lfs_model.specs.Running.{Dirty, Tables, IsCached, SpellsUsage, Running}
 use Rattle.lfs_model.specs.Staging.{IsAtAddress, ChangesTo, BlockRewriting, BlockAdding, BlockRemoving, PointersGrowing, PointersShrinking}
@@ -24,7 +26,8 @@ use Rattle.lfs_model.proofs.Tables.{usage_table, pointers_of_file}
 shown_alike : (m m' : LogMap) → ((n : ℕ) → m'.header n ≡ m.header n) → (x : Entry) → is_shown m' x ≡ is_shown m x
 shown_alike m m' same x = go (file_of x)
   where
-    go : (f : Option ℕ) → elim f as (λ z. Bool) [ None ↦ true | Some n ↦ not (is_nameless m' n) ] ≡ elim f as (λ z. Bool) [ None ↦ true | Some n ↦ not (is_nameless m n) ]
+    go : (f : Option ℕ) → elim f as (λ z. Bool) [ None ↦ true | Some n ↦ not (is_nameless m' n) ] ≡ elim f as (λ z. Bool)
+        [ None ↦ true | Some n ↦ not (is_nameless m n) ]
     go None = refl
     go (Some n) = ap (λ (h : Option Header). not (is_unlinked h)) (same n)
 
@@ -36,15 +39,20 @@ settled_cond b c a e same at = ap (λ (b : Bool). settled_at (cond b a 0)) same 
     go false = refl
 
 -- ---- a running log goes on with another memory, log map and blocks in memory, where the tables stay
-module _ (d : DeviceState) (dirty dirty' : Dirty) (t : Tables) (k : CheckpointValue) (m0 m m' : LogMap) (seg : ℕ) (chunk : Option (List Entry)) (w : Running d dirty t k m0 m seg chunk)
+module _ (d : DeviceState) (dirty dirty' : Dirty) (t : Tables) (k : CheckpointValue) (m0 m m' : LogMap) (seg : ℕ)
+    (chunk : Option (List Entry)) (w : Running d dirty t k m0 m seg chunk)
     (headers : (n : ℕ) → m'.header n ≡ m.header n) (M' : Memory) (laid : IsLaid d.content m' M' seg) (cached : IsCached dirty' M')
-    (segments : M'.segments ≡ w.memory.segments) (rows : M'.rows ≡ w.memory.rows) (tops : (x : Entry) → parent x ≡ x → M'.at x ≡ w.memory.at x)
-    (settled : (x : Entry) → settled_at (M'.at x) ≡ settled_at (w.memory.at x)) (usage : (j : ℕ) → M'.bytes (Usage j) ≡ w.memory.bytes (Usage j)) where
+    (segments : M'.segments ≡ w.memory.segments) (rows : M'.rows ≡ w.memory.rows)
+    (tops : (x : Entry) → parent x ≡ x → M'.at x ≡ w.memory.at x)
+    (settled : (x : Entry) → settled_at (M'.at x) ≡ settled_at (w.memory.at x)) (usage : (j : ℕ)
+    → M'.bytes (Usage j) ≡ w.memory.bytes (Usage j)) where
   same_live : (s : ℕ) → live_of m' M' s ≡ live_of m w.memory s
-  same_live = same_counts (is_shown m) (is_shown m') w.memory M' w.laid.named laid.named (λ y. settled_cond (is_shown m' y) (is_shown m y) (M'.at y) (w.memory.at y) (shown_alike m m' headers y) (settled y))
+  same_live = same_counts (is_shown m) (is_shown m') w.memory M' w.laid.named laid.named
+      (λ y. settled_cond (is_shown m' y) (is_shown m y) (M'.at y) (w.memory.at y) (shown_alike m m' headers y) (settled y))
 
   same_held : (s : ℕ) → held_of m' M' s ≡ held_of m w.memory s
-  same_held = same_counts (is_held m) (is_held m') w.memory M' w.laid.named laid.named (λ y. settled_cond (is_held m' y) (is_held m y) (M'.at y) (w.memory.at y) (ap not (shown_alike m m' headers y)) (settled y))
+  same_held = same_counts (is_held m) (is_held m') w.memory M' w.laid.named laid.named
+      (λ y. settled_cond (is_held m' y) (is_held m y) (M'.at y) (w.memory.at y) (ap not (shown_alike m m' headers y)) (settled y))
 
   restaged : Running d dirty' t k m0 m' seg chunk
   restaged = record {
@@ -66,10 +74,13 @@ module _ (d : DeviceState) (dirty dirty' : Dirty) (t : Tables) (k : CheckpointVa
   }
 
 -- ---- one block of a file below another comes to memory, or leaves it; `now` is what is in memory of it then
-module _ (d : DeviceState) (dirty dirty' : Dirty) (t : Tables) (k : CheckpointValue) (m0 m : LogMap) (seg : ℕ) (chunk : Option (List Entry)) (w : Running d dirty t k m0 m seg chunk)
+module _ (d : DeviceState) (dirty dirty' : Dirty) (t : Tables) (k : CheckpointValue) (m0 m : LogMap) (seg : ℕ) (chunk : Option (List Entry))
+    (w : Running d dirty t k m0 m seg chunk)
     (x : Entry) (below : parent x ≡ x → ⊥) (file : IsOfFile x) (v : ℕ) (least : v ≤ 1) (bytes : List ℕ) (now : Option (List ℕ))
-    (is_now : (b : List ℕ) → now ≡ Some b → (v ≡ 1) × (bytes ≡ b)) (found_now : v ≡ 1 → (b : List ℕ) × (now ≡ Some b)) (low : w.memory.at x ≤ 1) (above : w.memory.at (parent x) ≡ 1)
-    (own : dirty' x ≡ now) (patch : dirty' (parent x) ≡ option_map (patched (pointer x) v) (dirty (parent x))) (rest : (y : Entry) → (y ≡ x → ⊥) → (y ≡ parent x → ⊥) → dirty' y ≡ dirty y) where
+    (is_now : (b : List ℕ) → now ≡ Some b → (v ≡ 1) × (bytes ≡ b)) (found_now : v ≡ 1 → (b : List ℕ) × (now ≡ Some b))
+    (low : w.memory.at x ≤ 1) (above : w.memory.at (parent x) ≡ 1)
+    (own : dirty' x ≡ now) (patch : dirty' (parent x) ≡ option_map (patched (pointer x) v) (dirty (parent x)))
+    (rest : (y : Entry) → (y ≡ x → ⊥) → (y ≡ parent x → ⊥) → dirty' y ≡ dirty y) where
   bytes_next : Entry → List ℕ
   bytes_next y = pick (same_entry y x) bytes (pick (same_entry y (parent x)) (patched (pointer x) v (w.memory.bytes y)) (w.memory.bytes y))
 
@@ -86,7 +97,8 @@ module _ (d : DeviceState) (dirty dirty' : Dirty) (t : Tables) (k : CheckpointVa
 
   of_parent : bytes_next (parent x) ≡ patched (pointer x) v (w.memory.bytes (parent x))
   unfolding bytes_next
-  of_parent = pick_no (same_entry (parent x) x) bytes _ below ∙ pick_yes (same_entry (parent x) (parent x)) _ (w.memory.bytes (parent x)) refl
+  of_parent = pick_no (same_entry (parent x) x) bytes _ below
+      ∙ pick_yes (same_entry (parent x) (parent x)) _ (w.memory.bytes (parent x)) refl
 
   taken_now : IsTaken w.memory x v next
   unfolding next
@@ -111,8 +123,12 @@ module _ (d : DeviceState) (dirty dirty' : Dirty) (t : Tables) (k : CheckpointVa
         let p = w.cached.found (parent x) parent_file above in
         let c = w.cached.cached (parent x) p.0 p.1 in
         let e : Some b ≡ Some (patched (pointer x) v p.0) = sym held ∙ ap dirty' up ∙ patch ∙ ap (option_map (patched (pointer x) v)) p.1 in
-        let same : b ≡ patched (pointer x) v p.0 = cc in
-        (subst IsOfFile (sym up) parent_file, taken_now.others y ne ∙ ap w.memory.at up ∙ above, ap bytes_next up ∙ of_parent ∙ ap (patched (pointer x) v) c.2 ∙ sym same))
+        let same : b ≡ patched (pointer x) v p.0 = cc in (
+          subst IsOfFile (sym up) parent_file,
+          taken_now.others y ne ∙ ap w.memory.at up ∙ above,
+          ap bytes_next up ∙ of_parent
+              ∙ ap (patched (pointer x) v) c.2 ∙ sym same,
+        ))
         (λ (np : y ≡ parent x → ⊥).
         let c = w.cached.cached y b (sym (rest y ne np) ∙ held) in
         (c.0, taken_now.others y ne ∙ c.1, kept y ne np ∙ c.2))
@@ -123,7 +139,8 @@ module _ (d : DeviceState) (dirty dirty' : Dirty) (t : Tables) (k : CheckpointVa
         (λ (ne : y ≡ x → ⊥).
         let was = w.cached.found y f (sym (taken_now.others y ne) ∙ one) in
         ⊎_elim
-        (λ (up : y ≡ parent x). (patched (pointer x) v was.0, ap dirty' up ∙ patch ∙ ap (option_map (patched (pointer x) v)) (ap dirty (sym up) ∙ was.1)))
+        (λ (up : y ≡ parent x).
+        (patched (pointer x) v was.0, ap dirty' up ∙ patch ∙ ap (option_map (patched (pointer x) v)) (ap dirty (sym up) ∙ was.1)))
         (λ (np : y ≡ parent x → ⊥). (was.0, rest y ne np ∙ was.1))
         (same_entry y (parent x)))
         (same_entry y x);
@@ -131,7 +148,8 @@ module _ (d : DeviceState) (dirty dirty' : Dirty) (t : Tables) (k : CheckpointVa
 
   settled_next : (y : Entry) → settled_at (next.at y) ≡ settled_at (w.memory.at y)
   settled_next = by_entry x (λ y. settled_at (next.at y) ≡ settled_at (w.memory.at y))
-      (let a = taken_now.at in settled_low (next.at x) (omega arith) ∙ sym (settled_low (w.memory.at x) low)) (λ y ne. ap settled_at (taken_now.others y ne))
+      (let a = taken_now.at in settled_low (next.at x) (omega arith) ∙ sym (settled_low (w.memory.at x) low))
+      (λ y ne. ap settled_at (taken_now.others y ne))
 
   -- so the log runs on, with any log map of the same headers for which the memory is laid
   staged : (m' : LogMap) → ((n : ℕ) → m'.header n ≡ m.header n) → IsLaid d.content m' next seg → Running d dirty' t k m0 m' seg chunk
@@ -142,13 +160,17 @@ module _ (d : DeviceState) (dirty dirty' : Dirty) (t : Tables) (k : CheckpointVa
       (λ j. kept (Usage j) (λ h. usage_table j (subst IsOfFile (sym h) file)) (λ h. usage_table j (subst IsOfFile (sym h) parent_file)))
 
 -- where memory says that there is none, there is none
-nothing_at : (d : DeviceState) (dirty : Dirty) (t : Tables) (k : CheckpointValue) (m0 m : LogMap) (seg : ℕ) (chunk : Option (List Entry)) (w : Running d dirty t k m0 m seg chunk)
+nothing_at : (d : DeviceState) (dirty : Dirty) (t : Tables) (k : CheckpointValue) (m0 m : LogMap) (seg : ℕ) (chunk : Option (List Entry))
+    (w : Running d dirty t k m0 m seg chunk)
     (x : Entry) → (parent x ≡ x → ⊥) → IsAtAddress dirty t x 0 → (w.memory.at x ≡ 0) × (w.memory.at (parent x) ≡ 1)
 nothing_at d dirty t k m0 m seg chunk w x below at =
     let p = at.pointed below in
     let c = w.cached.cached (parent x) p.0 p.1 in
-    let one = c.1 in
-    (sym ((reading d.content m w.memory seg w.laid).pointer x below at.low (omega arith)) ∙ ap (λ (b : List ℕ). word b (pointer x)) c.2 ∙ p.2, c.1)
+    let one = c.1 in (
+      sym ((reading d.content m w.memory seg w.laid).pointer x below at.low (omega arith)) ∙ ap (λ (b : List ℕ). word b (pointer x)) c.2
+          ∙ p.2,
+      c.1,
+    )
 
 pub some_is : {X : Type 0} (a b : X) → Some a ≡ Some b → a ≡ b
 some_is a b h = cc
@@ -158,16 +180,23 @@ unfolding next taken_memory
 block_adding d dirty dirty' t k m0 m m' seg chunk n i bytes w at long map fetch =
     let x = Data n i in
     let none = nothing_at d dirty t k m0 m seg chunk w (Data n i) (data_below n i) at in
-    staged d dirty dirty' t k m0 m seg chunk w (Data n i) (data_below n i) (n, refl) 1 (omega arith) bytes (Some bytes) (λ b h. (refl, some_is bytes b h)) (λ one. (bytes, refl)) (omega (arith, none.0)) none.1
+    staged d dirty dirty' t k m0 m seg chunk w (Data n i) (data_below n i) (n, refl) 1 (omega arith) bytes (Some bytes)
+    (λ b h. (refl, some_is bytes b h)) (λ one. (bytes, refl)) (omega (arith, none.0)) none.1
     fetch.own (fetch.patched (data_below n i)) fetch.kept m' map.header
     (adding d.content m w.memory seg n i bytes m' _ w.laid
     (record {
       map = map;
-      taken = taken_now d dirty dirty' t k m0 m seg chunk w (Data n i) (data_below n i) (n, refl) 1 (omega arith) bytes (Some bytes) (λ b h. (refl, some_is bytes b h)) (λ one. (bytes, refl)) (omega (arith, none.0)) none.1 fetch.own (fetch.patched (data_below n i)) fetch.kept;
+      taken = taken_now d dirty dirty' t k m0 m seg chunk w (Data n i) (data_below n i) (n, refl) 1 (omega arith) bytes (Some bytes)
+          (λ b h. (refl, some_is bytes b h)) (λ one. (bytes, refl)) (omega (arith, none.0)) none.1 fetch.own
+          (fetch.patched (data_below n i)) fetch.kept;
       was = none.0;
-      pointed = pointed_now d dirty dirty' t k m0 m seg chunk w (Data n i) (data_below n i) (n, refl) 1 (omega arith) bytes (Some bytes) (λ b h. (refl, some_is bytes b h)) (λ one. (bytes, refl)) (omega (arith, none.0)) none.1 fetch.own (fetch.patched (data_below n i)) fetch.kept;
+      pointed = pointed_now d dirty dirty' t k m0 m seg chunk w (Data n i) (data_below n i) (n, refl) 1 (omega arith) bytes (Some bytes)
+          (λ b h. (refl, some_is bytes b h)) (λ one. (bytes, refl)) (omega (arith, none.0)) none.1 fetch.own
+          (fetch.patched (data_below n i)) fetch.kept;
       long = long;
-      own = own_bytes d dirty dirty' t k m0 m seg chunk w (Data n i) (data_below n i) (n, refl) 1 (omega arith) bytes (Some bytes) (λ b h. (refl, some_is bytes b h)) (λ one. (bytes, refl)) (omega (arith, none.0)) none.1 fetch.own (fetch.patched (data_below n i)) fetch.kept;
+      own = own_bytes d dirty dirty' t k m0 m seg chunk w (Data n i) (data_below n i) (n, refl) 1 (omega arith) bytes (Some bytes)
+          (λ b h. (refl, some_is bytes b h)) (λ one. (bytes, refl)) (omega (arith, none.0)) none.1 fetch.own
+          (fetch.patched (data_below n i)) fetch.kept;
     }))
 
 pub pointers_growing : PointersGrowing
@@ -175,16 +204,23 @@ unfolding next taken_memory
 pointers_growing d dirty dirty' t k m0 m seg chunk x bytes w is at long empty fetch =
     let below = pointers_below x is in
     let none = nothing_at d dirty t k m0 m seg chunk w x (pointers_below x is) at in
-    let own = own_bytes d dirty dirty' t k m0 m seg chunk w x (pointers_below x is) (pointers_of_file x is) 1 (omega arith) bytes (Some bytes) (λ b h. (refl, some_is bytes b h)) (λ one. (bytes, refl)) (omega (arith, none.0)) none.1 fetch.own (fetch.patched (pointers_below x is)) fetch.kept in
-    staged d dirty dirty' t k m0 m seg chunk w x (pointers_below x is) (pointers_of_file x is) 1 (omega arith) bytes (Some bytes) (λ b h. (refl, some_is bytes b h)) (λ one. (bytes, refl)) (omega (arith, none.0)) none.1
+    let own = own_bytes d dirty dirty' t k m0 m seg chunk w x (pointers_below x is) (pointers_of_file x is) 1 (omega arith) bytes
+    (Some bytes) (λ b h. (refl, some_is bytes b h)) (λ one. (bytes, refl)) (omega (arith, none.0)) none.1 fetch.own
+    (fetch.patched (pointers_below x is)) fetch.kept in
+    staged d dirty dirty' t k m0 m seg chunk w x (pointers_below x is) (pointers_of_file x is) 1 (omega arith) bytes (Some bytes)
+    (λ b h. (refl, some_is bytes b h)) (λ one. (bytes, refl)) (omega (arith, none.0)) none.1
     fetch.own (fetch.patched (pointers_below x is)) fetch.kept m (λ n. refl)
     (growing d.content m w.memory seg x _ w.laid
     (record {
       pointers = is;
-      taken = taken_now d dirty dirty' t k m0 m seg chunk w x (pointers_below x is) (pointers_of_file x is) 1 (omega arith) bytes (Some bytes) (λ b h. (refl, some_is bytes b h)) (λ one. (bytes, refl)) (omega (arith, none.0)) none.1 fetch.own (fetch.patched (pointers_below x is)) fetch.kept;
+      taken = taken_now d dirty dirty' t k m0 m seg chunk w x (pointers_below x is) (pointers_of_file x is) 1 (omega arith) bytes
+          (Some bytes) (λ b h. (refl, some_is bytes b h)) (λ one. (bytes, refl)) (omega (arith, none.0)) none.1 fetch.own
+          (fetch.patched (pointers_below x is)) fetch.kept;
       was = none.0;
       low = at.low;
-      pointed = pointed_now d dirty dirty' t k m0 m seg chunk w x (pointers_below x is) (pointers_of_file x is) 1 (omega arith) bytes (Some bytes) (λ b h. (refl, some_is bytes b h)) (λ one. (bytes, refl)) (omega (arith, none.0)) none.1 fetch.own (fetch.patched (pointers_below x is)) fetch.kept;
+      pointed = pointed_now d dirty dirty' t k m0 m seg chunk w x (pointers_below x is) (pointers_of_file x is) 1 (omega arith) bytes
+          (Some bytes) (λ b h. (refl, some_is bytes b h)) (λ one. (bytes, refl)) (omega (arith, none.0)) none.1 fetch.own
+          (fetch.patched (pointers_below x is)) fetch.kept;
       long = ap length own ∙ long;
       empty = λ i lt. ap (λ (b : List ℕ). word b i) own ∙ empty i lt;
     }))
@@ -200,14 +236,17 @@ unfolding next taken_memory
 block_removing d dirty dirty' t k m0 m m' seg chunk n i old w held map moves =
     let one = (w.cached.cached (Data n i) old held).1 in
     let above = w.laid.up (Data n i) (w.cached.cached (Data n i) old held).1 in
-    staged d dirty dirty' t k m0 m seg chunk w (Data n i) (data_below n i) (n, refl) 0 (omega arith) old None (none_is old) (no_block 0) (omega (arith, one)) above
+    staged d dirty dirty' t k m0 m seg chunk w (Data n i) (data_below n i) (n, refl) 0 (omega arith) old None (none_is old) (no_block 0)
+    (omega (arith, one)) above
     moves.gone (moves.patched (data_below n i)) moves.kept m' map.header
     (removing d.content m w.memory seg n i m' _ w.laid
     (record {
       map = map;
-      taken = taken_now d dirty dirty' t k m0 m seg chunk w (Data n i) (data_below n i) (n, refl) 0 (omega arith) old None (none_is old) (no_block 0) (omega (arith, one)) above moves.gone (moves.patched (data_below n i)) moves.kept;
+      taken = taken_now d dirty dirty' t k m0 m seg chunk w (Data n i) (data_below n i) (n, refl) 0 (omega arith) old None (none_is old)
+          (no_block 0) (omega (arith, one)) above moves.gone (moves.patched (data_below n i)) moves.kept;
       was = omega (arith, one);
-      pointed = pointed_now d dirty dirty' t k m0 m seg chunk w (Data n i) (data_below n i) (n, refl) 0 (omega arith) old None (none_is old) (no_block 0) (omega (arith, one)) above moves.gone (moves.patched (data_below n i)) moves.kept;
+      pointed = pointed_now d dirty dirty' t k m0 m seg chunk w (Data n i) (data_below n i) (n, refl) 0 (omega arith) old None (none_is old)
+          (no_block 0) (omega (arith, one)) above moves.gone (moves.patched (data_below n i)) moves.kept;
     }))
 
 pub pointers_shrinking : PointersShrinking
@@ -216,20 +255,25 @@ pointers_shrinking d dirty dirty' t k m0 m seg chunk x bytes w is held empty mov
     let c = w.cached.cached x bytes held in
     let one = c.1 in
     let above = w.laid.up x (w.cached.cached x bytes held).1 in
-    staged d dirty dirty' t k m0 m seg chunk w x (pointers_below x is) (pointers_of_file x is) 0 (omega arith) bytes None (none_is bytes) (no_block 0) (omega (arith, one)) above
+    staged d dirty dirty' t k m0 m seg chunk w x (pointers_below x is) (pointers_of_file x is) 0 (omega arith) bytes None (none_is bytes)
+    (no_block 0) (omega (arith, one)) above
     moves.gone (moves.patched (pointers_below x is)) moves.kept m (λ n. refl)
     (shrinking d.content m w.memory seg x _ w.laid
     (record {
       pointers = is;
-      taken = taken_now d dirty dirty' t k m0 m seg chunk w x (pointers_below x is) (pointers_of_file x is) 0 (omega arith) bytes None (none_is bytes) (no_block 0) (omega (arith, one)) above moves.gone (moves.patched (pointers_below x is)) moves.kept;
+      taken = taken_now d dirty dirty' t k m0 m seg chunk w x (pointers_below x is) (pointers_of_file x is) 0 (omega arith) bytes None
+          (none_is bytes) (no_block 0) (omega (arith, one)) above moves.gone (moves.patched (pointers_below x is)) moves.kept;
       was = c.1;
-      pointed = pointed_now d dirty dirty' t k m0 m seg chunk w x (pointers_below x is) (pointers_of_file x is) 0 (omega arith) bytes None (none_is bytes) (no_block 0) (omega (arith, one)) above moves.gone (moves.patched (pointers_below x is)) moves.kept;
+      pointed = pointed_now d dirty dirty' t k m0 m seg chunk w x (pointers_below x is) (pointers_of_file x is) 0 (omega arith) bytes None
+          (none_is bytes) (no_block 0) (omega (arith, one)) above moves.gone (moves.patched (pointers_below x is)) moves.kept;
       empty = λ i lt. ap (λ (b : List ℕ). word b i) c.2 ∙ empty i lt;
     }))
 
 -- ---- a data block in memory is another
-module _ (d : DeviceState) (dirty dirty' : Dirty) (t : Tables) (k : CheckpointValue) (m0 m m' : LogMap) (seg : ℕ) (chunk : Option (List Entry)) (n i : ℕ) (old bytes : List ℕ)
-    (w : Running d dirty t k m0 m seg chunk) (held : dirty (Data n i) ≡ Some old) (long : length bytes ≡ 512) (map : IsWithBlock m n i bytes m') (go : ChangesTo dirty dirty' (Data n i) (Some bytes)) where
+module _ (d : DeviceState) (dirty dirty' : Dirty) (t : Tables) (k : CheckpointValue) (m0 m m' : LogMap) (seg : ℕ)
+    (chunk : Option (List Entry)) (n i : ℕ) (old bytes : List ℕ)
+    (w : Running d dirty t k m0 m seg chunk) (held : dirty (Data n i) ≡ Some old) (long : length bytes ≡ 512)
+    (map : IsWithBlock m n i bytes m') (go : ChangesTo dirty dirty' (Data n i) (Some bytes)) where
   rewritten_bytes : Entry → List ℕ
   rewritten_bytes y = pick (same_entry y (Data n i)) bytes (w.memory.bytes y)
 
@@ -273,8 +317,10 @@ module _ (d : DeviceState) (dirty dirty' : Dirty) (t : Tables) (k : CheckpointVa
 
   block_rewritten : Running d dirty' t k m0 m' seg chunk
   unfolding rewritten
-  block_rewritten = restaged d dirty dirty' t k m0 m m' seg chunk w map.header rewritten (rewriting d.content m w.memory seg n i bytes m' rewritten w.laid is_rewriting) rewritten_cached refl refl
+  block_rewritten = restaged d dirty dirty' t k m0 m m' seg chunk w map.header rewritten
+      (rewriting d.content m w.memory seg n i bytes m' rewritten w.laid is_rewriting) rewritten_cached refl refl
       (λ y top. refl) (λ y. refl) (λ j. rewritten_kept (Usage j) (λ h. let bad : Usage j ≡ Data n i = h in absurd (cc)))
 
 pub block_rewriting : BlockRewriting
-block_rewriting d dirty dirty' t k m0 m m' seg chunk n i old bytes w held long map go = block_rewritten d dirty dirty' t k m0 m m' seg chunk n i old bytes w held long map go
+block_rewriting d dirty dirty' t k m0 m m' seg chunk n i old bytes w held long map go =
+    block_rewritten d dirty dirty' t k m0 m m' seg chunk n i old bytes w held long map go

@@ -1,14 +1,16 @@
 -- The checkpoint, place by place.
 use Rattle.std.proofs.Common.{◌≡◌, ◌≤◌, ◌<◌, ◌*◌, ◌^◌, ℕ, inl, inr, List, [], ◌∷◌, length, refl, sym, ap, ◌∙◌, arith}
 use Rattle.lfs_model.specs.Fields.{le32, le64, words, zeros, part, read32, read64, numbers}
-use Rattle.lfs_model.specs.Checkpoint.{CheckpointValue, FitsCheckpoint, IsVersion, checkpoint_of, checkpoint_sector, checkpoint_sector_of, checkpoint_text, layout_version}
+use Rattle.lfs_model.specs.Checkpoint.{CheckpointValue, FitsCheckpoint, IsVersion, checkpoint_of, checkpoint_sector, checkpoint_sector_of}
+use Rattle.lfs_model.specs.Checkpoint.{checkpoint_text, layout_version}
 use Rattle.lfs_model.proofs.Numbers.{length-le32, length-le64, length-words, length-zeros}
 use Rattle.lfs_model.proofs.Parts.{read32_is, read64_is}
 use Rattle.lfs_model.proofs.Runs.{numbers_is}
 use Rattle.lfs_model.proofs.Laid.{Field, Sized, Laid, laid_from, laid_to, length-fields}
 
 fields : CheckpointValue → List Field
-fields c = (8, checkpoint_text) ∷ (8, le64 c.number) ∷ (4, le32 c.segments) ∷ (4, le32 (layout_version c)) ∷ (8, zeros 8) ∷ (128, words c.map) ∷ (64, words c.usage) ∷ (288, zeros 288) ∷ []
+fields c = (8, checkpoint_text) ∷ (8, le64 c.number) ∷ (4, le32 c.segments) ∷ (4, le32 (layout_version c)) ∷ (8, zeros 8)
+    ∷ (128, words c.map) ∷ (64, words c.usage) ∷ (288, zeros 288) ∷ []
 
 -- what stands at each place of the sector
 pub record ReadsAs (s : List ℕ) (c : CheckpointValue) : Type 0 where
@@ -29,8 +31,28 @@ sized : (c : CheckpointValue) → FitsCheckpoint c → Sized (fields c)
 unfolding fields
 sized c fits =
     let map : length (words c.map) ≡ 128 = length-words c.map ∙ ap (λ (n : ℕ). 4 * n) fits.map_length in
-    let usage : length (words c.usage) ≡ 64 = length-words c.usage ∙ ap (λ (n : ℕ). 4 * n) fits.usage_length in
-    (length-text, (length-le64 c.number, (length-le32 c.segments, (length-le32 (layout_version c), (length-zeros 8, (map, (usage, (length-zeros 288, tt))))))))
+    let usage : length (words c.usage) ≡ 64 = length-words c.usage ∙ ap (λ (n : ℕ). 4 * n) fits.usage_length in (
+      length-text,
+      (
+        length-le64 c.number,
+        (
+          length-le32 c.segments,
+          (
+            length-le32 (layout_version c),
+            (
+              length-zeros 8,
+              (
+                map,
+                (
+                  usage,
+                  (length-zeros 288, tt),
+                ),
+              ),
+            ),
+          ),
+        ),
+      ),
+    )
 
 pub length-checkpoint : (c : CheckpointValue) → FitsCheckpoint c → length (checkpoint_sector c) ≡ 512
 unfolding fields checkpoint_sector checkpoint_sector_of
@@ -52,7 +74,8 @@ reads_from s c fits e =
 
 pub reads_to : (s : List ℕ) (c : CheckpointValue) → length s ≡ 512 → ReadsAs s c → s ≡ checkpoint_sector c
 unfolding fields checkpoint_sector checkpoint_sector_of
-reads_to s c long r = laid_to s 0 (fields c) (sym long) (r.text, (r.number, (r.segments, (r.version, (r.gap, (r.map, (r.usage, (r.rest, tt))))))))
+reads_to s c long r =
+    laid_to s 0 (fields c) (sym long) (r.text, (r.number, (r.segments, (r.version, (r.gap, (r.map, (r.usage, (r.rest, tt))))))))
 
 abbrev built : ℕ → ℕ → ℕ → List ℕ → List ℕ → CheckpointValue
 built n s v m u = record { number = n; segments = s; version = v; map = m; usage = u }

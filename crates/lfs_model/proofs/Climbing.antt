@@ -1,5 +1,6 @@
 -- The directories above a directory: no more of them than nodes.
-use Rattle.std.proofs.Common.{◌≡◌, ◌≢◌, refl, sym, ap, subst, ◌∙◌, ℕ, zero, suc, ◌+◌, ◌<◌, ◌≤◌, Bool, true, false, ◌||◌, List, [], ◌∷◌, length, Option, Some, None, arith, cond, inl, inr, eqb, ◌⊎◌}
+use Rattle.std.proofs.Common.{◌≡◌, ◌≢◌, refl, sym, ap, subst, ◌∙◌, ℕ, zero, suc, ◌+◌, ◌<◌, ◌≤◌, Bool, true, false, ◌||◌, List, [], ◌∷◌}
+use Rattle.std.proofs.Common.{length, Option, Some, None, arith, cond, inl, inr, eqb, ◌⊎◌}
 use Rattle.std.specs.Prelude.{count_by, unwrap_or, option_map, if◌then◌else◌, ◌==◌, find as first_that}
 use Rattle.std.specs.List.{list_any}
 use Rattle.std.proofs.lemmas.Bool.{eqb-true, eq-eqb}
@@ -40,13 +41,15 @@ counted_more p q h (e ∷ es) = omega (arith, counted_cons p e es, counted_cons 
 
 counted_most : (p : ℕ → Bool) (es : Tree) → counted p es ≤ length es
 counted_most p [] = omega arith
-counted_most p (e ∷ es) = elim (p e.0) as (λ b. (if b then 1 else 0) + counted p es ≡ counted p (e ∷ es) → counted p (e ∷ es) ≤ suc (length es)) [
-  | true ↦ λ h. let rest = counted_most p es in omega arith
-  | false ↦ λ h. let rest = counted_most p es in omega arith
-] (sym (counted_cons p e es))
+counted_most p (e ∷ es) =
+    elim (p e.0) as (λ b. (if b then 1 else 0) + counted p es ≡ counted p (e ∷ es) → counted p (e ∷ es) ≤ suc (length es)) [
+      | true ↦ λ h. let rest = counted_most p es in omega arith
+      | false ↦ λ h. let rest = counted_most p es in omega arith
+    ] (sym (counted_cons p e es))
 
 -- where the counts are the same, so are the tests of what is there
-same_tests : (p q : ℕ → Bool) → ((n : ℕ) → p n ≡ true → q n ≡ true) → (es : Tree) → counted p es ≡ counted q es → (n : ℕ) → find nat_cmp n es ≢ None → q n ≡ true → p n ≡ true
+same_tests : (p q : ℕ → Bool) → ((n : ℕ) → p n ≡ true → q n ≡ true) → (es : Tree) → counted p es ≡ counted q es → (n : ℕ)
+    → find nat_cmp n es ≢ None → q n ≡ true → p n ≡ true
 same_tests p q h [] same n some yes_q = absurd (some refl)
 same_tests p q h (e ∷ es) same n some yes_q =
     let each = more_each p q h e.0 in
@@ -74,17 +77,19 @@ any_gives : (n : ℕ) (m : Names) → list_any (λ x. x.1 == n) m ≡ true → 1
 any_gives n [] h = cc
 any_gives n (e ∷ es) h =
     let all = sum_by-cons (λ (x : List ℕ × ℕ). cond (x.1 == n) 1 0) e es in
-    elim (e.1 == n) as (λ b. (b || list_any (λ x. x.1 == n) es) ≡ true → (if b then 1 else 0) + count_by (λ x. x.1 == n) es ≡ count_by (λ x. x.1 == n) (e ∷ es) → 1 ≤ count_by (λ x. x.1 == n) (e ∷ es)) [
+    elim (e.1 == n) as (λ b. (b || list_any (λ x. x.1 == n) es) ≡ true
+    → (if b then 1 else 0) + count_by (λ x. x.1 == n) es ≡ count_by (λ x. x.1 == n) (e ∷ es) → 1 ≤ count_by (λ x. x.1 == n) (e ∷ es)) [
       | true ↦ λ h sum. omega arith
       | false ↦ λ h sum. let rest = any_gives n es h in omega arith
     ] h (sym all)
 
 gives_any : (n : ℕ) (x : List ℕ) (m : Names) → find byte_cmp x m ≡ Some n → list_any (λ e. e.1 == n) m ≡ true
 gives_any n x [] h = cc
-gives_any n x (e ∷ es) h = elim (is_eq (byte_cmp x e.0)) as (λ b. cond b (Some e.1) (find byte_cmp x es) ≡ Some n → (e.1 == n || list_any (λ e. e.1 == n) es) ≡ true) [
-  | true ↦ λ h. let at : e.1 ≡ n = cc in let one : (e.1 == n) ≡ true = eq-eqb e.1 n at in rw one refl
-  | false ↦ λ h. elim (e.1 == n) as (λ b. (b || list_any (λ e. e.1 == n) es) ≡ true) [ true ↦ refl | false ↦ gives_any n x es h ]
-] h
+gives_any n x (e ∷ es) h = elim (is_eq (byte_cmp x e.0))
+    as (λ b. cond b (Some e.1) (find byte_cmp x es) ≡ Some n → (e.1 == n || list_any (λ e. e.1 == n) es) ≡ true) [
+      | true ↦ λ h. let at : e.1 ≡ n = cc in let one : (e.1 == n) ≡ true = eq-eqb e.1 n at in rw one refl
+      | false ↦ λ h. elim (e.1 == n) as (λ b. (b || list_any (λ e. e.1 == n) es) ≡ true) [ true ↦ refl | false ↦ gives_any n x es h ]
+    ] h
 
 none_gives : (p : Node → Bool) (k : ℕ) (x : Node) (t : Tree) → first_that (λ e. p e.1) t ≡ None → find nat_cmp k t ≡ Some x → p x ≡ false
 none_gives p k x [] none h = cc
@@ -118,7 +123,8 @@ in_chain : (k j : ℕ) (t : Tree) (q n : ℕ) → j ≤ k → climb j t q ≡ n 
 in_chain zero zero t q n le at = let one : (q == n) ≡ true = eq-eqb q n at in rw one refl
 in_chain zero (suc j) t q n le at = absurd (omega arith)
 in_chain (suc k) zero t q n le at = let one : (q == n) ≡ true = eq-eqb q n at in rw one refl
-in_chain (suc k) (suc j) t q n le at = elim (q == n) as (λ b. (b || list_any (λ x. x == n) (chain k t (up t q))) ≡ true) [ true ↦ refl | false ↦ in_chain k j t (up t q) n (omega arith) at ]
+in_chain (suc k) (suc j) t q n le at = elim (q == n) as (λ b. (b || list_any (λ x. x == n) (chain k t (up t q))) ≡ true)
+    [ true ↦ refl | false ↦ in_chain k j t (up t q) n (omega arith) at ]
 
 module _ (N : ℕ) (s : State) (sound : Sound N s) where
   abbrev t : Tree
@@ -142,13 +148,15 @@ module _ (N : ℕ) (s : State) (sound : Sound N s) where
           given = gives_any n x (names_of y) e
 
           by : (o : Option (ℕ × Node)) → first_that (that_gives n) t ≡ o → unwrap_or (option_map (λ e. e.0) o) 1 ≡ d
-          by None none = let never : list_any (λ e. e.1 == n) (names_of y) ≡ false = none_gives (λ y. list_any (λ x. x.1 == n) (names_of y)) d y t none is in let yes_is = given in cc
+          by None none = let never : list_any (λ e. e.1 == n) (names_of y) ≡ false =
+              none_gives (λ y. list_any (λ x. x.1 == n) (names_of y)) d y t none is in let yes_is = given in cc
           by (Some f) found = same_or_not f.0 d (λ same. same) (λ apart. absurd (
               let first = first_found nat_cmp_total (λ x. 0) (that_gives n) t f sound.in_order found in
               let left = total_without nat_cmp_total (gives n) d t sound.in_order in
               let here : weight nat_cmp_total (gives n) (node t d) ≡ gives n y = ap (weight nat_cmp_total (gives n)) is in
               let two = any_gives n (names_of y) given in
-              let still : find nat_cmp f.0 (without nat_cmp d t) ≡ Some f.1 = find_without nat_cmp_total d f.0 t ∙ ap (λ b. cond b None (find nat_cmp f.0 t)) (cmp_other f.0 d apart) ∙ first.1 in
+              let still : find nat_cmp f.0 (without nat_cmp d t) ≡ Some f.1 = find_without nat_cmp_total d f.0 t
+              ∙ ap (λ b. cond b None (find nat_cmp f.0 t)) (cmp_other f.0 d apart) ∙ first.1 in
               let more = weight-le-total nat_cmp_total (gives n) f.0 f.1 (without nat_cmp d t) still in
               let three = any_gives n (names_of f.1) first.0 in
               omega (arith, left, here, two, more, three, one)))
@@ -182,7 +190,8 @@ module _ (N : ℕ) (s : State) (sound : Sound N s) where
     | inl high ↦
         let more = counted_more (is_root_at k) (is_root_at (suc k)) (at_root k) t in
         same_or_not (counted (is_root_at k) t) (counted (is_root_at (suc k)) t)
-        (λ same. inr (deeper k (λ q some h. eqb-true (climb k t q) 1 (same_tests (is_root_at k) (is_root_at (suc k)) (at_root k) t same q some (eq-eqb (climb (suc k) t q) 1 h)))))
+        (λ same. inr (deeper k (λ q some h. eqb-true (climb k t q) 1
+        (same_tests (is_root_at k) (is_root_at (suc k)) (at_root k) t same q some (eq-eqb (climb (suc k) t q) 1 h)))))
         (λ ne. inl (omega arith))
     | inr stable ↦ inr (deeper k stable)
   ]
@@ -204,7 +213,8 @@ module _ (N : ℕ) (s : State) (sound : Sound N s) where
   to_root root dir = (0, refl)
   to_root (below {d = d} {n = n} x r e) dir = same_or_not n 1
       (λ same. (0, same))
-      (λ ne. let rest = to_root r (holder (node t d) x n e) in (suc rest.0, ap (climb rest.0 t) (up_is d n x e ne (sound.one_name n ne dir)) ∙ rest.1))
+      (λ ne. let rest = to_root r (holder (node t d) x n e) in
+      (suc rest.0, ap (climb rest.0 t) (up_is d n x e ne (sound.one_name n ne dir)) ∙ rest.1))
 
   -- ---- what lies under a directory has it above
 

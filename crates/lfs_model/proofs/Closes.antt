@@ -21,7 +21,8 @@ module _ (N : ℕ) (s : State) (h n : ℕ) (sound : Sound N s) (is : find nat_cm
       let all = total_without nat_cmp_total (λ v. if v == q then 1 else 0) h s.handles sound.handles_in_order in
       let no : eqb n q ≡ false = grind (arith, nat_tests) in
       let zero_one : ◌≡◌ {A = ℕ} (if n == q then 1 else 0) 0 = rw no refl in
-      let none : weight nat_cmp_total (λ v. if v == q then 1 else 0) (find nat_cmp h s.handles) ≡ 0 = ap (weight nat_cmp_total (λ v. if v == q then 1 else 0)) is ∙ zero_one in
+      let none : weight nat_cmp_total (λ v. if v == q then 1 else 0) (find nat_cmp h s.handles) ≡ 0 =
+      ap (weight nat_cmp_total (λ v. if v == q then 1 else 0)) is ∙ zero_one in
       omega (arith, all, none)
 
   was_open : (b : Bool) (o : Option ℕ) (q : ℕ) → cond b None o ≡ Some q → o ≡ Some q
@@ -42,7 +43,9 @@ module _ (N : ℕ) (s : State) (h n : ℕ) (sound : Sound N s) (is : find nat_cm
     root_unnamed = sound.root_unnamed;
     one_name = sound.one_name;
     reached = sound.reached;
-    held = λ q a ne some none. (let was = sound.held q ne some none in record { file = was.file; handle = let same = still_open q a in let old = was.handle in omega arith });
-    handles = λ g q e. sound.handles g q (was_open (eq_by_cmp nat_cmp g h) (find nat_cmp g s.handles) q (sym (find_without nat_cmp_total h g s.handles) ∙ e));
+    held = λ q a ne some none. (let was = sound.held q ne some none in
+        record { file = was.file; handle = let same = still_open q a in let old = was.handle in omega arith });
+    handles = λ g q e. sound.handles g q
+        (was_open (eq_by_cmp nat_cmp g h) (find nat_cmp g s.handles) q (sym (find_without nat_cmp_total h g s.handles) ∙ e));
     room = sound.room;
   }

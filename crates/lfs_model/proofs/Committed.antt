@@ -1,5 +1,6 @@
 -- What a commit leaves of a running volume's log map, and of its tree.
-use Rattle.std.proofs.Common.{◌≡◌, ◌≢◌, refl, sym, ◌∙◌, ap, subst, arith, ℕ, ◌*◌, ◌/◌, ◌%◌, ◌<◌, ◌≤◌, Bool, true, false, ◌||◌, List, [], length, map, take, drop, Option, Some, None, cond, inl, inr, ⊎_elim, eqb, slice_index, nat_lt}
+use Rattle.std.proofs.Common.{◌≡◌, ◌≢◌, refl, sym, ◌∙◌, ap, subst, arith, ℕ, ◌*◌, ◌/◌, ◌%◌, ◌<◌, ◌≤◌, Bool, true, false, ◌||◌, List, []}
+use Rattle.std.proofs.Common.{length, map, take, drop, Option, Some, None, cond, inl, inr, ⊎_elim, eqb, slice_index, nat_lt}
 use Rattle.std.specs.Prelude.{T, ◌==◌, not, filter}
 use Rattle.std.specs.List.{AllByRecursion, range_with_len}
 use Rattle.std.proofs.Math.Path.{fun_ext}
@@ -34,9 +35,11 @@ same_object a b n h same = ap (λ (f : ℕ → List ℕ). map (λ o. slice_index
 
 same_slots : (a b : LogMap) (n : ℕ) (h : Header) → ((i : ℕ) → a.block n i ≡ b.block n i) → slots a n h ≡ slots b n h
 unfolding slots
-same_slots a b n h same = ap (λ (bytes : List ℕ). map (λ j. take (slot_len h.form) (drop (slot_len h.form * j) bytes)) (range_with_len 0 (h.size / slot_len h.form))) (same_object a b n h same)
+same_slots a b n h same = ap (λ (bytes : List ℕ). map (λ j. take (slot_len h.form) (drop (slot_len h.form * j) bytes))
+    (range_with_len 0 (h.size / slot_len h.form))) (same_object a b n h same)
 
-pub same_node : (a b : LogMap) (kd : Kind) (n : ℕ) (h : Header) → ((i : ℕ) → a.block n i ≡ b.block n i) → node_by a kd n h ≡ node_by b kd n h
+pub same_node : (a b : LogMap) (kd : Kind) (n : ℕ) (h : Header) → ((i : ℕ) → a.block n i ≡ b.block n i)
+    → node_by a kd n h ≡ node_by b kd n h
 same_node a b kind.File n h same = ap File (same_object a b n h same)
 same_node a b kind.Directory n h same = ap (λ (l : List (List ℕ)). Dir h.form (map_of h.form l)) (same_slots a b n h same)
 same_node a b kind.Link n h same = ap Link (same_object a b n h same)
@@ -61,47 +64,55 @@ module _ (m : LogMap) where
     where
       by : (o : Option Header) → m.header n ≡ o → kept o o None ≡ Some h → (m.header n ≡ Some h) × (nat_lt 0 h.links ≡ true)
       by None was e = absurd (cc)
-      by (Some g) was e = elim (nat_lt 0 g.links) as (λ b. nat_lt 0 g.links ≡ b → cond b (Some g) None ≡ Some h → (m.header n ≡ Some h) × (nat_lt 0 h.links ≡ true)) [
-        | true ↦ λ some e. (let same : g ≡ h = cc in (was ∙ ap Some same, ap (λ (x : Header). nat_lt 0 x.links) (sym same) ∙ some))
-        | false ↦ λ none e. absurd (cc)
-      ] refl e
+      by (Some g) was e = elim (nat_lt 0 g.links)
+          as (λ b. nat_lt 0 g.links ≡ b → cond b (Some g) None ≡ Some h → (m.header n ≡ Some h) × (nat_lt 0 h.links ≡ true)) [
+            | true ↦ λ some e. (let same : g ≡ h = cc in (was ∙ ap Some same, ap (λ (x : Header). nat_lt 0 x.links) (sym same) ∙ some))
+            | false ↦ λ none e. absurd (cc)
+          ] refl e
 
   data_was : (n i : ℕ) → HasData (dropped m) n i → (h : Header) × (m.header n ≡ Some h) × (nat_lt 0 h.links ≡ true)
   data_was n i has = by (m.header n) refl has
     where
-      by : (o : Option Header) → m.header n ≡ o → 0 < length (kept o (m.block n i) []) → (h : Header) × (m.header n ≡ Some h) × (nat_lt 0 h.links ≡ true)
+      by : (o : Option Header) → m.header n ≡ o → 0 < length (kept o (m.block n i) [])
+          → (h : Header) × (m.header n ≡ Some h) × (nat_lt 0 h.links ≡ true)
       by None was some = absurd (omega arith)
-      by (Some g) was some = elim (nat_lt 0 g.links) as (λ b. nat_lt 0 g.links ≡ b → 0 < length (cond b (m.block n i) []) → (h : Header) × (m.header n ≡ Some h) × (nat_lt 0 h.links ≡ true)) [
-        | true ↦ λ yes_links some. (g, was, yes_links)
-        | false ↦ λ none some. absurd (omega arith)
-      ] refl some
+      by (Some g) was some = elim (nat_lt 0 g.links) as (λ b. nat_lt 0 g.links ≡ b → 0 < length (cond b (m.block n i) [])
+          → (h : Header) × (m.header n ≡ Some h) × (nat_lt 0 h.links ≡ true)) [
+            | true ↦ λ yes_links some. (g, was, yes_links)
+            | false ↦ λ none some. absurd (omega arith)
+          ] refl some
 
   node_kept : (n : ℕ) → node_of (dropped m) n ((dropped m).header n) ≡ cond (has_links (m.header n)) (node_of m n (m.header n)) None
   node_kept n = by (m.header n) refl
     where
       by : (o : Option Header) → m.header n ≡ o → node_of (dropped m) n (kept o o None) ≡ cond (has_links o) (node_of m n o) None
       by None is = refl
-      by (Some h) is = elim (nat_lt 0 h.links) as (λ b. nat_lt 0 h.links ≡ b → node_of (dropped m) n (cond b (Some h) None) ≡ cond b (node_of m n (Some h)) None) [
-        | true ↦ λ some. ap Some (same_node (dropped m) m h.kind n h (λ i. block_kept n i h is some))
-        | false ↦ λ none. refl
-      ] refl
+      by (Some h) is = elim (nat_lt 0 h.links)
+          as (λ b. nat_lt 0 h.links ≡ b → node_of (dropped m) n (cond b (Some h) None) ≡ cond b (node_of m n (Some h)) None) [
+            | true ↦ λ some. ap Some (same_node (dropped m) m h.kind n h (λ i. block_kept n i h is some))
+            | false ↦ λ none. refl
+          ] refl
 
   pub dropped_is_log : (h : Header) → m.header 1 ≡ Some h → nat_lt 0 h.links ≡ true → IsLogMap m → IsLogMap (dropped m)
   dropped_is_log h at some was = record {
     none = λ g is. was.none g (header_was 0 g is).0;
-    root = (let root = was.root in let same : root.0 ≡ h = (let e : Some root.0 ≡ Some h = sym root.1 ∙ at in cc) in (h, header_kept 1 h at some, subst (λ (x : Header). x.kind ≡ kind.Directory) same root.2));
+    root = (let root = was.root in let same : root.0 ≡ h = (let e : Some root.0 ≡ Some h = sym root.1 ∙ at in cc) in
+        (h, header_kept 1 h at some, subst (λ (x : Header). x.kind ≡ kind.Directory) same root.2));
     forms = λ n g is. was.forms n g (header_was n g is).0;
     within = λ n i has. (
         let old = data_was n i has in
         let there = was.within n i (subst (λ (b : List ℕ). 0 < length b) (block_kept n i old.0 old.1 old.2) has) in
         let same : there.0 ≡ old.0 = (let e : Some there.0 ≡ Some old.0 = sym there.1 ∙ old.1 in cc) in
         (old.0, header_kept n old.0 old.1 old.2, subst (λ (x : Header). 512 * i < x.size) same there.2));
-    small = λ n i has. (let old = data_was n i has in was.small n i (subst (λ (b : List ℕ). 0 < length b) (block_kept n i old.0 old.1 old.2) has));
+    small = λ n i has.
+        (let old = data_was n i has in was.small n i (subst (λ (b : List ℕ). 0 < length b) (block_kept n i old.0 old.1 old.2) has));
     nonzero = λ n i has. (
         let old = data_was n i has in
         let same = block_kept n i old.0 old.1 old.2 in
-        subst (λ (b : List ℕ). (o : ℕ) × (0 < slice_index b o)) (sym same) (was.nonzero n i (subst (λ (b : List ℕ). 0 < length b) same has)));
-    past = λ n i o g is less. (let old = header_was n g is in subst (λ (b : List ℕ). slice_index b o ≡ 0) (sym (block_kept n i g old.0 old.1)) (was.past n i o g old.0 less));
+        subst (λ (b : List ℕ). (o : ℕ) × (0 < slice_index b o)) (sym same)
+        (was.nonzero n i (subst (λ (b : List ℕ). 0 < length b) same has)));
+    past = λ n i o g is less. (let old = header_was n g is in
+        subst (λ (b : List ℕ). slice_index b o ≡ 0) (sym (block_kept n i g old.0 old.1)) (was.past n i o g old.0 less));
   }
 
 -- ---- and of its tree
@@ -110,7 +121,8 @@ module _ (N : ℕ) (m : LogMap) (handles : Handles) (version : ℕ) where
   abbrev state : State
   state = record { tree = tree_in m; handles = handles; version = version }
 
-  module _ (sound : Sound N state) (formed : AreFormed m) (are_links : (n : ℕ) (h : Header) → m.header n ≡ Some h → h.links ≡ links (tree_in m) n) where
+  module _ (sound : Sound N state) (formed : AreFormed m)
+      (are_links : (n : ℕ) (h : Header) → m.header n ≡ Some h → h.links ≡ links (tree_in m) n) where
     abbrev t : Tree
     t = tree_in m
 
@@ -128,13 +140,15 @@ module _ (N : ℕ) (m : LogMap) (handles : Handles) (version : ℕ) where
     dir_stays : (q : ℕ) → is_dir (node t q) ≡ true → stays q ≡ true
     dir_stays q dir = elim (q == 1) as (λ b. (q == 1) ≡ b → (b || not (names t q == 0)) ≡ true) [
       | true ↦ λ e. refl
-      | false ↦ λ e. (let ne : q ≢ 1 = grind (arith, nat_tests) in let one = sound.one_name q ne dir in let some : (names t q == 0) ≡ false = grind (arith, nat_tests) in ap not some)
+      | false ↦ λ e. (let ne : q ≢ 1 = grind (arith, nat_tests) in let one = sound.one_name q ne dir in
+          let some : (names t q == 0) ≡ false = grind (arith, nat_tests) in ap not some)
     ] refl
 
     -- what isn't a directory stays where it has a name
     leaf_stays : (q : ℕ) → is_dir (node t q) ≡ false → stays q ≡ nat_lt 0 (names t q)
     leaf_stays q plain =
-        let ne : q ≢ 1 = λ e. (let root = sound.root in let no_dir : is_dir (node t 1) ≡ false = subst (λ x. is_dir (node t x) ≡ false) e plain in cc) in
+        let ne : q ≢ 1 =
+        λ e. (let root = sound.root in let no_dir : is_dir (node t 1) ≡ false = subst (λ x. is_dir (node t x) ≡ false) e plain in cc) in
         let other : eqb q 1 ≡ false = grind (arith, nat_tests) in
         rw other (grind (arith, nat_tests))
 
@@ -161,7 +175,8 @@ module _ (N : ℕ) (m : LogMap) (handles : Handles) (version : ℕ) where
             ap (λ b. cond b (Some (node_by m h.kind q h)) None) same ∙ ap (λ o. cond (stays q) o None) (sym at)
 
     -- outside of the numbers there is nothing
-    outside : (q : ℕ) → node (tree_in (dropped m)) q ≡ None → node t q ≡ None → node (tree_in (dropped m)) q ≡ cond (stays q) (node t q) None
+    outside : (q : ℕ) → node (tree_in (dropped m)) q ≡ None → node t q ≡ None
+        → node (tree_in (dropped m)) q ≡ cond (stays q) (node t q) None
     outside q one two = one ∙ by (stays q)
       where
         by : (b : Bool) → None ≡ cond b (node t q) None
@@ -171,7 +186,8 @@ module _ (N : ℕ) (m : LogMap) (handles : Handles) (version : ℕ) where
     node_dropped : (q : ℕ) → node (tree_in (dropped m)) q ≡ cond (stays q) (node t q) None
     node_dropped q = ⊎_elim
         (λ (none : q < 1). let zero_is : q ≡ 0 = omega arith in
-        subst (λ (x : ℕ). node (tree_in (dropped m)) x ≡ cond (stays x) (node t x) None) (sym zero_is) (outside 0 (no_node_0 (dropped m)) (no_node_0 m)))
+        subst (λ (x : ℕ). node (tree_in (dropped m)) x ≡ cond (stays x) (node t x) None) (sym zero_is)
+        (outside 0 (no_node_0 (dropped m)) (no_node_0 m)))
         (λ (some : 1 ≤ q). ⊎_elim
         (λ (past : 4095 < q). outside q (no_node_past (dropped m) q (omega arith)) (no_node_past m q (omega arith)))
         (λ (low : q ≤ 4095). in_range q some low)
@@ -179,7 +195,8 @@ module _ (N : ℕ) (m : LogMap) (handles : Handles) (version : ℕ) where
         (cases_lt q 1)
 
     same_tree : tree_in (dropped m) ≡ t'
-    same_tree = same_entries nat_cmp nat_cmp_total nat_cmp-IsAntisymmetric (tree_in (dropped m)) t' (in_order (dropped m)) (is_sorted-where_key nat_cmp stays t (in_order m))
+    same_tree = same_entries nat_cmp nat_cmp_total nat_cmp-IsAntisymmetric (tree_in (dropped m)) t' (in_order (dropped m))
+        (is_sorted-where_key nat_cmp stays t (in_order m))
         (λ q. node_dropped q ∙ sym (forgets.now N state sound q))
 
     after : Sound N (drop_nameless state)
@@ -214,7 +231,8 @@ module _ (N : ℕ) (m : LogMap) (handles : Handles) (version : ℕ) where
       };
       texts = λ n text is. (after.limits n (Link text) (subst (λ (u : Tree). node u n ≡ Some (Link text)) same_tree is)).2;
       reached = record {
-        some = λ n ne there. subst (λ (u : Tree). 0 < names u n) (sym same_tree) (named n ne (subst (λ (u : Tree). node u n ≢ None) same_tree there));
+        some = λ n ne there.
+            subst (λ (u : Tree). 0 < names u n) (sym same_tree) (named n ne (subst (λ (u : Tree). node u n ≢ None) same_tree there));
         root = subst (λ (u : Tree). names u 1 ≡ 0) (sym same_tree) after.root_unnamed;
         one = subst (λ (u : Tree). (n : ℕ) → n ≢ 1 → is_dir (node u n) ≡ true → names u n ≡ 1) (sym same_tree) after.one_name;
         down = subst (λ (u : Tree). (n : ℕ) → is_dir (node u n) ≡ true → IsReachable u n) (sym same_tree) after.reached;
@@ -237,7 +255,8 @@ with_log_tree m s is = same_state s (record { tree = tree_in m; handles = s.hand
 pub dropped_tree : DroppedTree
 dropped_tree N m s log =
     let same = with_log_tree m s log.is in
-    subst (λ (z : State). TreeOf N (dropped m) (drop_nameless z).tree) (sym same) (tree_of N m s.handles s.version (subst (Sound N) same log.sound) log.formed log.links)
+    subst (λ (z : State). TreeOf N (dropped m) (drop_nameless z).tree) (sym same)
+    (tree_of N m s.handles s.version (subst (Sound N) same log.sound) log.formed log.links)
 
 pub dropped_log : DroppedLog
 dropped_log N m s log was =
@@ -265,10 +284,22 @@ dropped_stands c k m s found stands log = record {
 pub dropped_again : DroppedAgain
 dropped_again N m s log =
     let of = dropped_tree N m s log in
-    record { sound = forgets.dropped_sound N s log.sound; is = of.is; version = log.version; formed = of.tree.slots.formed; links = of.tree.links }
+    record {
+      sound = forgets.dropped_sound N s log.sound;
+      is = of.is;
+      version = log.version;
+      formed = of.tree.slots.formed;
+      links = of.tree.links;
+    }
 
 pub mounted_log : MountedLog
-mounted_log c all s is = record { sound = standing_is_sound c all s is; is = is.tree.is; version = is.version ∙ sym is.stands.holds.version; formed = is.tree.tree.slots.formed; links = is.tree.tree.links }
+mounted_log c all s is = record {
+  sound = standing_is_sound c all s is;
+  is = is.tree.is;
+  version = is.version ∙ sym is.stands.holds.version;
+  formed = is.tree.tree.slots.formed;
+  links = is.tree.tree.links;
+}
 
 neither : (b : Bool) → ◌≡◌ {A = Option Node} (cond b None None) None
 neither true = refl
@@ -276,7 +307,8 @@ neither false = refl
 
 -- each node of a map that passes a test is left
 all_left : (p : ℕ → Bool) (t : Tree) → T (is_sorted nat_cmp t) → ((q : ℕ) → node t q ≢ None → p q ≡ true) → filter (λ e. p e.0) t ≡ t
-all_left p t order all = same_entries nat_cmp nat_cmp_total nat_cmp-IsAntisymmetric (filter (λ e. p e.0) t) t (is_sorted-where_key nat_cmp p t order) order
+all_left p t order all =
+    same_entries nat_cmp nat_cmp_total nat_cmp-IsAntisymmetric (filter (λ e. p e.0) t) t (is_sorted-where_key nat_cmp p t order) order
     (λ q. find-where_key nat_cmp p q (λ x e. ap p (sym (ranked q x Equal (sym e)))) t ∙ by q (node t q) refl)
   where
     by : (q : ℕ) (o : Option Node) → node t q ≡ o → cond (p q) o None ≡ o
@@ -286,11 +318,13 @@ all_left p t order all = same_entries nat_cmp nat_cmp_total nat_cmp-IsAntisymmet
 has_name : (q k : ℕ) → (q ≢ 1 → 0 < k) → (q == 1 || not (k == 0)) ≡ true
 has_name q k some = elim (q == 1) as (λ b. (q == 1) ≡ b → (b || not (k == 0)) ≡ true) [
   | true ↦ λ e. refl
-  | false ↦ λ e. (let ne : q ≢ 1 = grind (arith, nat_tests) in let low = some ne in let other : (k == 0) ≡ false = grind (arith, nat_tests) in ap not other)
+  | false ↦ λ e. (let ne : q ≢ 1 = grind (arith, nat_tests) in let low = some ne in
+      let other : (k == 0) ≡ false = grind (arith, nat_tests) in ap not other)
 ] refl
 
 pub nothing_dropped : NothingDropped
-nothing_dropped c s is = same_state (drop_nameless s) s (all_left (λ q. q == 1 || not (names s.tree q == 0)) s.tree (subst (λ (u : Tree). T (is_sorted nat_cmp u)) (sym is.tree.is) (in_order is.log)) stays) (sym is.closed) refl
+nothing_dropped c s is = same_state (drop_nameless s) s (all_left (λ q. q == 1 || not (names s.tree q == 0)) s.tree
+    (subst (λ (u : Tree). T (is_sorted nat_cmp u)) (sym is.tree.is) (in_order is.log)) stays) (sym is.closed) refl
   where
     named : (q : ℕ) → q ≢ 1 → node s.tree q ≢ None → 0 < names s.tree q
     named = subst (λ (u : Tree). (q : ℕ) → q ≢ 1 → node u q ≢ None → 0 < names u q) (sym is.tree.is) is.tree.tree.reached.some

@@ -1,5 +1,6 @@
 -- How counts of live blocks change with the memory of the log.
-use Rattle.std.proofs.Common.{◌≡◌, ◌<◌, ◌≤◌, ⊎_elim, ◌+◌, ◌*◌, ◌-◌, ◌/◌, ◌%◌, ℕ, zero, suc, Bool, true, false, cond, [], ◌∷◌, length, get_or, Some, None, refl, sym, ◌∙◌, ap, ap₂, subst, arith}
+use Rattle.std.proofs.Common.{◌≡◌, ◌<◌, ◌≤◌, ⊎_elim, ◌+◌, ◌*◌, ◌-◌, ◌/◌, ◌%◌, ℕ, zero, suc, Bool, true, false, cond, [], ◌∷◌, length}
+use Rattle.std.proofs.Common.{get_or, Some, None, refl, sym, ◌∙◌, ap, ap₂, subst, arith}
 use Rattle.std.proofs.lemmas.List.{get_or_past, get_or_append_left, get_or-append_right}
 use Rattle.std.proofs.lemmas.Bool.{cases_eq, cases_lt, cases_Bool, cond-true, cond-false}
 use Rattle.lfs_model.specs.Entry.{Entry}
@@ -60,14 +61,16 @@ module _ (M : Memory) (o : ℕ) (x : Entry) (M' : Memory) (p : IsMoved M o x M')
   open_row : (at : ℕ) (y : Entry) → get_or (M.rows o) at None ≡ Some y → get_or (M'.rows o) at None ≡ Some y
   open_row at y is =
       ⊎_elim
-      (λ (low : at < length (M.rows o)). ap (λ (r : Row). get_or r at None) p.row ∙ get_or_append_left (M.rows o) (Some x ∷ []) None at low ∙ is)
+      (λ (low : at < length (M.rows o)). ap (λ (r : Row). get_or r at None) p.row ∙ get_or_append_left (M.rows o) (Some x ∷ []) None at low
+      ∙ is)
       (λ (high : length (M.rows o) ≤ at). let bad : None ≡ Some y = sym (get_or_past (M.rows o) at None high) ∙ is in absurd (cc))
       (cases_lt at (length (M.rows o)))
 
   rows_grow : (s at : ℕ) (y : Entry) → get_or (M.rows s) at None ≡ Some y → get_or (M'.rows s) at None ≡ Some y
   rows_grow s at y is =
       ⊎_elim
-      (λ (here : s ≡ o). subst (λ (t : ℕ). get_or (M'.rows t) at None ≡ Some y) (sym here) (open_row at y (subst (λ (t : ℕ). get_or (M.rows t) at None ≡ Some y) here is)))
+      (λ (here : s ≡ o). subst (λ (t : ℕ). get_or (M'.rows t) at None ≡ Some y) (sym here)
+      (open_row at y (subst (λ (t : ℕ). get_or (M.rows t) at None ≡ Some y) here is)))
       (λ (away : s ≡ o → ⊥). ap (λ (r : Row). get_or r at None) (p.rows s away) ∙ is)
       (cases_eq s o)
 
@@ -98,14 +101,20 @@ pub same_counts : (is more : Entry → Bool) (M M' : Memory) → Named M.at M.ro
     → ((y : Entry) → settled_at (those more M'.at y) ≡ settled_at (those is M.at y)) → (s : ℕ) → count_of more M' s ≡ count_of is M s
 same_counts is more M M' named named' same s =
     same_live (memory_view is M) (memory_view more M') (view_named is M named) (view_named more M' named') s
-    (λ at low. ((λ (h : IsHeld (memory_view is M) (2 + 64 * s + at)). (h.0, same h.0 ∙ h.1)), (λ (h : IsHeld (memory_view more M') (2 + 64 * s + at)). (h.0, sym (same h.0) ∙ h.1))))
+    (λ at low. (
+      (λ (h : IsHeld (memory_view is M) (2 + 64 * s + at)). (h.0, same h.0 ∙ h.1)),
+      (λ (h : IsHeld (memory_view more M') (2 + 64 * s + at)). (h.0, sym (same h.0) ∙ h.1)),
+    ))
 
 -- one entry more has its address counted
 one_counted : (is more : Entry → Bool) (M M' : Memory) → Named M.at M.rows → Named M'.at M'.rows → (x : Entry) (a : ℕ)
-    → settled_at (those is M.at x) ≡ 0 → settled_at (those more M'.at x) ≡ a → 2 ≤ a → ((y : Entry) → (y ≡ x → ⊥) → settled_at (those more M'.at y) ≡ settled_at (those is M.at y))
-    → (count_of more M' (segment_of a) ≡ suc (count_of is M (segment_of a))) × ((t : ℕ) → (t ≡ segment_of a → ⊥) → count_of more M' t ≡ count_of is M t)
+    → settled_at (those is M.at x) ≡ 0 → settled_at (those more M'.at x) ≡ a → 2 ≤ a
+    → ((y : Entry) → (y ≡ x → ⊥) → settled_at (those more M'.at y) ≡ settled_at (those is M.at y))
+    → (count_of more M' (segment_of a) ≡ suc (count_of is M (segment_of a)))
+    × ((t : ℕ) → (t ≡ segment_of a → ⊥) → count_of more M' t ≡ count_of is M t)
 one_counted is more M M' named named' x a none at above same =
-    placed_counts (memory_view is M) (memory_view more M') (view_named is M named) (view_named more M' named') x (segment_of a) ((a - 2) % 64)
+    placed_counts (memory_view is M) (memory_view more M') (view_named is M named) (view_named more M' named') x (segment_of a)
+    ((a - 2) % 64)
     (record { none = none; at = at ∙ (omega arith); within = omega arith; same = same })
 
 those_same : (is : Entry → Bool) (f g : Entry → ℕ) (y : Entry) → f y ≡ g y → settled_at (those is f y) ≡ settled_at (those is g y)
@@ -134,7 +143,8 @@ moved_counts e m M o x M' laid p is = (up, others, out)
         (ap settled_at (those_out is M'.at x off) ∙ sym (ap settled_at (those_out is M.at x off)))
         (λ y ne. those_same is M'.at M.at y (p.others y ne)))
 
-    both : is x ≡ true → (count_of is M' (segment_of (M'.at x)) ≡ suc (count_of is M (segment_of (M'.at x)))) × ((t : ℕ) → (t ≡ segment_of (M'.at x) → ⊥) → count_of is M' t ≡ count_of is M t)
+    both : is x ≡ true → (count_of is M' (segment_of (M'.at x)) ≡ suc (count_of is M (segment_of (M'.at x))))
+        × ((t : ℕ) → (t ≡ segment_of (M'.at x) → ⊥) → count_of is M' t ≡ count_of is M t)
     both on = one_counted is is M M' laid.named named' x (M'.at x)
         (ap settled_at (those_in is M.at x on) ∙ settled_low (M.at x) low)
         (ap settled_at (those_in is M'.at x on) ∙ settled_above (M'.at x) (let at = p.at in omega arith))
@@ -145,7 +155,8 @@ moved_counts e m M o x M' laid p is = (up, others, out)
     up on = subst (λ (s : ℕ). count_of is M' s ≡ suc (count_of is M s)) segment (both on).0
 
     others : (s : ℕ) → (s ≡ o → ⊥) → count_of is M' s ≡ count_of is M s
-    others s ne = ⊎_elim (λ (on : is x ≡ true). (both on).1 s (λ h. ne (h ∙ segment))) (λ (off : is x ≡ false). out off s) (cases_Bool (is x))
+    others s ne =
+        ⊎_elim (λ (on : is x ≡ true). (both on).1 s (λ h. ne (h ∙ segment))) (λ (off : is x ≡ false). out off s) (cases_Bool (is x))
 
 -- nothing moves to a row where an entry only leaves
 pub taken_named : (M : Memory) (x : Entry) (v : ℕ) (M' : Memory) → IsTaken M x v M' → Named M.at M.rows → Named M'.at M'.rows
@@ -170,7 +181,8 @@ taken_counts e m M o x v M' laid above p is = (down, others, out)
         (ap settled_at (those_out is M'.at x off) ∙ sym (ap settled_at (those_out is M.at x off)))
         (λ y ne. those_same is M'.at M.at y (p.others y ne)))
 
-    both : is x ≡ true → (count_of is M (segment_of (M.at x)) ≡ suc (count_of is M' (segment_of (M.at x)))) × ((t : ℕ) → (t ≡ segment_of (M.at x) → ⊥) → count_of is M t ≡ count_of is M' t)
+    both : is x ≡ true → (count_of is M (segment_of (M.at x)) ≡ suc (count_of is M' (segment_of (M.at x))))
+        × ((t : ℕ) → (t ≡ segment_of (M.at x) → ⊥) → count_of is M t ≡ count_of is M' t)
     both on = one_counted is is M' M named' laid.named x (M.at x)
         (ap settled_at (those_in is M'.at x on) ∙ settled_low (M'.at x) low)
         (ap settled_at (those_in is M.at x on) ∙ settled_above (M.at x) above)
@@ -185,7 +197,8 @@ taken_counts e m M o x v M' laid above p is = (down, others, out)
 
 pub unplaced_counts : UnplacedCounts
 unplaced_counts e m M o x v M' laid low p is = same_counts is is M M' laid.named (taken_named M x v M' p laid.named)
-    (by_entry x (λ y. settled_at (those is M'.at y) ≡ settled_at (those is M.at y)) (none M' (let at = p.at in let least = p.least in omega arith) ∙ sym (none M low)) (λ y ne. those_same is M'.at M.at y (p.others y ne)))
+    (by_entry x (λ y. settled_at (those is M'.at y) ≡ settled_at (those is M.at y)) (none M'
+    (let at = p.at in let least = p.least in omega arith) ∙ sym (none M low)) (λ y ne. those_same is M'.at M.at y (p.others y ne)))
   where
     none : (N : Memory) → N.at x ≤ 1 → settled_at (those is N.at x) ≡ 0
     none N small = ⊎_elim
@@ -202,8 +215,10 @@ one_more_counted e m M o x laid is more off on others = (up, rest)
     same : (y : Entry) → (y ≡ x → ⊥) → settled_at (those more M.at y) ≡ settled_at (those is M.at y)
     same y ne = ap (λ (b : Bool). settled_at (cond b (M.at y) 0)) (others y ne)
 
-    both : 2 ≤ M.at x → (count_of more M (segment_of (M.at x)) ≡ suc (count_of is M (segment_of (M.at x)))) × ((t : ℕ) → (t ≡ segment_of (M.at x) → ⊥) → count_of more M t ≡ count_of is M t)
-    both above = one_counted is more M M laid.named laid.named x (M.at x) none (ap settled_at (those_in more M.at x on) ∙ settled_above (M.at x) above) above same
+    both : 2 ≤ M.at x → (count_of more M (segment_of (M.at x)) ≡ suc (count_of is M (segment_of (M.at x))))
+        × ((t : ℕ) → (t ≡ segment_of (M.at x) → ⊥) → count_of more M t ≡ count_of is M t)
+    both above = one_counted is more M M laid.named laid.named x (M.at x) none
+        (ap settled_at (those_in more M.at x on) ∙ settled_above (M.at x) above) above same
 
     up : 2 ≤ M.at x → count_of more M (segment_of (M.at x)) ≡ suc (count_of is M (segment_of (M.at x)))
     up above = (both above).0
@@ -211,6 +226,7 @@ one_more_counted e m M o x laid is more off on others = (up, rest)
     rest : (s : ℕ) → (2 ≤ M.at x → s ≡ segment_of (M.at x) → ⊥) → count_of more M s ≡ count_of is M s
     rest s ne = ⊎_elim
         (λ (low : M.at x < 2). same_counts is more M M laid.named laid.named
-        (by_entry x (λ y. settled_at (those more M.at y) ≡ settled_at (those is M.at y)) (ap settled_at (those_in more M.at x on) ∙ settled_low (M.at x) (omega arith) ∙ sym none) same) s)
+        (by_entry x (λ y. settled_at (those more M.at y) ≡ settled_at (those is M.at y))
+        (ap settled_at (those_in more M.at x on) ∙ settled_low (M.at x) (omega arith) ∙ sym none) same) s)
         (λ (above : 2 ≤ M.at x). (both above).1 s (ne above))
         (cases_lt (M.at x) 2)

@@ -1,5 +1,6 @@
 -- What a crash leaves in the course of a commit.
-use Rattle.std.proofs.Common.{◌≡◌, ◌<◌, ◌≤◌, ◌⊎◌, inl, inr, ◌+◌, ◌*◌, ◌-◌, ◌/◌, ◌%◌, ◌==◌, ℕ, zero, suc, List, [], ◌∷◌, length, set, take, drop, Option, Some, None, refl, sym, ◌∙◌, ap, ap₂, subst, arith, length-take, length-set, get_or-set_same}
+use Rattle.std.proofs.Common.{◌≡◌, ◌<◌, ◌≤◌, ◌⊎◌, inl, inr, ◌+◌, ◌*◌, ◌-◌, ◌/◌, ◌%◌, ◌==◌, ℕ, zero, suc, List, [], ◌∷◌, length, set, take}
+use Rattle.std.proofs.Common.{drop, Option, Some, None, refl, sym, ◌∙◌, ap, ap₂, subst, arith, length-take, length-set, get_or-set_same}
 use Rattle.std.proofs.Math.Path.{fun_ext}
 use Rattle.std.proofs.lemmas.List.{get_or_past}
 use Rattle.std.proofs.lemmas.Bool.{eq-eqb, cond-true}
@@ -27,13 +28,15 @@ module _ (c d : Content) (k : CheckpointValue) (m : LogMap) where
         version = s.version;
       }
 
-  pub stands_at_same : StandsAt c k m → length d ≡ length c → ((at : ℕ) → Protected (view c k) at → cell_at d at ≡ cell_at c at) → StandsAt d k m
+  pub stands_at_same : StandsAt c k m → length d ≡ length c → ((at : ℕ) → Protected (view c k) at → cell_at d at ≡ cell_at c at)
+      → StandsAt d k m
   stands_at_same s long same =
       let seen = view_same c d k long same s.holds.stages.rows in
       record { holds = holds_at_same s.holds long seen; clean = subst EnoughClean (sym seen) s.clean }
 
 pub locality : Locality
-locality c d m s keeps = record { checkpoint = s.checkpoint; newest = keeps.newest; stands = stands_at_same c d s.checkpoint m s.stands keeps.size keeps.same }
+locality c d m s keeps =
+    record { checkpoint = s.checkpoint; newest = keeps.newest; stands = stands_at_same c d s.checkpoint m s.stands keeps.size keeps.same }
 
 -- and it has the segments of the same checkpoint
 pub locality_on : (c d : Content) (m : LogMap) (s : StandsLog c m) → Keeps c s.checkpoint d → StandsOn s.checkpoint.segments d m
@@ -48,15 +51,19 @@ same_checkpoint c m m' s t =
 pub single_log : SingleLog
 single_log c m m' s t =
     let e = same_checkpoint c m m' s t in
-    let headers : (n : ℕ) → m.header n ≡ m'.header n = λ n. s.stands.holds.header n ∙ ap (λ (k : CheckpointValue). header_in (view c k) n) e ∙ sym (t.stands.holds.header n) in
-    let blocks : (n i : ℕ) → m.block n i ≡ m'.block n i = λ n i. s.stands.holds.block n i ∙ ap (λ (k : CheckpointValue). (view c k).block (Data n i)) e ∙ sym (t.stands.holds.block n i) in
-    let version : m.version ≡ m'.version = s.stands.holds.version ∙ ap (λ (k : CheckpointValue). layout_version k) e ∙ sym t.stands.holds.version in
+    let headers : (n : ℕ) → m.header n ≡ m'.header n = λ n. s.stands.holds.header n ∙ ap (λ (k : CheckpointValue). header_in (view c k) n) e
+    ∙ sym (t.stands.holds.header n) in
+    let blocks : (n i : ℕ) → m.block n i ≡ m'.block n i = λ n i. s.stands.holds.block n i
+    ∙ ap (λ (k : CheckpointValue). (view c k).block (Data n i)) e ∙ sym (t.stands.holds.block n i) in
+    let version : m.version ≡ m'.version = s.stands.holds.version ∙ ap (λ (k : CheckpointValue). layout_version k) e
+    ∙ sym t.stands.holds.version in
     λ j. record { header = fun_ext headers j; block = fun_ext (λ n. fun_ext (λ i. blocks n i)) j; version = version j }
 
 pub chunks_length : (waiting : List Entry) (ss : List (Option (List ℕ))) (r : Row) → chunks waiting ss ≡ Some r → length r ≡ length ss
 chunks_length [] [] r h = let e : [] ≡ r = cc in ap length (sym e)
 chunks_length (e ∷ waiting) [] r h = absurd (cc)
-chunks_length (e ∷ waiting) (s ∷ ss) r h = let i = after_inv (Some e) (chunks waiting ss) r h in ap length i.2 ∙ ap suc (chunks_length waiting ss i.0 i.1)
+chunks_length (e ∷ waiting) (s ∷ ss) r h = let i = after_inv (Some e) (chunks waiting ss) r h in
+    ap length i.2 ∙ ap suc (chunks_length waiting ss i.0 i.1)
 chunks_length [] (s ∷ ss) r h =
     let i = opened_inv (entries_in (bytes_of s)) (λ es. chunks es ss) r h in
     ap length i.4 ∙ ap suc (chunks_length i.0 ss i.1 i.3)
@@ -68,9 +75,11 @@ place_past (Some r) at short = get_or_past r at None (short r refl)
 module _ (c : Content) (k : CheckpointValue) where
   unused_place : (s at : ℕ) → used_in (view c k) s ≤ at → place_in (row c k s) at ≡ None
   unfolding row_by address
-  unused_place s at unused = place_past (row c k s) at (λ r is. omega (arith, chunks_length [] (take (used c k s) (drop (2 + 64 * s) c)) r is, length-take (used c k s) (drop (2 + 64 * s) c)))
+  unused_place s at unused = place_past (row c k s) at (λ r is.
+      omega (arith, chunks_length [] (take (used c k s) (drop (2 + 64 * s) c)) r is, length-take (used c k s) (drop (2 + 64 * s) c)))
 
-  free_unreached : (e : Entry) → label_at (view c k) (address c k e) ≡ Some e → (s at : ℕ) → address c k e ≡ 2 + 64 * s + at → at < 64 → used_in (view c k) s ≤ at → ⊥
+  free_unreached : (e : Entry) → label_at (view c k) (address c k e) ≡ Some e → (s at : ℕ) → address c k e ≡ 2 + 64 * s + at → at < 64
+      → used_in (view c k) s ≤ at → ⊥
   free_unreached e named s at is within unused =
       let a = address c k e in
       let es : (a - 2) / 64 ≡ s = omega arith in
@@ -79,7 +88,8 @@ module _ (c : Content) (k : CheckpointValue) where
       cc
 
   free_unprotected : Stages (view c k) → (at : ℕ) → Protected (view c k) at → IsFreeSector c k at → ⊥
-  free_unprotected stages at (reached e lt) free = free_unreached e (stages.named e lt) free.segment free.place free.is free.within free.unused
+  free_unprotected stages at (reached e lt) free =
+      free_unreached e (stages.named e lt) free.segment free.place free.is free.within free.unused
   free_unprotected stages at (summary s o lt none) free =
       let fit = stages.usages.fit s in
       let is = free.is in
@@ -89,7 +99,8 @@ module _ (c : Content) (k : CheckpointValue) where
       let same : used_in (view c k) s ≡ used_in (view c k) free.segment = ap (used_in (view c k)) es in
       omega arith
 
-keeps_set : (c : Content) (k : CheckpointValue) (d : Content) (at : ℕ) (x : Option (List ℕ)) → (Protected (view c k) at → ⊥) → 2 ≤ at → Keeps c k d → Keeps c k (set d at x)
+keeps_set : (c : Content) (k : CheckpointValue) (d : Content) (at : ℕ) (x : Option (List ℕ)) → (Protected (view c k) at → ⊥) → 2 ≤ at
+    → Keeps c k d → Keeps c k (set d at x)
 keeps_set c k d at x unprotected above keeps = record {
   size = length-set d at x ∙ keeps.size;
   newest = newest_other d at x above ∙ keeps.newest;
@@ -103,7 +114,8 @@ free_writes c m s at bytes free d d' keeps torn = go d' torn
     k = s.checkpoint
 
     kept : (x : Option (List ℕ)) → Keeps c s.checkpoint (set d at x)
-    kept x = keeps_set c s.checkpoint d at x (λ p. free_unprotected c s.checkpoint s.stands.holds.stages at p free) (let e = free.is in omega arith) keeps
+    kept x = keeps_set c s.checkpoint d at x (λ p. free_unprotected c s.checkpoint s.stands.holds.stages at p free)
+        (let e = free.is in omega arith) keeps
 
     go : (d' : Content) → MayWrite at bytes d d' → Keeps c s.checkpoint d'
     go d' (left_old is) = subst (Keeps c s.checkpoint) (sym is) keeps
@@ -132,9 +144,11 @@ module _ (c : Content) (m : LogMap) (s : StandsLog c m) (e : Content) (keeps : K
   low = omega arith
 
   here : (x : Option (List ℕ)) → slot (set e (next.number % 2) x) (s.checkpoint.number % 2) ≡ Some s.checkpoint
-  here x = slot_other e (next.number % 2) x (s.checkpoint.number % 2) (λ h. let n = ready.number in omega arith) ∙ slot_newest e s.checkpoint keeps.newest
+  here x = slot_other e (next.number % 2) x (s.checkpoint.number % 2) (λ h. let n = ready.number in omega arith)
+      ∙ slot_newest e s.checkpoint keeps.newest
 
-  there : (x : Option (List ℕ)) → slot (set e (next.number % 2) x) (next.number % 2) ≡ with_parity (next.number % 2) (checkpoint_in (bytes_of x))
+  there : (x : Option (List ℕ))
+      → slot (set e (next.number % 2) x) (next.number % 2) ≡ with_parity (next.number % 2) (checkpoint_in (bytes_of x))
   there x =
       ap (λ (y : Option (List ℕ)). with_parity (next.number % 2) (checkpoint_in (bytes_of y)))
       (get_or-set_same e (next.number % 2) x None (let a = keeps.size in let b = s.stands.holds.size in omega arith))
@@ -146,8 +160,10 @@ module _ (c : Content) (m : LogMap) (s : StandsLog c m) (e : Content) (keeps : K
   pub keeps_lost : Keeps c s.checkpoint (set e (next.number % 2) None)
   keeps_lost = record {
     size = length-set e (next.number % 2) None ∙ keeps.size;
-    newest = newest_alone (set e (next.number % 2) None) s.checkpoint (next.number % 2) (ap (λ (n : ℕ). n % 2) ready.number) (here None) (there None ∙ ap (with_parity (next.number % 2)) none_spelt);
-    same = λ at protected. sector_other e (next.number % 2) None at (λ h. let above = protected_above (view c s.checkpoint) s.stands.holds.stages at protected in omega (arith, low)) ∙ keeps.same at protected;
+    newest = newest_alone (set e (next.number % 2) None) s.checkpoint (next.number % 2) (ap (λ (n : ℕ). n % 2) ready.number) (here None)
+        (there None ∙ ap (with_parity (next.number % 2)) none_spelt);
+    same = λ at protected. sector_other e (next.number % 2) None at (λ h. let above =
+        protected_above (view c s.checkpoint) s.stands.holds.stages at protected in omega (arith, low)) ∙ keeps.same at protected;
   }
 
   at_lost : StandsOn s.checkpoint.segments (set e (next.number % 2) None) m
@@ -157,9 +173,11 @@ module _ (c : Content) (m : LogMap) (s : StandsLog c m) (e : Content) (keeps : K
   at_written : StandsLog (set e (next.number % 2) (Some bytes)) m'
   at_written = record {
     checkpoint = next;
-    newest = newest_next (set e (next.number % 2) (Some bytes)) s.checkpoint next ready.number (here (Some bytes)) (there (Some bytes) ∙ ap (with_parity (next.number % 2)) ready.spelt ∙ parity);
+    newest = newest_next (set e (next.number % 2) (Some bytes)) s.checkpoint next ready.number (here (Some bytes))
+        (there (Some bytes) ∙ ap (with_parity (next.number % 2)) ready.spelt ∙ parity);
     stands = stands_at_same e (set e (next.number % 2) (Some bytes)) next m' ready.stands (length-set e (next.number % 2) (Some bytes))
-        (λ at protected. sector_other e (next.number % 2) (Some bytes) at (λ h. let above = protected_above (view e next) ready.stands.holds.stages at protected in omega (arith, low)));
+        (λ at protected. sector_other e (next.number % 2) (Some bytes) at
+        (λ h. let above = protected_above (view e next) ready.stands.holds.stages at protected in omega (arith, low)));
   }
 
   abbrev Either : Content → Type 0

@@ -1,5 +1,6 @@
 -- The crash prefix of a run, one call after the other.
-use Rattle.std.proofs.Common.{◌≡◌, refl, sym, ◌∙◌, ap, subst, arith, ℕ, zero, suc, slice_index_or, ◌<◌, true, false, List, [], ◌∷◌, ◌++◌, length, drop, slice_get, Some, ⊎_elim, length-append}
+use Rattle.std.proofs.Common.{◌≡◌, refl, sym, ◌∙◌, ap, subst, arith, ℕ, zero, suc, slice_index_or, ◌<◌, true, false, List, [], ◌∷◌, ◌++◌}
+use Rattle.std.proofs.Common.{length, drop, slice_get, Some, ⊎_elim, length-append}
 use Rattle.std.proofs.lemmas.List.{drop-append-le, drop_all}
 use Rattle.std.proofs.lemmas.Option.{slice_get_within}
 use Rattle.lfs_model.specs.Call.{Call, Answer}
@@ -12,13 +13,15 @@ use Rattle.lfs_model.proofs.Volume.{single_state}
 
 -- ---- one call more
 
-none_append : (calls : List Call) (answers : List Answer) (call : Call) (a : Answer) → NoneAcknowledged calls answers → acknowledges call a ≡ false → NoneAcknowledged (calls ++ call ∷ []) (answers ++ a ∷ [])
+none_append : (calls : List Call) (answers : List Answer) (call : Call) (a : Answer) → NoneAcknowledged calls answers
+    → acknowledges call a ≡ false → NoneAcknowledged (calls ++ call ∷ []) (answers ++ a ∷ [])
 none_append [] [] call a h ne = (ne, tt)
 none_append [] (b ∷ answers) call a h ne = absurd h
 none_append (d ∷ calls) [] call a h ne = absurd h
 none_append (d ∷ calls) (b ∷ answers) call a h ne = (h.0, none_append calls answers call a h.1 ne)
 
-pub get_front : (points : List Point) (q : Point) (n : ℕ) (p : Point) → slice_get points n ≡ Some p → slice_get (points ++ q ∷ []) n ≡ Some p
+pub get_front : (points : List Point) (q : Point) (n : ℕ) (p : Point) → slice_get points n ≡ Some p
+    → slice_get (points ++ q ∷ []) n ≡ Some p
 get_front [] q n p is = cc
 get_front (r ∷ points) q zero p is = is
 get_front (r ∷ points) q (suc n) p is = get_front points q n p is
@@ -33,15 +36,18 @@ pub record IsRunSoFar (points : List Point) (calls : List Call) (answers : List 
   pub answers_length : length answers ≡ length calls
   pub at : slice_get points (length calls) ≡ Some last
 
-pub so_far_more : (points : List Point) (calls : List Call) (answers : List Answer) (last new : Point) (call : Call) (a : Answer) → IsRunSoFar points calls answers last
+pub so_far_more : (points : List Point) (calls : List Call) (answers : List Answer) (last new : Point) (call : Call) (a : Answer)
+    → IsRunSoFar points calls answers last
     → IsRunSoFar (points ++ new ∷ []) (calls ++ call ∷ []) (answers ++ a ∷ []) new
 so_far_more points calls answers last new call a run = record {
   points_length = omega (arith, length-append points (new ∷ []), length-append calls (call ∷ []), run.points_length);
   answers_length = omega (arith, length-append answers (a ∷ []), length-append calls (call ∷ []), run.answers_length);
-  at = (let same : length (calls ++ call ∷ []) ≡ length points = omega (arith, length-append calls (call ∷ []), run.points_length) in ap (slice_get (points ++ new ∷ [])) same ∙ get_last points new);
+  at = (let same : length (calls ++ call ∷ []) ≡ length points = omega (arith, length-append calls (call ∷ []), run.points_length) in
+      ap (slice_get (points ++ new ∷ [])) same ∙ get_last points new);
 }
 
-module _ (points : List Point) (calls : List Call) (answers : List Answer) (last new : Point) (call : Call) (a : Answer) (run : IsRunSoFar points calls answers last) where
+module _ (points : List Point) (calls : List Call) (answers : List Answer) (last new : Point) (call : Call) (a : Answer)
+    (run : IsRunSoFar points calls answers last) where
   abbrev all_points : List Point
   all_points = points ++ new ∷ []
 
@@ -52,7 +58,8 @@ module _ (points : List Point) (calls : List Call) (answers : List Answer) (last
   all_answers = answers ++ a ∷ []
 
   -- what was pending still is, where the call isn't acknowledged
-  pub pending_more : (s : State) → acknowledges call a ≡ false → IsPending points calls answers s → IsPending all_points all_calls all_answers s
+  pub pending_more : (s : State) → acknowledges call a ≡ false → IsPending points calls answers s
+      → IsPending all_points all_calls all_answers s
   pending_more s ne old = record {
     n = old.n;
     point = old.point;
@@ -89,7 +96,8 @@ module _ (points : List Point) (calls : List Call) (answers : List Answer) (last
         at = more.at;
         none_later = (
             let same = more.answers_length in
-            subst (λ cs. NoneAcknowledged cs (drop (length all_calls) all_answers)) (sym (drop_all (length all_calls) all_calls (omega arith)))
+            subst (λ cs. NoneAcknowledged cs (drop (length all_calls) all_answers))
+            (sym (drop_all (length all_calls) all_calls (omega arith)))
             (subst (NoneAcknowledged []) (sym (drop_all (length all_calls) all_answers (omega arith))) tt));
         is = refl;
       }
@@ -102,25 +110,32 @@ leaves_first d p one c left = (p.state, record { n = 0; point = p; at = refl; no
 
 -- A call whose every moment leaves what was left before it, the state before it or the state after it, and which leaves the state
 -- after it alone where it is acknowledged, keeps that so.
-pub leaves_more : (old new : DeviceState) (points : List Point) (calls : List Call) (answers : List Answer) (last next : Point) (call : Call) (a : Answer)
+pub leaves_more : (old new : DeviceState) (points : List Point) (calls : List Call) (answers : List Answer) (last next : Point)
+    (call : Call) (a : Answer)
     → IsRunSoFar points calls answers last → IsLawful new → LeavesPrefix old points calls answers
-    → LeavesStates old new (drop_nameless last.state ∷ drop_nameless next.state ∷ []) → (acknowledges call a ≡ true → LeavesOne new (drop_nameless next.state))
+    → LeavesStates old new (drop_nameless last.state ∷ drop_nameless next.state ∷ [])
+    → (acknowledges call a ≡ true → LeavesOne new (drop_nameless next.state))
     → LeavesPrefix new (points ++ next ∷ []) (calls ++ call ∷ []) (answers ++ a ∷ [])
 leaves_more old new points calls answers last next call a run lawful pending leaves acknowledged c left =
-    elim (acknowledges call a) as (λ b. acknowledges call a ≡ b → StandsForPrefix c (points ++ next ∷ []) (calls ++ call ∷ []) (answers ++ a ∷ [])) [
+    elim (acknowledges call a)
+    as (λ b. acknowledges call a ≡ b → StandsForPrefix c (points ++ next ∷ []) (calls ++ call ∷ []) (answers ++ a ∷ [])) [
       | true ↦ λ is. (next.state, pending_after points calls answers last next call a run, acknowledged is c left)
       | false ↦ λ not. (
           let found = leaves.each c (lawful.counts_now old.moment c leaves.later left) in
           ⊎_elim (λ was. before not found.0 found.1 was) (λ of. during not found.0 found.1 of.0 of.1 of.2) found.2)
     ] refl
   where
-    before : acknowledges call a ≡ false → (t : State) → Stands c t → Left old t → StandsForPrefix c (points ++ next ∷ []) (calls ++ call ∷ []) (answers ++ a ∷ [])
+    before : acknowledges call a ≡ false → (t : State) → Stands c t → Left old t
+        → StandsForPrefix c (points ++ next ∷ []) (calls ++ call ∷ []) (answers ++ a ∷ [])
     before ne t stands was =
         let one = pending was.content was.may_leave in
         let same : t ≡ drop_nameless one.0 = single_state was.content t (drop_nameless one.0) was.stands one.2 in
         (one.0, pending_more points calls answers last next call a run one.0 ne one.1, subst (Stands c) same stands)
 
-    during : acknowledges call a ≡ false → (t : State) → Stands c t → (k : ℕ) → k < 2 → slice_index_or (drop_nameless last.state ∷ drop_nameless next.state ∷ []) k t ≡ t → StandsForPrefix c (points ++ next ∷ []) (calls ++ call ∷ []) (answers ++ a ∷ [])
-    during ne t stands zero lt is = (last.state, pending_before points calls answers last next call a run ne, subst (Stands c) (sym is) stands)
-    during ne t stands (suc zero) lt is = (next.state, pending_after points calls answers last next call a run, subst (Stands c) (sym is) stands)
+    during : acknowledges call a ≡ false → (t : State) → Stands c t → (k : ℕ) → k < 2 → slice_index_or (drop_nameless last.state
+        ∷ drop_nameless next.state ∷ []) k t ≡ t → StandsForPrefix c (points ++ next ∷ []) (calls ++ call ∷ []) (answers ++ a ∷ [])
+    during ne t stands zero lt is =
+        (last.state, pending_before points calls answers last next call a run ne, subst (Stands c) (sym is) stands)
+    during ne t stands (suc zero) lt is =
+        (next.state, pending_after points calls answers last next call a run, subst (Stands c) (sym is) stands)
     during ne t stands (suc (suc k)) lt is = absurd (omega arith)

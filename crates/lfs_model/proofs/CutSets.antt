@@ -1,5 +1,6 @@
 -- The sets of entries that leave a file at once.
-use Rattle.std.proofs.Common.{◌≡◌, ◌<◌, ◌≤◌, ⊎_elim, ◌+◌, ◌*◌, ◌-◌, ◌/◌, ◌==◌, ◌&&◌, nat_le, cond, ℕ, zero, suc, Bool, true, false, List, [], length, Some, None, refl, sym, ◌∙◌, ap, subst, arith, eqb-true, eq-eqb}
+use Rattle.std.proofs.Common.{◌≡◌, ◌<◌, ◌≤◌, ⊎_elim, ◌+◌, ◌*◌, ◌-◌, ◌/◌, ◌==◌, ◌&&◌, nat_le, cond, ℕ, zero, suc, Bool, true, false, List}
+use Rattle.std.proofs.Common.{[], length, Some, None, refl, sym, ◌∙◌, ap, subst, arith, eqb-true, eq-eqb}
 use Rattle.std.proofs.lemmas.Bool.{cases_lt, and_parts, and_from, leb-true, le-leb, cond-true}
 use Rattle.lfs_model.specs.Cutting.{is_past, PastAbove, IsWithoutFile, LeavesOut, FileRemoving}
 use Rattle.lfs_model.specs.Detaching.{is_of, IsCut, IsWithout, IsCleared, Detaches}
@@ -10,7 +11,8 @@ use Rattle.lfs_model.specs.Running.{Dirty}
 use Rattle.lfs_model.specs.Stands.{LogMap}
 use Rattle.lfs_model.proofs.Cutting.{file_cutting}
 use Rattle.lfs_model.proofs.Detaching.{of_file_or_not, is_of_yes, is_of_true}
-use Rattle.lfs_model.proofs.Entries.{file_of_parent, data_parent_low, data_parent_high, data_pointer_low, is_leaf_child, is_double_child, no_data_parent}
+use Rattle.lfs_model.proofs.Entries.{file_of_parent, data_parent_low, data_parent_high, data_pointer_low, is_leaf_child, is_double_child}
+use Rattle.lfs_model.proofs.Entries.{no_data_parent}
 
 -- ---- the blocks from one on
 module _ (n first : ℕ) where
@@ -65,13 +67,15 @@ past_above e m M o n first laid inode double leaf (Data k i) on lt ne off =
     let le = p.1 in
     here ∙ same ∙ leaf ((i - 112) / 128) below (omega arith) (omega arith))
     (cases_lt i 112)
-past_above e m M o n first laid inode double leaf (Leaf k zero) on lt ne off = ap (λ (k : ℕ). M.at (Inode k)) (past_parts n first k 112 on).0 ∙ inode
+past_above e m M o n first laid inode double leaf (Leaf k zero) on lt ne off =
+    ap (λ (k : ℕ). M.at (Inode k)) (past_parts n first k 112 on).0 ∙ inode
 past_above e m M o n first laid inode double leaf (Leaf k (suc q)) on lt ne off =
     let same = (past_parts n first k (112 + 128 * suc q) on).0 in
     let up = laid.down (Leaf k (suc q)) lt in
     let at = ap (λ (k : ℕ). M.at (Double k)) (past_parts n first k (112 + 128 * suc q) on).0 in
     ap (λ (k : ℕ). M.at (Double k)) same ∙ double (not_past n first k 240 same off) (omega arith)
-past_above e m M o n first laid inode double leaf (Double k) on lt ne off = ap (λ (k : ℕ). M.at (Inode k)) (past_parts n first k 240 on).0 ∙ inode
+past_above e m M o n first laid inode double leaf (Double k) on lt ne off = ap (λ (k : ℕ). M.at (Inode k)) (past_parts n first k 240 on).0
+    ∙ inode
 past_above e m M o n first laid inode double leaf (Inode k) on lt ne off = absurd (ne refl)
 past_above e m M o n first laid inode double leaf (Map j) on lt ne off = absurd (ne refl)
 past_above e m M o n first laid inode double leaf (Usage j) on lt ne off = absurd (ne refl)
@@ -87,7 +91,8 @@ module _ (gone : Entry → Bool) (n : ℕ) where
     header = λ k h. refl;
   }
 
-  pub leaf_cleared : (q : ℕ) (old new : List ℕ) → length new ≡ 512 → ((i : ℕ) → i < 128 → word new i ≡ cond (gone (Data n (112 + 128 * q + i))) 0 (word old i)) → IsCleared gone (Leaf n q) old new
+  pub leaf_cleared : (q : ℕ) (old new : List ℕ) → length new ≡ 512
+      → ((i : ℕ) → i < 128 → word new i ≡ cond (gone (Data n (112 + 128 * q + i))) 0 (word old i)) → IsCleared gone (Leaf n q) old new
   leaf_cleared q old new long words = record {
     long = long;
     same = λ k l h. let bad : Leaf n q ≡ Data k l = h in absurd (cc);
@@ -98,7 +103,8 @@ module _ (gone : Entry → Bool) (n : ℕ) where
     header = λ k h. let bad : Leaf n q ≡ Inode k = h in absurd (cc);
   }
 
-  pub double_cleared : (old new : List ℕ) → length new ≡ 512 → ((q : ℕ) → q < 128 → word new q ≡ cond (gone (Leaf n (suc q))) 0 (word old q)) → IsCleared gone (Double n) old new
+  pub double_cleared : (old new : List ℕ) → length new ≡ 512
+      → ((q : ℕ) → q < 128 → word new q ≡ cond (gone (Leaf n (suc q))) 0 (word old q)) → IsCleared gone (Double n) old new
   double_cleared old new long words = record {
     long = long;
     same = λ k l h. let bad : Double n ≡ Data k l = h in absurd (cc);
@@ -112,7 +118,8 @@ module _ (gone : Entry → Bool) (n : ℕ) where
 
   pub inode_cleared : (old new : List ℕ) → length new ≡ 512 → HoldsInode n new → header new ≡ header old
       → ((i : ℕ) → i < 112 → word new (8 + i) ≡ cond (gone (Data n i)) 0 (word old (8 + i)))
-      → word new 120 ≡ cond (gone (Leaf n 0)) 0 (word old 120) → word new 121 ≡ cond (gone (Double n)) 0 (word old 121) → IsCleared gone (Inode n) old new
+      → word new 120 ≡ cond (gone (Leaf n 0)) 0 (word old 120) → word new 121 ≡ cond (gone (Double n)) 0 (word old 121)
+      → IsCleared gone (Inode n) old new
   inode_cleared old new long formed same direct single double = record {
     long = long;
     same = λ k l h. let bad : Inode n ≡ Data k l = h in absurd (cc);
@@ -130,9 +137,11 @@ module _ (gone : Entry → Bool) (n : ℕ) where
           (subst (λ (k : ℕ). word new (8 + i) ≡ cond (gone (Data k i)) 0 (word old (8 + i))) (sym s) (direct i low)))
           (λ (high : 112 ≤ i). let bad : Leaf k ((i - 112) / 128) ≡ Inode n = sym (data_parent_high k i high) ∙ up in absurd (cc))
           (cases_lt i 112)
-      by_child (Leaf k zero) up ne = let h : Inode k ≡ Inode n = up in let s : k ≡ n = cc in subst (λ (k : ℕ). word new 120 ≡ cond (gone (Leaf k 0)) 0 (word old 120)) (sym s) single
+      by_child (Leaf k zero) up ne = let h : Inode k ≡ Inode n = up in let s : k ≡ n = cc in
+          subst (λ (k : ℕ). word new 120 ≡ cond (gone (Leaf k 0)) 0 (word old 120)) (sym s) single
       by_child (Leaf k (suc q)) up ne = let bad : Double k ≡ Inode n = up in absurd (cc)
-      by_child (Double k) up ne = let h : Inode k ≡ Inode n = up in let s : k ≡ n = cc in subst (λ (k : ℕ). word new 121 ≡ cond (gone (Double k)) 0 (word old 121)) (sym s) double
+      by_child (Double k) up ne = let h : Inode k ≡ Inode n = up in let s : k ≡ n = cc in
+          subst (λ (k : ℕ). word new 121 ≡ cond (gone (Double k)) 0 (word old 121)) (sym s) double
       by_child (Inode k) up ne = absurd (ne up)
       by_child (Map j) up ne = let bad : Map j ≡ Inode n = up in absurd (cc)
       by_child (Usage j) up ne = let bad : Usage j ≡ Inode n = up in absurd (cc)
@@ -146,7 +155,8 @@ module _ (n : ℕ) where
   }
 
   same_of_parent : (x : Entry) → is_of n x ≡ true → is_of n (parent x) ≡ false → ⊥
-  same_of_parent x on off = let bad : true ≡ false = sym (is_of_yes n (parent x) (file_of_parent x ∙ is_of_true n x on)) ∙ off in absurd (cc)
+  same_of_parent x on off = let bad : true ≡ false = sym (is_of_yes n (parent x) (file_of_parent x ∙ is_of_true n x on)) ∙ off in
+      absurd (cc)
 
   pub whole_without : (m m' : LogMap) → IsWithoutFile m n m' → IsWithout m n (is_of n) m'
   whole_without m m' is = record {

@@ -1,5 +1,6 @@
 -- Entries of a file go, as the log runs.
-use Rattle.std.proofs.Common.{◌≡◌, ◌<◌, ⊎_elim, ◌+◌, ◌*◌, ◌/◌, cond, ℕ, Bool, true, false, List, Option, Some, None, refl, sym, ◌∙◌, ap, subst, arith}
+use Rattle.std.proofs.Common.{◌≡◌, ◌<◌, ⊎_elim, ◌+◌, ◌*◌, ◌/◌, cond, ℕ, Bool, true, false, List, Option, Some, None, refl, sym, ◌∙◌, ap}
+use Rattle.std.proofs.Common.{subst, arith}
 use Rattle.std.proofs.lemmas.Bool.{cases_eq, cases_Bool, cond-true, cond-false}
 use Rattle.lfs_model.specs.Checkpoint.{CheckpointValue}
 use Rattle.lfs_model.specs.Detaching.{IsCut, IsWithout, IsCleared, IsDetaching, Detaches, IsDetachedFrom, FileCutting}
@@ -16,9 +17,12 @@ use Rattle.lfs_model.proofs.Running.{usage_kept, part_same, kept_same, open_same
 use Rattle.lfs_model.proofs.Tables.{usage_table}
 
 -- ---- usage blocks stay right where counts change only in those that are stale
-pub counts_fresh : (t t' : Tables) (counts : ℕ → ℕ) → ((s : ℕ) → counts s ≡ 0 → t'.live s ≡ t.live s) → ((s : ℕ) → t'.used s ≡ t.used s) → ((s : ℕ) → t'.age s ≡ t.age s)
-    → ((s : ℕ) → 0 < counts s → t'.stale (s / 64) ≡ true) → (j : ℕ) → t'.stale j ≡ false → (b : List ℕ) → SpellsUsage t j b → SpellsUsage t' j b
-counts_fresh t t' counts live used age changed j off b = usage_kept t t' j b (λ i lt. (used (64 * j + i), live (64 * j + i) (no_count i lt), age (64 * j + i)))
+pub counts_fresh : (t t' : Tables) (counts : ℕ → ℕ) → ((s : ℕ) → counts s ≡ 0 → t'.live s ≡ t.live s) → ((s : ℕ) → t'.used s ≡ t.used s)
+    → ((s : ℕ) → t'.age s ≡ t.age s)
+    → ((s : ℕ) → 0 < counts s → t'.stale (s / 64) ≡ true) → (j : ℕ) → t'.stale j ≡ false → (b : List ℕ) → SpellsUsage t j b
+    → SpellsUsage t' j b
+counts_fresh t t' counts live used age changed j off b =
+    usage_kept t t' j b (λ i lt. (used (64 * j + i), live (64 * j + i) (no_count i lt), age (64 * j + i)))
   where
     no_count : (i : ℕ) → i < 64 → counts (64 * j + i) ≡ 0
     no_count i lt = ⊎_elim
@@ -30,11 +34,13 @@ counts_fresh t t' counts live used age changed j off b = usage_kept t t' j b (λ
         absurd (cc))
         (cases_eq (counts (64 * j + i)) 0)
 
-module _ (d : DeviceState) (dirty dirty' : Dirty) (t t' : Tables) (k : CheckpointValue) (m0 m m' : LogMap) (seg : ℕ) (chunk : Option (List Entry)) (n : ℕ) (gone : Entry → Bool) (counts : ℕ → ℕ)
+module _ (d : DeviceState) (dirty dirty' : Dirty) (t t' : Tables) (k : CheckpointValue) (m0 m m' : LogMap) (seg : ℕ)
+    (chunk : Option (List Entry)) (n : ℕ) (gone : Entry → Bool) (counts : ℕ → ℕ)
     (w : Running d dirty t k m0 m seg chunk) (cut : IsCut n gone)
     (above : (x : Entry) → gone x ≡ true → 0 < w.memory.at x → (parent x ≡ x → ⊥) → gone (parent x) ≡ false → w.memory.at (parent x) ≡ 1)
     (mapped : gone (Inode n) ≡ true → HasInode m n → is_nameless m n ≡ false → t.at (Map (n / 128)) ≡ 1)
-    (counted : (s : ℕ) → counts s ≡ count_of gone w.memory s) (map : IsWithout m n gone m') (go : Detaches dirty dirty' n gone) (less : IsDetachedFrom m t t' n gone counts) where
+    (counted : (s : ℕ) → counts s ≡ count_of gone w.memory s) (map : IsWithout m n gone m') (go : Detaches dirty dirty' n gone)
+    (less : IsDetachedFrom m t t' n gone counts) where
   bytes_of_next : Entry → Option (List ℕ) → List ℕ
   bytes_of_next x None = w.memory.bytes x
   bytes_of_next x (Some b) = b
@@ -128,16 +134,20 @@ module _ (d : DeviceState) (dirty dirty' : Dirty) (t t' : Tables) (k : Checkpoin
       let c = counted s in
       let was = w.tables.live s in
       by_name _
-      (λ named. let l = (less.named named s).0 in let r = ((detached_live d.content m w.memory seg n gone m' next w.laid is_detaching).0 named s).0 in omega arith)
-      (λ nameless. (less.nameless nameless s).0 ∙ was ∙ sym ((detached_live d.content m w.memory seg n gone m' next w.laid is_detaching).1 nameless s).0)
+      (λ named. let l = (less.named named s).0 in
+      let r = ((detached_live d.content m w.memory seg n gone m' next w.laid is_detaching).0 named s).0 in omega arith)
+      (λ nameless. (less.nameless nameless s).0 ∙ was
+      ∙ sym ((detached_live d.content m w.memory seg n gone m' next w.laid is_detaching).1 nameless s).0)
 
   held_now : (s : ℕ) → t'.held s ≡ held_of m' next s
   held_now s =
       let c = counted s in
       let was = w.tables.held s in
       by_name _
-      (λ named. (less.named named s).1 ∙ was ∙ sym ((detached_live d.content m w.memory seg n gone m' next w.laid is_detaching).0 named s).1)
-      (λ nameless. let l = (less.nameless nameless s).1 in let r = ((detached_live d.content m w.memory seg n gone m' next w.laid is_detaching).1 nameless s).1 in omega arith)
+      (λ named. (less.named named s).1 ∙ was
+      ∙ sym ((detached_live d.content m w.memory seg n gone m' next w.laid is_detaching).0 named s).1)
+      (λ nameless. let l = (less.nameless nameless s).1 in
+      let r = ((detached_live d.content m w.memory seg n gone m' next w.laid is_detaching).1 nameless s).1 in omega arith)
 
   same_live : (s : ℕ) → counts s ≡ 0 → t'.live s ≡ t.live s
   same_live s z = by_name _ (λ named. let l = (less.named named s).0 in omega arith) (λ nameless. (less.nameless nameless s).0)
@@ -166,7 +176,8 @@ module _ (d : DeviceState) (dirty dirty' : Dirty) (t t' : Tables) (k : Checkpoin
     cached = cached_now;
     tables = tables_now;
     fresh = λ j off low. subst (SpellsUsage t' j) (sym (usage_same j))
-        (counts_fresh t t' counts same_live less.used less.age less.changed j off (w.memory.bytes (Usage j)) (w.fresh j (less.stale j off) low));
+        (counts_fresh t t' counts same_live less.used less.age less.changed j off (w.memory.bytes (Usage j))
+        (w.fresh j (less.stale j off) low));
     part = part_same t t' less.used less.kept w.part;
     kept = kept_same d.content k t t' less.kept w.kept;
     opened = open_same d.content w.memory next t t' seg chunk refl refl less.kept w.opened;

@@ -72,8 +72,10 @@ no_stage v code none =
     (beyond code 5 _ _ (λ e. not_here 5 e (omega arith) (omega arith)) (beyond code 6 _ _ (λ e. not_here 6 e (omega arith) (omega arith))
     (beyond code 7 _ _ (λ e. not_here 7 e (omega arith) (omega arith)) (beyond code 8 _ _ (λ e. not_here 8 e (omega arith) (omega arith))
     (beyond code 9 _ _ (λ e. not_here 9 e (omega arith) (omega arith)) (beyond code 15 _ _ (λ e. not_here 15 e (omega arith) (omega arith))
-    (beyond code 10 _ _ (λ e. not_here 10 e (omega arith) (omega arith)) (beyond code 11 _ _ (λ e. not_here 11 e (omega arith) (omega arith))
-    (beyond code 12 _ _ (λ e. not_here 12 e (omega arith) (omega arith)) (beyond code 13 _ _ (λ e. not_here 13 e (omega arith) (omega arith))
+    (beyond code 10 _ _ (λ e. not_here 10 e (omega arith) (omega arith))
+    (beyond code 11 _ _ (λ e. not_here 11 e (omega arith) (omega arith))
+    (beyond code 12 _ _ (λ e. not_here 12 e (omega arith) (omega arith))
+    (beyond code 13 _ _ (λ e. not_here 13 e (omega arith) (omega arith))
     (beyond code 14 _ _ (λ e. not_here 14 e (omega arith) (omega arith)) tt))))))))))))))
   where
     not_here : (n : ℕ) → code ≡ n → 1 ≤ n → n ≤ 15 → ⊥
@@ -83,5 +85,6 @@ pub damage_codes : DamageCodes
 damage_codes v code damaged =
     ⊎_elim
     (λ (low : code < 1). absurd (damaged.1 (no_stage v code (λ a b. omega arith))))
-    (λ (some : 1 ≤ code). ⊎_elim (λ (high : 15 < code). absurd (damaged.1 (no_stage v code (λ a b. omega arith)))) (λ (le : code ≤ 15). (some, le)) (cases_lt 15 code))
+    (λ (some : 1 ≤ code). ⊎_elim (λ (high : 15 < code). absurd (damaged.1 (no_stage v code (λ a b. omega arith))))
+    (λ (le : code ≤ 15). (some, le)) (cases_lt 15 code))
     (cases_lt code 1)

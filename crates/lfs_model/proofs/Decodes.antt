@@ -1,5 +1,6 @@
 -- What a reader finds is laid out as a writer would.
-use Rattle.std.proofs.Common.{◌≡◌, ◌<◌, ◌≤◌, ⊎_elim, ◌+◌, ◌*◌, ◌-◌, ◌/◌, ◌%◌, ◌==◌, ◌&&◌, nat_lt, nat_le, Bool, true, false, ℕ, zero, suc, List, [], ◌∷◌, length, Option, Some, None, refl, sym, ◌∙◌, ap, ap₂, subst, arith, slice_index}
+use Rattle.std.proofs.Common.{◌≡◌, ◌<◌, ◌≤◌, ⊎_elim, ◌+◌, ◌*◌, ◌-◌, ◌/◌, ◌%◌, ◌==◌, ◌&&◌, nat_lt, nat_le, Bool, true, false, ℕ, zero, suc}
+use Rattle.std.proofs.Common.{List, [], ◌∷◌, length, Option, Some, None, refl, sym, ◌∙◌, ap, ap₂, subst, arith, slice_index}
 use Rattle.std.proofs.lemmas.Bool.{cases_eq, cases_lt, lt-ltb, le-ltb, ltb-true, cond-true, cond-false}
 use Rattle.std.proofs.lemmas.Bool.{and_parts, leb-true}
 use Rattle.lfs_model.specs.declared.Kind.{Kind}
@@ -22,7 +23,8 @@ use Rattle.lfs_model.proofs.Encodes.{word_nil}
 use Rattle.lfs_model.proofs.Decoding.{value_found}
 use Rattle.lfs_model.proofs.InodePlaces.{widest}
 
-pub reached_within : (v : View) → Stages v → (e : Entry) → 0 < v.address e → (2 ≤ v.address e) × (v.address e < 2 + 64 * v.checkpoint.segments)
+pub reached_within : (v : View) → Stages v → (e : Entry) → 0 < v.address e
+    → (2 ≤ v.address e) × (v.address e < 2 + 64 * v.checkpoint.segments)
 reached_within v s (Usage j) lt = let f = s.usages.fresh (Usage j) refl lt in (f.0, f.1)
 reached_within v s (Map j) lt = let f = s.maps.fresh (Map j) refl lt in (f.0, f.1)
 reached_within v s (Inode n) lt = let f = s.inodes.fresh (Inode n) refl lt in (f.0, f.1)
@@ -58,7 +60,8 @@ address_of_word c a i lt = address_of_block c a (nonempty_word (block c a) i lt)
 kind_size : (form : ℕ) (k : Kind) (n : ℕ) → is_size form k n ≡ true → n ≤ 8511488
 unfolding is_size
 kind_size form File n e = leb-true n 8511488 e
-kind_size form Directory n e = let parts = and_parts (n % slot_len form == 0) (nat_le n (1024 * slot_len form)) e in let le = leb-true n (1024 * slot_len form) parts.1 in let most = widest form in omega arith
+kind_size form Directory n e = let parts = and_parts (n % slot_len form == 0) (nat_le n (1024 * slot_len form)) e in
+    let le = leb-true n (1024 * slot_len form) parts.1 in let most = widest form in omega arith
 kind_size form Link n e = let parts = and_parts (nat_le 1 n) (nat_le n 1023) e in let le : n ≤ 1023 = leb-true n 1023 parts.1 in omega arith
 
 small_size : (version n : ℕ) (b : List ℕ) → IsInode version n b → (header b).size ≤ 8511488
@@ -99,7 +102,8 @@ module _ (c : Content) (k : CheckpointValue) (m : LogMap) (sized : IsSized c) (s
   at_data : (n i : ℕ) → i < 112 → word (block c (address c k (Inode n))) (8 + i) ≡ address c k (Data n i)
   at_data n i low =
       sym (address_linked c k (Data n i)
-      ∙ cond-true (nat_lt i 112) (word (block c (address c k (Inode n))) (8 + i)) (word (block c (address c k (Leaf n ((i - 112) / 128)))) ((i - 112) % 128)) (lt-ltb i 112 low))
+      ∙ cond-true (nat_lt i 112) (word (block c (address c k (Inode n))) (8 + i))
+      (word (block c (address c k (Leaf n ((i - 112) / 128)))) ((i - 112) % 128)) (lt-ltb i 112 low))
 
   in_leaf : (n q i : ℕ) → i < 128 → word (block c (address c k (Leaf n q))) i ≡ address c k (Data n (112 + 128 * q + i))
   in_leaf n q i low =
@@ -107,7 +111,8 @@ module _ (c : Content) (k : CheckpointValue) (m : LogMap) (sized : IsSized c) (s
       let eq : (b - 112) / 128 ≡ q = omega arith in
       let ei : (b - 112) % 128 ≡ i = omega arith in
       sym (address_linked c k (Data n b)
-      ∙ cond-false (nat_lt b 112) (word (block c (address c k (Inode n))) (8 + b)) (word (block c (address c k (Leaf n ((b - 112) / 128)))) ((b - 112) % 128)) (le-ltb b 112 (omega arith))
+      ∙ cond-false (nat_lt b 112) (word (block c (address c k (Inode n))) (8 + b))
+      (word (block c (address c k (Leaf n ((b - 112) / 128)))) ((b - 112) % 128)) (le-ltb b 112 (omega arith))
       ∙ ap₂ (λ (x y : ℕ). word (block c (address c k (Leaf n x))) y) eq ei)
 
   in_double : (n q : ℕ) → word (block c (address c k (Double n))) q ≡ address c k (Leaf n (suc q))
@@ -129,7 +134,8 @@ module _ (c : Content) (k : CheckpointValue) (m : LogMap) (sized : IsSized c) (s
       subst (λ (b : List ℕ). 0 < length b) (sym (st.block n i)) (nonempty_index (block c (address c k (Data n i))) z.0 z.1)
 
   leaf_of : (n q : ℕ) → HasLeaf m n q → 0 < address c k (Leaf n q)
-  leaf_of n q has = let lt = data_of n (112 + 128 * q + has.0) has.2 in let e = in_leaf n q has.0 has.1 in address_of_word c (address c k (Leaf n q)) has.0 (omega arith)
+  leaf_of n q has = let lt = data_of n (112 + 128 * q + has.0) has.2 in let e = in_leaf n q has.0 has.1 in
+      address_of_word c (address c k (Leaf n q)) has.0 (omega arith)
 
   leaf_word : (n q : ℕ) → 0 < address c k (Leaf n q) → HasWord (view c k) (Leaf n q)
   leaf_word n zero lt = st.stages.roots.single n lt
@@ -153,20 +159,24 @@ module _ (c : Content) (k : CheckpointValue) (m : LogMap) (sized : IsSized c) (s
           absurd (cc)
 
   pub header_at : (n : ℕ) → 0 < address c k (Inode n) → m.header n ≡ Some (header (block c (address c k (Inode n))))
-  header_at n lt = st.header n ∙ cond-true (nat_lt 0 (address c k (Inode n))) (Some (header (block c (address c k (Inode n))))) None (lt-ltb 0 (address c k (Inode n)) lt)
+  header_at n lt = st.header n ∙ cond-true (nat_lt 0 (address c k (Inode n))) (Some (header (block c (address c k (Inode n))))) None
+      (lt-ltb 0 (address c k (Inode n)) lt)
 
   pub stored : (e : Entry) → Has m k.segments e → 0 < address c k e
   stored (Data n i) has = data_of n i has
   stored (Leaf n q) has = leaf_of n q has
-  stored (Double n) has = let lt = leaf_of n (suc has.0) has.2 in let e = in_double n has.0 in address_of_word c (address c k (Double n)) has.0 (omega arith)
+  stored (Double n) has = let lt = leaf_of n (suc has.0) has.2 in let e = in_double n has.0 in
+      address_of_word c (address c k (Double n)) has.0 (omega arith)
   stored (Inode n) has = inode_reached n has
-  stored (Map j) has = let lt = inode_reached (128 * j + has.0) has.2 in let e = in_map j has.0 has.1 in address_of_word c (address c k (Map j)) has.0 (omega arith)
+  stored (Map j) has = let lt = inode_reached (128 * j + has.0) has.2 in let e = in_map j has.0 has.1 in
+      address_of_word c (address c k (Map j)) has.0 (omega arith)
   stored (Usage j) has = (st.stages.usages.addresses j).1 has
 
   pub only : (e : Entry) → 0 < address c k e → Has m k.segments e
   only (Data n i) lt = has_data n i lt
   only (Leaf n q) lt = has_leaf n q lt
-  only (Double n) lt = let w = st.stages.roots.double n lt in let e = in_double n w.0 in let v = w.2 in (w.0, w.1, has_leaf n (suc w.0) (omega arith))
+  only (Double n) lt = let w = st.stages.roots.double n lt in let e = in_double n w.0 in let v = w.2 in
+      (w.0, w.1, has_leaf n (suc w.0) (omega arith))
   only (Inode n) lt = (header (block c (address c k (Inode n))), header_at n lt)
   only (Map j) lt =
       let w = st.stages.maps.nonempty j lt in
@@ -176,11 +186,16 @@ module _ (c : Content) (k : CheckpointValue) (m : LogMap) (sized : IsSized c) (s
   only (Usage j) lt = (st.stages.usages.addresses j).0 lt
 
   pub long : (e : Entry) → 0 < address c k e → length (block c (address c k e)) ≡ 512
-  long (Data n i) lt = let z = st.stages.blocks.nonzero n i lt in sized_block c sized (address c k (Data n i)) (nonempty_index (block c (address c k (Data n i))) z.0 z.1)
-  long (Leaf n q) lt = let z = leaf_word n q lt in sized_block c sized (address c k (Leaf n q)) (nonempty_word (block c (address c k (Leaf n q))) z.0 z.2)
-  long (Double n) lt = let z = st.stages.roots.double n lt in sized_block c sized (address c k (Double n)) (nonempty_word (block c (address c k (Double n))) z.0 z.2)
-  long (Inode n) lt = sized_block c sized (address c k (Inode n)) (formed_nonempty (layout_version k) n (block c (address c k (Inode n))) (st.stages.inodes.formed n lt))
-  long (Map j) lt = let z = st.stages.maps.nonempty j lt in sized_block c sized (address c k (Map j)) (nonempty_word (block c (address c k (Map j))) z.0 z.2)
+  long (Data n i) lt = let z = st.stages.blocks.nonzero n i lt in
+      sized_block c sized (address c k (Data n i)) (nonempty_index (block c (address c k (Data n i))) z.0 z.1)
+  long (Leaf n q) lt = let z = leaf_word n q lt in
+      sized_block c sized (address c k (Leaf n q)) (nonempty_word (block c (address c k (Leaf n q))) z.0 z.2)
+  long (Double n) lt = let z = st.stages.roots.double n lt in
+      sized_block c sized (address c k (Double n)) (nonempty_word (block c (address c k (Double n))) z.0 z.2)
+  long (Inode n) lt = sized_block c sized (address c k (Inode n))
+      (formed_nonempty (layout_version k) n (block c (address c k (Inode n))) (st.stages.inodes.formed n lt))
+  long (Map j) lt = let z = st.stages.maps.nonempty j lt in
+      sized_block c sized (address c k (Map j)) (nonempty_word (block c (address c k (Map j))) z.0 z.2)
   long (Usage j) lt = st.stages.usages.readable j lt
 
   spells : (e : Entry) → 0 < address c k e → Spells m (layout_version k) (address c k) (block c (address c k e)) e
@@ -224,7 +239,8 @@ module _ (c : Content) (k : CheckpointValue) (m : LogMap) (sized : IsSized c) (s
 
   inode_of_leaf : (n q : ℕ) → 0 < address c k (Leaf n q) → 0 < address c k (Inode n)
   inode_of_leaf n zero lt = let e = address_linked c k (Leaf n zero) in address_of_word c (address c k (Inode n)) 120 (omega arith)
-  inode_of_leaf n (suc q) lt = let e = address_linked c k (Leaf n (suc q)) in inode_of_double n (address_of_word c (address c k (Double n)) q (omega arith))
+  inode_of_leaf n (suc q) lt = let e = address_linked c k (Leaf n (suc q)) in
+      inode_of_double n (address_of_word c (address c k (Double n)) q (omega arith))
 
   inode_at : (n i : ℕ) → 0 < address c k (Data n i) → 0 < address c k (Inode n)
   inode_at n i lt =
@@ -261,7 +277,8 @@ module _ (c : Content) (k : CheckpointValue) (m : LogMap) (sized : IsSized c) (s
         let both : Some h ≡ Some (header (block c (address c k (Inode n)))) = sym is ∙ header_at n lt in
         let same : h ≡ header (block c (address c k (Inode n))) = cc in
         subst (λ (v : ℕ). IsForm v h.kind h.form) (sym st.version)
-        (subst (λ (x : Header). IsForm (layout_version k) x.kind x.form) (sym same) (of_version (layout_version k) n (block c (address c k (Inode n))) (st.stages.inodes.formed n lt)));
+        (subst (λ (x : Header). IsForm (layout_version k) x.kind x.form) (sym same)
+        (of_version (layout_version k) n (block c (address c k (Inode n))) (st.stages.inodes.formed n lt)));
     within = λ n i has.
         let lt = data_of n i has in
         let linode = inode_at n i lt in
@@ -269,9 +286,11 @@ module _ (c : Content) (k : CheckpointValue) (m : LogMap) (sized : IsSized c) (s
     small = λ n i has.
         let lt = data_of n i has in
         let w = st.stages.blocks.within n i lt in
-        let s : (header (block c (address c k (Inode n)))).size ≤ 8511488 = small_size (layout_version k) n (block c (address c k (Inode n))) (st.stages.inodes.formed n (inode_at n i lt)) in
+        let s : (header (block c (address c k (Inode n)))).size ≤ 8511488 =
+        small_size (layout_version k) n (block c (address c k (Inode n))) (st.stages.inodes.formed n (inode_at n i lt)) in
         omega arith;
-    nonzero = λ n i has. subst (λ (b : List ℕ). (o : ℕ) × (0 < slice_index b o)) (sym (st.block n i)) (st.stages.blocks.nonzero n i (data_of n i has));
+    nonzero = λ n i has.
+        subst (λ (b : List ℕ). (o : ℕ) × (0 < slice_index b o)) (sym (st.block n i)) (st.stages.blocks.nonzero n i (data_of n i has));
     past = past_end;
   }
 

@@ -1,5 +1,7 @@
 -- What a sector spells, as a function: the laws that every decoder meets.
-use Rattle.std.proofs.Common.{◌≡◌, ◌≤◌, ◌<◌, ◌+◌, ◌-◌, ◌*◌, ◌^◌, ◌↔◌, ◌&&◌, ◌==◌, Bool, true, false, cond, nat_le, nat_lt, not, ℕ, zero, suc, List, [], ◌∷◌, length, get_or, drop, Option, Some, None, IfSome, IfNone, inl, inr, ⊎_elim, ◌||◌, refl, sym, ap, subst, ◌∙◌, arith}
+use Rattle.std.proofs.Common.{◌≡◌, ◌≤◌, ◌<◌, ◌+◌, ◌-◌, ◌*◌, ◌^◌, ◌↔◌, ◌&&◌, ◌==◌, Bool, true, false, cond, nat_le, nat_lt, not, ℕ, zero}
+use Rattle.std.proofs.Common.{suc, List, [], ◌∷◌, length, get_or, drop, Option, Some, None, IfSome, IfNone, inl, inr, ⊎_elim, ◌||◌, refl}
+use Rattle.std.proofs.Common.{sym, ap, subst, ◌∙◌, arith}
 use Rattle.std.proofs.lemmas.Bool.{and_from, and_parts, leb-true, le-leb, ltb-true, lt-ltb, eqb-true, eq-eqb, ne_eqb, cases_Bool}
 use Rattle.std.proofs.lemmas.List.{get_or-drop, length-drop}
 use Rattle.std.proofs.lemmas.Slice.Eq.{bytes_eq-Decides}
@@ -10,12 +12,15 @@ use Rattle.lfs_model.specs.declared.Kind.TheVariants.{File, Directory, Link}
 use Rattle.lfs_model.specs.declared.BlockKind.{BlockKind}
 use Rattle.lfs_model.specs.declared.BlockKind.TheVariants.{Data, Leaf, Double, Inode, Map, Usage}
 use Rattle.lfs_model.specs.Fields.{value_in, read32}
-use Rattle.lfs_model.specs.Checkpoint.{CheckpointValue, FitsCheckpoint, IsSegmentCount, IsVersion, checkpoint_in, checkpoint_of, checkpoint_sector, is_segment_count, is_version, may_be_checkpoint}
+use Rattle.lfs_model.specs.Checkpoint.{CheckpointValue, FitsCheckpoint, IsSegmentCount, IsVersion, checkpoint_in, checkpoint_of}
+use Rattle.lfs_model.specs.Checkpoint.{checkpoint_sector, is_segment_count, is_version, may_be_checkpoint}
 use Rattle.lfs_model.specs.Inode.{InodeValue, FitsInode, IsForm, IsSize, inode_in, inode_of, inode_sector, is_form, is_size, may_be_inode}
-use Rattle.lfs_model.specs.Summary.{BlockNameValue, FitsSummary, IsPlaced, blocks_of, is_placed, may_be_summary, no_block, summary_in, summary_sector}
+use Rattle.lfs_model.specs.Summary.{BlockNameValue, FitsSummary, IsPlaced, blocks_of, is_placed, may_be_summary, no_block, summary_in}
+use Rattle.lfs_model.specs.Summary.{summary_sector}
 use Rattle.lfs_model.specs.Slot.{SlotValue, FitsSlot, IsName, is_name, may_be_slot, slot_bytes, slot_in, slot_of}
 use Rattle.lfs_model.specs.Tree.{name_len, slot_len}
-use Rattle.lfs_model.specs.Usage.{SegmentUse, FitsUsage, IsUse, IsUnused, is_use, is_unused, may_be_usage, no_use, usage_in, usage_of, usage_sector, use_at}
+use Rattle.lfs_model.specs.Usage.{SegmentUse, FitsUsage, IsUse, IsUnused, is_use, is_unused, may_be_usage, no_use, usage_in, usage_of}
+use Rattle.lfs_model.specs.Usage.{usage_sector, use_at}
 use Rattle.lfs_model.proofs.Numbers.{IsBytes}
 use Rattle.lfs_model.proofs.Parts.{read32-lt, read64-lt}
 use Rattle.lfs_model.proofs.Runs.{length-run, numbers_fit}
@@ -50,7 +55,8 @@ value_found of fits spell s v e =
     (only.1, parts.0, (bytes_eq-Decides s (spell (of s))).0 parts.1 ∙ ap spell only.1)
 
 pub value_is : {X : Type 0} (of : List ℕ → X) (fits : X → Bool) (spell : X → List ℕ) (s : List ℕ) (r : Option X)
-    → IfSome r (λ v. (of s ≡ v) × (fits v ≡ true) × (s ≡ spell v)) → IfNone r (fits (of s) ≡ true → s ≡ spell (of s) → ⊥) → r ≡ value_in of fits spell s
+    → IfSome r (λ v. (of s ≡ v) × (fits v ≡ true) × (s ≡ spell v)) → IfNone r (fits (of s) ≡ true → s ≡ spell (of s) → ⊥)
+    → r ≡ value_in of fits spell s
 value_is of fits spell s (Some v) found none = sym (value_some of fits spell s v found.0 found.1 found.2)
 value_is of fits spell s None found none =
     sym (only_none (fits (of s) && bytes_eq s (spell (of s))) (of s) (λ yes.
@@ -68,7 +74,8 @@ count_from n e =
     record { least = leb-true 64 n a.0; most = leb-true n 1024 b.0; eighths = eqb-true _ 0 b.1 }
 
 version_test : (v : ℕ) → IsVersion v → is_version v ≡ true
-version_test v is = elim is as (λ _. is_version v ≡ true) [ inl one ↦ subst (λ (n : ℕ). is_version n ≡ true) (sym one) refl | inr two ↦ subst (λ (n : ℕ). is_version n ≡ true) (sym two) refl ]
+version_test v is = elim is as (λ _. is_version v ≡ true)
+    [ inl one ↦ subst (λ (n : ℕ). is_version n ≡ true) (sym one) refl | inr two ↦ subst (λ (n : ℕ). is_version n ≡ true) (sym two) refl ]
 
 pub version_from : (v : ℕ) → is_version v ≡ true → IsVersion v
 version_from v e = ⊎_elim
@@ -77,7 +84,8 @@ version_from v e = ⊎_elim
     (cases_Bool (v == 1))
 
 checkpoint_test : (c : CheckpointValue) → FitsCheckpoint c → may_be_checkpoint c ≡ true
-checkpoint_test c p = and_from _ _ (version_test c.version p.version) (and_from _ _ (le-leb 1 c.number p.number) (count_test c.segments p.segments))
+checkpoint_test c p =
+    and_from _ _ (version_test c.version p.version) (and_from _ _ (le-leb 1 c.number p.number) (count_test c.segments p.segments))
 
 checkpoint_from : (s : List ℕ) → IsBytes s → length s ≡ 512 → may_be_checkpoint (checkpoint_of s) ≡ true → FitsCheckpoint (checkpoint_of s)
 checkpoint_from s bytes long e =
@@ -96,10 +104,12 @@ checkpoint_from s bytes long e =
 -- a checkpoint that fits is what its sector spells
 pub checkpoint_some : (s : List ℕ) (c : CheckpointValue) → FitsCheckpoint c → s ≡ checkpoint_sector c → checkpoint_in s ≡ Some c
 unfolding checkpoint_in
-checkpoint_some s c p e = value_some checkpoint_of may_be_checkpoint checkpoint_sector s c (ap (λ (x : List ℕ). checkpoint_of x) e ∙ checkpoint_back c p) (checkpoint_test c p) e
+checkpoint_some s c p e = value_some checkpoint_of may_be_checkpoint checkpoint_sector s c
+    (ap (λ (x : List ℕ). checkpoint_of x) e ∙ checkpoint_back c p) (checkpoint_test c p) e
 
 -- and nothing else is
-pub checkpoint_found : (s : List ℕ) (c : CheckpointValue) → IsBytes s → length s ≡ 512 → checkpoint_in s ≡ Some c → FitsCheckpoint c × (s ≡ checkpoint_sector c)
+pub checkpoint_found : (s : List ℕ) (c : CheckpointValue) → IsBytes s → length s ≡ 512 → checkpoint_in s ≡ Some c
+    → FitsCheckpoint c × (s ≡ checkpoint_sector c)
 unfolding checkpoint_in
 checkpoint_found s c bytes long e =
     let v = value_found checkpoint_of may_be_checkpoint checkpoint_sector s c e in
@@ -107,10 +117,12 @@ checkpoint_found s c bytes long e =
 
 -- what decodes both ways gives what the sector spells
 pub checkpoint_is : (s : List ℕ) → IsBytes s → length s ≡ 512 → (r : Option CheckpointValue)
-    → IfSome r (λ c. FitsCheckpoint c × (s ≡ checkpoint_sector c)) → IfNone r ((c : CheckpointValue) → FitsCheckpoint c → ¬ (s ≡ checkpoint_sector c)) → r ≡ checkpoint_in s
+    → IfSome r (λ c. FitsCheckpoint c × (s ≡ checkpoint_sector c))
+    → IfNone r ((c : CheckpointValue) → FitsCheckpoint c → ¬ (s ≡ checkpoint_sector c)) → r ≡ checkpoint_in s
 unfolding checkpoint_in
 checkpoint_is s bytes long (Some c) found none = sym (checkpoint_some s c found.0 found.1)
-checkpoint_is s bytes long None found none = value_is checkpoint_of may_be_checkpoint checkpoint_sector s None tt (λ fits e. none (checkpoint_of s) (checkpoint_from s bytes long fits) e)
+checkpoint_is s bytes long None found none = value_is checkpoint_of may_be_checkpoint checkpoint_sector s None tt
+    (λ fits e. none (checkpoint_of s) (checkpoint_from s bytes long fits) e)
 
 -- ---- inodes
 size_test : (form : ℕ) (k : Kind) (n : ℕ) → IsSize form k n → is_size form k n ≡ true
@@ -155,7 +167,8 @@ within_from : (n most : ℕ) → (nat_le 1 n && nat_le n most) ≡ true → (1 �
 within_from n most e = let a = and_parts _ _ e in (leb-true 1 n a.0, leb-true n most a.1)
 
 inode_test : (i : InodeValue) → FitsInode i → may_be_inode i ≡ true
-inode_test i p = and_from _ _ (within_test i.number 4095 p.number) (and_from _ _ (within_test i.links 1000 p.links) (and_from _ _ (form_test i.kind i.form p.form) (size_test i.form i.kind i.size p.size)))
+inode_test i p = and_from _ _ (within_test i.number 4095 p.number) (and_from _ _ (within_test i.links 1000 p.links)
+    (and_from _ _ (form_test i.kind i.form p.form) (size_test i.form i.kind i.size p.size)))
 
 inode_from : (s : List ℕ) → IsBytes s → length s ≡ 512 → may_be_inode (inode_of s) ≡ true → FitsInode (inode_of s)
 inode_from s bytes long e =
@@ -174,7 +187,8 @@ inode_from s bytes long e =
 
 pub inode_some : (s : List ℕ) (i : InodeValue) → FitsInode i → s ≡ inode_sector i → inode_in s ≡ Some i
 unfolding inode_in
-inode_some s i p e = value_some inode_of may_be_inode inode_sector s i (ap (λ (x : List ℕ). inode_of x) e ∙ inode_back i p) (inode_test i p) e
+inode_some s i p e =
+    value_some inode_of may_be_inode inode_sector s i (ap (λ (x : List ℕ). inode_of x) e ∙ inode_back i p) (inode_test i p) e
 
 pub inode_found : (s : List ℕ) (i : InodeValue) → IsBytes s → length s ≡ 512 → inode_in s ≡ Some i → FitsInode i × (s ≡ inode_sector i)
 unfolding inode_in
@@ -183,10 +197,12 @@ inode_found s i bytes long e =
     (subst FitsInode v.0 (inode_from s bytes long v.1), v.2)
 
 pub inode_is : (s : List ℕ) → IsBytes s → length s ≡ 512 → (r : Option InodeValue)
-    → IfSome r (λ i. FitsInode i × (s ≡ inode_sector i)) → IfNone r ((i : InodeValue) → FitsInode i → ¬ (s ≡ inode_sector i)) → r ≡ inode_in s
+    → IfSome r (λ i. FitsInode i × (s ≡ inode_sector i)) → IfNone r ((i : InodeValue) → FitsInode i → ¬ (s ≡ inode_sector i))
+    → r ≡ inode_in s
 unfolding inode_in
 inode_is s bytes long (Some i) found none = sym (inode_some s i found.0 found.1)
-inode_is s bytes long None found none = value_is inode_of may_be_inode inode_sector s None tt (λ fits e. none (inode_of s) (inode_from s bytes long fits) e)
+inode_is s bytes long None found none =
+    value_is inode_of may_be_inode inode_sector s None tt (λ fits e. none (inode_of s) (inode_from s bytes long fits) e)
 
 -- ---- summaries
 placed_test : (k : BlockKind) (f i : ℕ) → IsPlaced k f i → is_placed k f i ≡ true
@@ -208,11 +224,14 @@ placed_from Map f i e = let a = and_parts _ _ e in (eqb-true f 0 a.0, leb-true i
 placed_from Usage f i e = let a = and_parts _ _ e in (eqb-true f 0 a.0, leb-true i 15 a.1)
 
 -- a test of each element, at its place
-all_from_each : {X : Type 0} (p : X → Bool) (d : X) (xs : List X) → ((i : ℕ) → i < length xs → p (get_or xs i d) ≡ true) → list_all p xs ≡ true
+all_from_each : {X : Type 0} (p : X → Bool) (d : X) (xs : List X) → ((i : ℕ) → i < length xs → p (get_or xs i d) ≡ true)
+    → list_all p xs ≡ true
 all_from_each p d [] each = refl
-all_from_each p d (x ∷ xs) each = and_from (p x) (list_all p xs) (each 0 (omega arith)) (all_from_each p d xs (λ i lt. each (suc i) (omega arith)))
+all_from_each p d (x ∷ xs) each =
+    and_from (p x) (list_all p xs) (each 0 (omega arith)) (all_from_each p d xs (λ i lt. each (suc i) (omega arith)))
 
-each_from_all : {X : Type 0} (p : X → Bool) (d : X) (xs : List X) → list_all p xs ≡ true → (i : ℕ) → i < length xs → p (get_or xs i d) ≡ true
+each_from_all : {X : Type 0} (p : X → Bool) (d : X) (xs : List X) → list_all p xs ≡ true → (i : ℕ) → i < length xs
+    → p (get_or xs i d) ≡ true
 each_from_all p d [] e i lt = absurd (omega arith)
 each_from_all p d (x ∷ xs) e zero lt = (and_parts (p x) (list_all p xs) e).0
 each_from_all p d (x ∷ xs) e (suc i) lt = each_from_all p d xs (and_parts (p x) (list_all p xs) e).1 i (omega arith)
@@ -236,19 +255,16 @@ summary_from bs e =
 
 pub summary_some : (s : List ℕ) (bs : List BlockNameValue) → FitsSummary bs → s ≡ summary_sector bs → summary_in s ≡ Some bs
 unfolding summary_in
-summary_some s bs p e = value_some blocks_of may_be_summary summary_sector s bs (ap (λ (x : List ℕ). blocks_of x) e ∙ summary_back bs p) (summary_test bs p) e
-
-pub summary_found : (s : List ℕ) (bs : List BlockNameValue) → summary_in s ≡ Some bs → FitsSummary bs × (s ≡ summary_sector bs)
-unfolding summary_in
-summary_found s bs e =
-    let v = value_found blocks_of may_be_summary summary_sector s bs e in
-    (subst FitsSummary v.0 (summary_from (blocks_of s) v.1), v.2)
+summary_some s bs p e =
+    value_some blocks_of may_be_summary summary_sector s bs (ap (λ (x : List ℕ). blocks_of x) e ∙ summary_back bs p) (summary_test bs p) e
 
 pub summary_is : (s : List ℕ) (r : Option (List BlockNameValue))
-    → IfSome r (λ bs. FitsSummary bs × (s ≡ summary_sector bs)) → IfNone r ((bs : List BlockNameValue) → FitsSummary bs → ¬ (s ≡ summary_sector bs)) → r ≡ summary_in s
+    → IfSome r (λ bs. FitsSummary bs × (s ≡ summary_sector bs))
+    → IfNone r ((bs : List BlockNameValue) → FitsSummary bs → ¬ (s ≡ summary_sector bs)) → r ≡ summary_in s
 unfolding summary_in
 summary_is s (Some bs) found none = sym (summary_some s bs found.0 found.1)
-summary_is s None found none = value_is blocks_of may_be_summary summary_sector s None tt (λ fits e. none (blocks_of s) (summary_from (blocks_of s) fits) e)
+summary_is s None found none =
+    value_is blocks_of may_be_summary summary_sector s None tt (λ fits e. none (blocks_of s) (summary_from (blocks_of s) fits) e)
 
 -- ---- slots
 not_from : (b : Bool) → (b ≡ true → ⊥) → not b ≡ true
@@ -263,8 +279,10 @@ name_test : (limit : ℕ) (name : List ℕ) → IsName limit name → is_name li
 name_test limit name p =
     let dot : not (bytes_eq name (46 ∷ [])) ≡ true = not_from _ (λ e. p.dot ((bytes_eq-Decides name (46 ∷ [])).0 e)) in
     let dotdot : not (bytes_eq name (46 ∷ 46 ∷ [])) ≡ true = not_from _ (λ e. p.dotdot ((bytes_eq-Decides name (46 ∷ 46 ∷ [])).0 e)) in
-    let each = all_from_each (λ b. not (b == 0) && not (b == 47)) 0 name (λ i lt. and_from _ _ (not_from _ (λ e. (p.bytes i lt).0 (eqb-true _ 0 e))) (not_from _ (λ e. (p.bytes i lt).1 (eqb-true _ 47 e)))) in
-    and_from _ _ (le-leb 1 (length name) p.long) (and_from _ _ (le-leb (length name) limit p.short) (and_from _ _ each (and_from _ _ dot dotdot)))
+    let each = all_from_each (λ b. not (b == 0) && not (b == 47)) 0 name (λ i lt.
+    and_from _ _ (not_from _ (λ e. (p.bytes i lt).0 (eqb-true _ 0 e))) (not_from _ (λ e. (p.bytes i lt).1 (eqb-true _ 47 e)))) in
+    and_from _ _ (le-leb 1 (length name) p.long)
+    (and_from _ _ (le-leb (length name) limit p.short) (and_from _ _ each (and_from _ _ dot dotdot)))
 
 name_from : (limit : ℕ) (name : List ℕ) → is_name limit name ≡ true → IsName limit name
 name_from limit name e =
@@ -289,7 +307,8 @@ slot_from form v e = let a = and_parts _ _ e in record { number = within_from _ 
 
 pub slot_some : (form : ℕ) (b : List ℕ) (v : SlotValue) → FitsSlot form v → b ≡ slot_bytes form v → slot_in form b ≡ Some v
 unfolding slot_in
-slot_some form b v p e = value_some slot_of (may_be_slot form) (slot_bytes form) b v (ap (λ (x : List ℕ). slot_of x) e ∙ slot_back form v p) (slot_test form v p) e
+slot_some form b v p e = value_some slot_of (may_be_slot form) (slot_bytes form) b v (ap (λ (x : List ℕ). slot_of x) e ∙ slot_back form v p)
+    (slot_test form v p) e
 
 pub slot_found : (form : ℕ) (b : List ℕ) (v : SlotValue) → slot_in form b ≡ Some v → FitsSlot form v × (b ≡ slot_bytes form v)
 unfolding slot_in
@@ -298,10 +317,12 @@ slot_found form b v e =
     (subst (FitsSlot form) f.0 (slot_from form (slot_of b) f.1), f.2)
 
 pub slot_is : (form : ℕ) (b : List ℕ) (r : Option SlotValue)
-    → IfSome r (λ v. FitsSlot form v × (b ≡ slot_bytes form v)) → IfNone r ((v : SlotValue) → FitsSlot form v → ¬ (b ≡ slot_bytes form v)) → r ≡ slot_in form b
+    → IfSome r (λ v. FitsSlot form v × (b ≡ slot_bytes form v)) → IfNone r ((v : SlotValue) → FitsSlot form v → ¬ (b ≡ slot_bytes form v))
+    → r ≡ slot_in form b
 unfolding slot_in
 slot_is form b (Some v) found none = sym (slot_some form b v found.0 found.1)
-slot_is form b None found none = value_is slot_of (may_be_slot form) (slot_bytes form) b None tt (λ fits e. none (slot_of b) (slot_from form (slot_of b) fits) e)
+slot_is form b None found none =
+    value_is slot_of (may_be_slot form) (slot_bytes form) b None tt (λ fits e. none (slot_of b) (slot_from form (slot_of b) fits) e)
 
 -- ---- usage blocks
 -- what the counts of an entry say of each other
@@ -321,7 +342,8 @@ above n live =
 counts_test : (used live : ℕ) → Counts used live → counts_agree used live ≡ true
 counts_test zero live p = eq-eqb live 0 (p.both.0 refl)
 counts_test (suc n) zero p = let empty : suc n ≡ 0 = p.both.1 refl in cc
-counts_test (suc n) (suc m) p = above n (suc m) ∙ and_from _ _ (le-leb 1 (suc m) (omega arith)) (lt-ltb (suc m) (suc n) (p.fewer (omega arith)))
+counts_test (suc n) (suc m) p = above n (suc m)
+    ∙ and_from _ _ (le-leb 1 (suc m) (omega arith)) (lt-ltb (suc m) (suc n) (p.fewer (omega arith)))
 
 counts_from : (used live : ℕ) → counts_agree used live ≡ true → Counts used live
 counts_from zero live e =
@@ -375,16 +397,20 @@ usage_from s n bytes long e =
 
 pub usage_some : (s : List ℕ) (n : ℕ) (us : List SegmentUse) → FitsUsage n us → s ≡ usage_sector us → usage_in n s ≡ Some us
 unfolding usage_in
-usage_some s n us p e = value_some usage_of (may_be_usage n) usage_sector s us (ap (λ (x : List ℕ). usage_of x) e ∙ usage_back n us p) (usage_test n us p) e
+usage_some s n us p e =
+    value_some usage_of (may_be_usage n) usage_sector s us (ap (λ (x : List ℕ). usage_of x) e ∙ usage_back n us p) (usage_test n us p) e
 
-pub usage_found : (s : List ℕ) (n : ℕ) (us : List SegmentUse) → IsBytes s → length s ≡ 512 → usage_in n s ≡ Some us → FitsUsage n us × (s ≡ usage_sector us)
+pub usage_found : (s : List ℕ) (n : ℕ) (us : List SegmentUse) → IsBytes s → length s ≡ 512 → usage_in n s ≡ Some us
+    → FitsUsage n us × (s ≡ usage_sector us)
 unfolding usage_in
 usage_found s n us bytes long e =
     let v = value_found usage_of (may_be_usage n) usage_sector s us e in
     (subst (FitsUsage n) v.0 (usage_from s n bytes long v.1), v.2)
 
 pub usage_is : (s : List ℕ) (n : ℕ) → IsBytes s → length s ≡ 512 → (r : Option (List SegmentUse))
-    → IfSome r (λ us. FitsUsage n us × (s ≡ usage_sector us)) → IfNone r ((us : List SegmentUse) → FitsUsage n us → ¬ (s ≡ usage_sector us)) → r ≡ usage_in n s
+    → IfSome r (λ us. FitsUsage n us × (s ≡ usage_sector us)) → IfNone r ((us : List SegmentUse) → FitsUsage n us → ¬ (s ≡ usage_sector us))
+    → r ≡ usage_in n s
 unfolding usage_in
 usage_is s n bytes long (Some us) found none = sym (usage_some s n us found.0 found.1)
-usage_is s n bytes long None found none = value_is usage_of (may_be_usage n) usage_sector s None tt (λ fits e. none (usage_of s) (usage_from s n bytes long fits) e)
+usage_is s n bytes long None found none =
+    value_is usage_of (may_be_usage n) usage_sector s None tt (λ fits e. none (usage_of s) (usage_from s n bytes long fits) e)

@@ -1,12 +1,14 @@
 -- A directory without a name: a new one, or one that was taken out of the directory above it.
-use Rattle.std.proofs.Common.{◌≡◌, ◌≢◌, refl, sym, ap, subst, ◌∙◌, ℕ, ◌+◌, ◌*◌, ◌<◌, ◌≤◌, true, false, List, [], Option, Some, None, arith, cond, inl, inr, ◌⊎◌}
+use Rattle.std.proofs.Common.{◌≡◌, ◌≢◌, refl, sym, ap, subst, ◌∙◌, ℕ, ◌+◌, ◌*◌, ◌<◌, ◌≤◌, true, false, List, [], Option, Some, None, arith}
+use Rattle.std.proofs.Common.{cond, inl, inr, ◌⊎◌}
 use Rattle.std.specs.Prelude.{T, count_by, unwrap_or, not}
 use Rattle.std.specs.Ordering.{nat_cmp, eq_by_cmp}
 use Rattle.std.specs.Cmp.Lexicographic.{nat_list_cmp_total}
 use Rattle.std.proofs.lemmas.Cmp.{nat_cmp_total}
 use Rattle.std.specs.FinMap.{find, is_sorted}
 use Rattle.std.specs.FinMap.Entries.{is_sorted-put, is_sorted-where_key}
-use Rattle.lfs_model.specs.Tree.{Tree, Names, Node, File, Dir, Link, State, node, with_node, without, names_of, is_dir, entry, byte_cmp, names, links, links_at}
+use Rattle.lfs_model.specs.Tree.{Tree, Names, Node, File, Dir, Link, State, node, with_node, without, names_of, is_dir, entry, byte_cmp}
+use Rattle.lfs_model.specs.Tree.{names, links, links_at}
 use Rattle.lfs_model.specs.Need.{need, data_of, meta_of}
 use Rattle.lfs_model.specs.Sound.{Sound, NamesGive, IsReachable, root, below, IsWithinLimits, IsOfVersion, IsFile, IsKeptOpen}
 use Rattle.lfs_model.specs.Step.{with_tree}
@@ -72,7 +74,8 @@ module _ (N : ℕ) (s : State) (n form : ℕ) (was : IsDetached N s n) (empty : 
   there2 q some = let ne : q ≢ n = λ e. some (subst (λ x. node t2 x ≡ None) (sym e) gone) in (ne, λ none. some (same q ne ∙ none))
 
   dir2 : (q : ℕ) → is_dir (node t2 q) ≡ true → (q ≢ n) × (is_dir (node t q) ≡ true)
-  dir2 q dir = let ne = (there2 q (λ none. let no : is_dir (node t2 q) ≡ false = ap is_dir none in cc)).0 in (ne, sym (ap is_dir (same q ne)) ∙ dir)
+  dir2 q dir = let ne = (there2 q (λ none. let no : is_dir (node t2 q) ≡ false = ap is_dir none in cc)).0 in
+      (ne, sym (ap is_dir (same q ne)) ∙ dir)
 
   names2 : (q : ℕ) → names t2 q ≡ names t q
   names2 q =
@@ -104,7 +107,8 @@ module _ (N : ℕ) (s : State) (n form : ℕ) (was : IsDetached N s n) (empty : 
   under_only (inside {d = d} {k = k} x u e) = absurd (not_n d x k e (under_only u))
 
   subdirs2 : (ms : Names) → count_by (λ x. is_dir (node t2 x.1)) ms ≤ count_by (λ x. is_dir (node t x.1)) ms
-  subdirs2 ms = counts_more (λ (x : List ℕ × ℕ). is_dir (node t2 x.1)) (λ (x : List ℕ × ℕ). is_dir (node t x.1)) (λ x dir. (dir2 x.1 dir).1) ms
+  subdirs2 ms =
+      counts_more (λ (x : List ℕ × ℕ). is_dir (node t2 x.1)) (λ (x : List ℕ × ℕ). is_dir (node t x.1)) (λ x dir. (dir2 x.1 dir).1) ms
 
   pub links2 : (q : ℕ) → q ≢ n → links t2 q ≤ links t q
   links2 q ne = subst (λ (k : ℕ). k ≤ links t q) (sym (ap (links_at t2 q) (same q ne))) (by (node t q))
@@ -116,10 +120,15 @@ module _ (N : ℕ) (s : State) (n form : ℕ) (was : IsDetached N s n) (empty : 
       by (Some (Dir f ms)) = let e = subdirs2 ms in omega (arith, e)
 
   need2 : need t2 ≤ need t
-  need2 = let a = total_without nat_cmp_total data_of n t was.in_order in let b = total_without nat_cmp_total meta_of n t was.in_order in omega (arith, a, b)
+  need2 = let a = total_without nat_cmp_total data_of n t was.in_order in let b = total_without nat_cmp_total meta_of n t was.in_order in
+      omega (arith, a, b)
 
   file2 : (q : ℕ) → IsFile (node t q) → IsFile (node t2 q)
-  file2 q f = (f.0, same q (λ e. let at : node t q ≡ Some (Dir form []) = subst (λ x. node t x ≡ Some (Dir form [])) (sym e) empty in let file = f.1 in cc) ∙ f.1)
+  file2 q f = (
+    f.0,
+    same q (λ e. let at : node t q ≡ Some (Dir form []) = subst (λ x. node t x ≡ Some (Dir form [])) (sym e) empty in
+        let file = f.1 in cc) ∙ f.1,
+  )
 
   pub removed_sound : need t ≤ 47 * N → Sound N (with_tree s t2)
   removed_sound fits = record {
@@ -153,7 +162,8 @@ module _ (N : ℕ) (s : State) (n form : ℕ) (was : IsDetached N s n) (empty : 
 
 -- ---- a new one
 
-module _ (N : ℕ) (s : State) (sound : Sound N s) (n form : ℕ) (fresh : node s.tree n ≡ None) (in_range : (1 ≤ n) × (n ≤ 4095)) (known : form < s.version) where
+module _ (N : ℕ) (s : State) (sound : Sound N s) (n form : ℕ) (fresh : node s.tree n ≡ None) (in_range : (1 ≤ n) × (n ≤ 4095))
+    (known : form < s.version) where
   abbrev pub made : Node
   made = Dir form []
 
@@ -169,7 +179,8 @@ module _ (N : ℕ) (s : State) (sound : Sound N s) (n form : ℕ) (fresh : node 
   not_new : (q : ℕ) → node s.tree q ≢ None → q ≢ n
   not_new q some e = some (subst (λ x. node s.tree x ≡ None) (sym e) fresh)
 
-  each_kept : (P : Node → Type 0) → ((q : ℕ) (x : Node) → node s.tree q ≡ Some x → P x) → P made → (q : ℕ) (x : Node) → node t1 q ≡ Some x → P x
+  each_kept : (P : Node → Type 0) → ((q : ℕ) (x : Node) → node s.tree q ≡ Some x → P x) → P made → (q : ℕ) (x : Node) → node t1 q ≡ Some x
+      → P x
   each_kept P old new q x h = same_or_not q n
       (λ e. subst P (Some-injective _ _ (sym new_is ∙ subst (λ y. node t1 y ≡ Some x) e h)) new)
       (λ b. old q x (sym (kept q b) ∙ h))
@@ -188,20 +199,25 @@ module _ (N : ℕ) (s : State) (sound : Sound N s) (n form : ℕ) (fresh : node 
 
   entry_was : (q : ℕ) (x : List ℕ) (k : ℕ) → entry t1 q x ≡ Some k → entry s.tree q x ≡ Some k
   entry_was q x k e = same_or_not q n
-      (λ at. absurd (let none : entry t1 q x ≡ None = subst (λ y. entry t1 y x ≡ None) (sym at) (ap (λ o. find byte_cmp x (names_in_it o)) new_is) in cc))
+      (λ at. absurd (let none : entry t1 q x ≡ None =
+      subst (λ y. entry t1 y x ≡ None) (sym at) (ap (λ o. find byte_cmp x (names_in_it o)) new_is) in cc))
       (λ ne. sym (ap (λ o. find byte_cmp x (names_in_it o)) (kept q ne)) ∙ e)
 
   entry_kept : (q : ℕ) (x : List ℕ) (k : ℕ) → entry s.tree q x ≡ Some k → entry t1 q x ≡ Some k
-  entry_kept q x k e = ap (λ o. find byte_cmp x (names_in_it o)) (kept q (not_new q (λ none. let no : entry s.tree q x ≡ None = ap (λ o. find byte_cmp x (names_in_it o)) none in cc))) ∙ e
+  entry_kept q x k e = ap (λ o. find byte_cmp x (names_in_it o))
+      (kept q (not_new q (λ none. let no : entry s.tree q x ≡ None = ap (λ o. find byte_cmp x (names_in_it o)) none in cc))) ∙ e
 
   reached_kept : {q : ℕ} → IsReachable s.tree q → IsReachable t1 q
   reached_kept root = root
   reached_kept (below x r e) = below x (reached_kept r) (entry_kept _ x _ e)
 
   -- no name gives the new directory, so no directory has a subdirectory more
-  subdirs : (q f : ℕ) (ms : Names) → node s.tree q ≡ Some (Dir f ms) → count_by (λ x. is_dir (node t1 x.1)) ms ≡ count_by (λ x. is_dir (node s.tree x.1)) ms
-  subdirs q f ms is = total_same nat_list_cmp_total (λ v. cond (is_dir (node t1 v)) 1 0) (λ v. cond (is_dir (node s.tree v)) 1 0) ms (sound.limits q (Dir f ms) is).0
-      (λ x v found. ap (λ o. cond (is_dir o) 1 0) (kept v (not_new v (sound.named q x v (ap (λ o. find byte_cmp x (names_in_it o)) is ∙ found)))))
+  subdirs : (q f : ℕ) (ms : Names) → node s.tree q ≡ Some (Dir f ms)
+      → count_by (λ x. is_dir (node t1 x.1)) ms ≡ count_by (λ x. is_dir (node s.tree x.1)) ms
+  subdirs q f ms is = total_same nat_list_cmp_total (λ v. cond (is_dir (node t1 v)) 1 0) (λ v. cond (is_dir (node s.tree v)) 1 0) ms
+      (sound.limits q (Dir f ms) is).0
+      (λ x v found.
+      ap (λ o. cond (is_dir o) 1 0) (kept v (not_new v (sound.named q x v (ap (λ o. find byte_cmp x (names_in_it o)) is ∙ found)))))
 
   pub same_links : (q : ℕ) → q ≢ n → links t1 q ≡ links s.tree q
   same_links q ne = ap (links_at t1 q) (kept q ne) ∙ by (node s.tree q) refl
@@ -245,6 +261,7 @@ module _ (N : ℕ) (s : State) (sound : Sound N s) (n form : ℕ) (fresh : node 
     reached = λ q dir. same_or_not q n
         (λ e. inr (subst (λ x. Under t1 n x) (sym e) itself))
         (λ ne. inl (reached_kept (sound.reached q (sym (ap is_dir (kept q ne)) ∙ dir))));
-    held = λ q ne a some none. (let old = sound.held q a (there q ne some) (sym (same_names q) ∙ none) in record { file = file_kept q old.file; handle = old.handle });
+    held = λ q ne a some none. (let old = sound.held q a (there q ne some) (sym (same_names q) ∙ none) in
+        record { file = file_kept q old.file; handle = old.handle });
     handles = λ h q e. ((sound.handles h q e).0, file_kept q (sound.handles h q e).1);
   }

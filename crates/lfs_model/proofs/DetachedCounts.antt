@@ -1,11 +1,13 @@
 -- How counts of live blocks change as entries of a file leave at once, or a file is shown no more.
-use Rattle.std.proofs.Common.{◌≡◌, ◌<◌, ◌≤◌, ◌⊎◌, inl, inr, ⊎_elim, ◌+◌, ◌*◌, ◌-◌, ◌/◌, ◌==◌, ◌&&◌, cond, not, ℕ, zero, suc, Bool, true, false, get_or, Option, Some, None, refl, sym, ◌∙◌, ap, ap₂, subst, arith, eqb-true}
+use Rattle.std.proofs.Common.{◌≡◌, ◌<◌, ◌≤◌, ◌⊎◌, inl, inr, ⊎_elim, ◌+◌, ◌*◌, ◌-◌, ◌/◌, ◌==◌, ◌&&◌, cond, not, ℕ, zero, suc, Bool, true}
+use Rattle.std.proofs.Common.{false, get_or, Option, Some, None, refl, sym, ◌∙◌, ap, ap₂, subst, arith, eqb-true}
 use Rattle.std.proofs.lemmas.Bool.{cases_lt, cases_Bool, cond-true, cond-false, false_from_ne_true}
 use Rattle.lfs_model.specs.Content.{Content}
 use Rattle.lfs_model.specs.Detaching.{IsCut, IsDetaching, DetachedCounts, DetachedLive}
 use Rattle.lfs_model.specs.Entry.{Entry, Data, Leaf, Double, Inode, Map, Usage, Header}
 use Rattle.lfs_model.specs.Laid.{IsLaid}
-use Rattle.lfs_model.specs.Memory.{Memory, file_of, is_unlinked, is_nameless, is_shown, is_held, those, settled_at, memory_view, count_of, live_of, held_of}
+use Rattle.lfs_model.specs.Memory.{Memory, file_of, is_unlinked, is_nameless, is_shown, is_held, those, settled_at, memory_view, count_of}
+use Rattle.lfs_model.specs.Memory.{live_of, held_of}
 use Rattle.lfs_model.specs.Reach.{Row}
 use Rattle.lfs_model.specs.Stands.{LogMap, count_up, is_live}
 use Rattle.lfs_model.proofs.Detaching.{of_file_or_not}
@@ -13,7 +15,8 @@ use Rattle.lfs_model.proofs.Entries.{data_parent_low, data_parent_high}
 use Rattle.lfs_model.proofs.Live.{count_up_none, count_up_more}
 
 -- ---- two tests of which one or none holds where a third does
-count_up_sum : (p q r : ℕ → Bool) (n : ℕ) → ((x : ℕ) → x < n → cond {A = ℕ} (p x) 1 0 + cond {A = ℕ} (q x) 1 0 ≡ cond {A = ℕ} (r x) 1 0) → count_up p n + count_up q n ≡ count_up r n
+count_up_sum : (p q r : ℕ → Bool) (n : ℕ) → ((x : ℕ) → x < n → cond {A = ℕ} (p x) 1 0 + cond {A = ℕ} (q x) 1 0 ≡ cond {A = ℕ} (r x) 1 0)
+    → count_up p n + count_up q n ≡ count_up r n
 count_up_sum p q r zero each = omega (arith, count_up_none p, count_up_none q, count_up_none r)
 count_up_sum p q r (suc n) each =
     let rest = count_up_sum p q r n (λ x lt. each x (omega arith)) in
@@ -29,15 +32,18 @@ one_if b = cond {A = ℕ} b 1 0
 
 -- the addresses of one are those of the second and third, and the rows are the same
 pub counts_sum : (p q r : Entry → Bool) (P Q R : Memory) → P.rows ≡ R.rows → Q.rows ≡ R.rows
-    → ((x : Entry) (a : ℕ) → 0 < a → one_if (settled_at (those p P.at x) == a) + one_if (settled_at (those q Q.at x) == a) ≡ one_if (settled_at (those r R.at x) == a))
+    → ((x : Entry) (a : ℕ) → 0 < a
+    → one_if (settled_at (those p P.at x) == a) + one_if (settled_at (those q Q.at x) == a) ≡ one_if (settled_at (those r R.at x) == a))
     → (s : ℕ) → count_of p P s + count_of q Q s ≡ count_of r R s
-counts_sum p q r P Q R rows_p rows_q each s = count_up_sum (is_live (memory_view p P) s) (is_live (memory_view q Q) s) (is_live (memory_view r R) s) 64 (λ i lt.
+counts_sum p q r P Q R rows_p rows_q each s =
+    count_up_sum (is_live (memory_view p P) s) (is_live (memory_view q Q) s) (is_live (memory_view r R) s) 64 (λ i lt.
     ap₂ (λ (b c : ℕ). b + c)
     (ap (λ (f : ℕ → Row). one_if (has_address (those p P.at) (get_or (f s) i None) (2 + 64 * s + i))) rows_p)
     (ap (λ (f : ℕ → Row). one_if (has_address (those q Q.at) (get_or (f s) i None) (2 + 64 * s + i))) rows_q)
     ∙ at_place (get_or (R.rows s) i None) (2 + 64 * s + i) (omega arith))
   where
-    at_place : (o : Option Entry) (a : ℕ) → 0 < a → one_if (has_address (those p P.at) o a) + one_if (has_address (those q Q.at) o a) ≡ one_if (has_address (those r R.at) o a)
+    at_place : (o : Option Entry) (a : ℕ) → 0 < a
+        → one_if (has_address (those p P.at) o a) + one_if (has_address (those q Q.at) o a) ≡ one_if (has_address (those r R.at) o a)
     at_place None a lt = refl
     at_place (Some x) a lt = each x a lt
 
@@ -45,7 +51,8 @@ counts_sum p q r P Q R rows_p rows_q each s = count_up_sum (is_live (memory_view
 pub nowhere : (a b : ℕ) → 0 < a → b ≡ 0 → one_if (settled_at b == a) ≡ 0
 nowhere a b lt is =
     ap (λ (b : ℕ). one_if (settled_at b == a)) is
-    ∙ ap {B = ℕ} one_if (false_from_ne_true (settled_at 0 == a) (λ h. let z : settled_at 0 ≡ a = eqb-true (settled_at 0) a h in omega arith))
+    ∙ ap {B = ℕ} one_if
+    (false_from_ne_true (settled_at 0 == a) (λ h. let z : settled_at 0 ≡ a = eqb-true (settled_at 0) a h in omega arith))
 
 -- where no test holds, nothing is counted
 pub count_nothing : (is : Entry → Bool) (M : Memory) → ((x : Entry) → is x ≡ false) → (s : ℕ) → count_of is M s ≡ 0
@@ -56,7 +63,8 @@ count_nothing is M none s =
     omega arith
 
 -- with the same addresses and rows counts are the same
-pub counts_alike : (p r : Entry → Bool) (P R : Memory) → P.rows ≡ R.rows → ((x : Entry) → those p P.at x ≡ those r R.at x) → (s : ℕ) → count_of p P s ≡ count_of r R s
+pub counts_alike : (p r : Entry → Bool) (P R : Memory) → P.rows ≡ R.rows → ((x : Entry) → those p P.at x ≡ those r R.at x) → (s : ℕ)
+    → count_of p P s ≡ count_of r R s
 counts_alike p r P R rows same s =
     let none = count_nothing (λ x. false) R (λ x. refl) s in
     let sum = counts_sum p (λ x. false) r P R R rows refl (λ x a lt.
@@ -71,15 +79,18 @@ and_false false = refl
 
 -- ---- entries of a file leave
 pub detached_counts : DetachedCounts
-detached_counts m M n gone m' M' p is = counts_sum is (λ x. is x && gone x) is M' M M p.rows refl (λ x a lt. by_tests x a lt (is x) (gone x) refl refl)
+detached_counts m M n gone m' M' p is =
+    counts_sum is (λ x. is x && gone x) is M' M M p.rows refl (λ x a lt. by_tests x a lt (is x) (gone x) refl refl)
   where
     -- an address is there after, or was there before
-    split : (g : Bool) (a b c : ℕ) → 0 < a → b ≡ cond {A = ℕ} g 0 c → one_if (settled_at b == a) + one_if (settled_at (cond {A = ℕ} g c 0) == a) ≡ one_if (settled_at c == a)
+    split : (g : Bool) (a b c : ℕ) → 0 < a → b ≡ cond {A = ℕ} g 0 c
+        → one_if (settled_at b == a) + one_if (settled_at (cond {A = ℕ} g c 0) == a) ≡ one_if (settled_at c == a)
     split true a b c lt is = let z = nowhere a b lt is in omega arith
     split false a b c lt is = let z = nowhere a 0 lt refl in let e = ap (λ (b : ℕ). one_if (settled_at b == a)) is in omega arith
 
     by_tests : (x : Entry) (a : ℕ) → 0 < a → (b g : Bool) → is x ≡ b → gone x ≡ g
-        → one_if (settled_at (those is M'.at x) == a) + one_if (settled_at (those (λ x. is x && gone x) M.at x) == a) ≡ one_if (settled_at (those is M.at x) == a)
+        → one_if (settled_at (those is M'.at x) == a) + one_if (settled_at (those (λ x. is x && gone x) M.at x) == a)
+        ≡ one_if (settled_at (those is M.at x) == a)
     by_tests x a lt true g on is_g =
         let at : M'.at x ≡ cond {A = ℕ} g 0 (M.at x) = ⊎_elim
         (λ (yes_gone : gone x ≡ true). p.none x yes_gone ∙ sym (cond-true (gone x) 0 (M.at x) yes_gone))
@@ -101,10 +112,12 @@ detached_counts m M n gone m' M' p is = counts_sum is (λ x. is x && gone x) is 
 pub shown_in : (m : LogMap) (k : ℕ) (x : Entry) → file_of x ≡ Some k → is_shown m x ≡ not (is_nameless m k)
 shown_in m k x is = ap (λ (f : Option ℕ). elim f as (λ z. Bool) [ None ↦ true | Some a ↦ not (is_nameless m a) ]) is
 
-pub shown_outside : (m m' : LogMap) (n : ℕ) → ((k : ℕ) → (k ≡ n → ⊥) → m'.header k ≡ m.header k) → (x : Entry) → (file_of x ≡ Some n → ⊥) → is_shown m' x ≡ is_shown m x
+pub shown_outside : (m m' : LogMap) (n : ℕ) → ((k : ℕ) → (k ≡ n → ⊥) → m'.header k ≡ m.header k) → (x : Entry) → (file_of x ≡ Some n → ⊥)
+    → is_shown m' x ≡ is_shown m x
 shown_outside m m' n headers x out = go (file_of x) refl
   where
-    go : (f : Option ℕ) → file_of x ≡ f → elim f as (λ z. Bool) [ None ↦ true | Some a ↦ not (is_nameless m' a) ] ≡ elim f as (λ z. Bool) [ None ↦ true | Some a ↦ not (is_nameless m a) ]
+    go : (f : Option ℕ) → file_of x ≡ f → elim f as (λ z. Bool) [ None ↦ true | Some a ↦ not (is_nameless m' a) ] ≡ elim f as (λ z. Bool)
+        [ None ↦ true | Some a ↦ not (is_nameless m a) ]
     go None is = refl
     go (Some a) is = ap (λ (h : Option Header). not (is_unlinked h)) (headers a (λ same. out (is ∙ ap Some same)))
 
@@ -127,11 +140,13 @@ whole_file n gone cut whole x is = go x is
     go (Map j) is = let bad : None ≡ Some n = is in absurd (cc)
     go (Usage j) is = let bad : None ≡ Some n = is in absurd (cc)
 
-module _ (e : Content) (m : LogMap) (M : Memory) (o n : ℕ) (gone : Entry → Bool) (m' : LogMap) (M' : Memory) (laid : IsLaid e m M o) (p : IsDetaching m M n gone m' M') where
+module _ (e : Content) (m : LogMap) (M : Memory) (o n : ℕ) (gone : Entry → Bool) (m' : LogMap) (M' : Memory) (laid : IsLaid e m M o)
+    (p : IsDetaching m M n gone m' M') where
   -- if the inode goes, so does all of its file
   shown_staying : (x : Entry) → gone x ≡ false → gone (Inode n) ≡ false → is_shown m' x ≡ is_shown m x
   shown_staying x off here = ⊎_elim
-      (λ (own : file_of x ≡ Some n). shown_in m' n x own ∙ ap (λ (h : Option Header). not (is_unlinked h)) (p.map.header ∙ cond-false (gone (Inode n)) None (m.header n) here) ∙ sym (shown_in m n x own))
+      (λ (own : file_of x ≡ Some n). shown_in m' n x own ∙ ap (λ (h : Option Header). not (is_unlinked h))
+      (p.map.header ∙ cond-false (gone (Inode n)) None (m.header n) here) ∙ sym (shown_in m n x own))
       (λ (out : file_of x ≡ Some n → ⊥). shown_outside m m' n p.map.headers x out)
       (of_file_or_not n x)
 
@@ -171,7 +186,8 @@ module _ (e : Content) (m : LogMap) (M : Memory) (o n : ℕ) (gone : Entry → B
       (shown_now x))
 
   -- a test that holds, or doesn't, for each entry of the file
-  all_of_it : (is : Entry → Bool) → ((x : Entry) → file_of x ≡ Some n → is x ≡ true) → (s : ℕ) → count_of is M' s + count_of gone M s ≡ count_of is M s
+  all_of_it : (is : Entry → Bool) → ((x : Entry) → file_of x ≡ Some n → is x ≡ true) → (s : ℕ)
+      → count_of is M' s + count_of gone M s ≡ count_of is M s
   all_of_it is each s =
       let c = detached_counts m M n gone m' M' p is s in
       let same = counts_alike (λ x. is x && gone x) gone M M refl (λ x. ap (λ (b : Bool). cond {A = ℕ} b (M.at x) 0) (both x)) s in
@@ -201,11 +217,17 @@ detached_live e m M o n gone m' M' laid p = (named, nameless)
     named : is_nameless m n ≡ false → (s : ℕ) → (live_of m' M' s + count_of gone M s ≡ live_of m M s) × (held_of m' M' s ≡ held_of m M s)
     named has s =
         let l = live_alike e m M o n gone m' M' laid p s in
-        let c = all_of_it e m M o n gone m' M' laid p (is_shown m) (λ x is. shown_in m n x is ∙ ap not has) s in
-        (omega arith, held_alike e m M o n gone m' M' laid p s ∙ none_of_it e m M o n gone m' M' laid p (is_held m) (λ x is. ap not (shown_in m n x is ∙ ap not has)) s)
+        let c = all_of_it e m M o n gone m' M' laid p (is_shown m) (λ x is. shown_in m n x is ∙ ap not has) s in (
+          omega arith,
+          held_alike e m M o n gone m' M' laid p s
+              ∙ none_of_it e m M o n gone m' M' laid p (is_held m) (λ x is. ap not (shown_in m n x is ∙ ap not has)) s,
+        )
 
     nameless : is_nameless m n ≡ true → (s : ℕ) → (live_of m' M' s ≡ live_of m M s) × (held_of m' M' s + count_of gone M s ≡ held_of m M s)
     nameless has s =
         let h = held_alike e m M o n gone m' M' laid p s in
-        let c = all_of_it e m M o n gone m' M' laid p (is_held m) (λ x is. ap not (shown_in m n x is ∙ ap not has)) s in
-        (live_alike e m M o n gone m' M' laid p s ∙ none_of_it e m M o n gone m' M' laid p (is_shown m) (λ x is. shown_in m n x is ∙ ap not has) s, omega arith)
+        let c = all_of_it e m M o n gone m' M' laid p (is_held m) (λ x is. ap not (shown_in m n x is ∙ ap not has)) s in (
+          live_alike e m M o n gone m' M' laid p s
+              ∙ none_of_it e m M o n gone m' M' laid p (is_shown m) (λ x is. shown_in m n x is ∙ ap not has) s,
+          omega arith,
+        )

@@ -1,5 +1,6 @@
 -- Entries of one file leave at once, with all that is below them.
-use Rattle.std.proofs.Common.{◌≡◌, ◌<◌, ◌≤◌, ◌⊎◌, inl, inr, ◌↔◌, ⊎_elim, ◌+◌, ◌*◌, ◌-◌, ◌/◌, ◌%◌, ◌==◌, cond, ℕ, suc, Bool, true, false, List, [], length, get_or, Option, Some, None, refl, sym, ◌∙◌, ap, subst, arith, eq-eqb, eqb-true}
+use Rattle.std.proofs.Common.{◌≡◌, ◌<◌, ◌≤◌, ◌⊎◌, inl, inr, ◌↔◌, ⊎_elim, ◌+◌, ◌*◌, ◌-◌, ◌/◌, ◌%◌, ◌==◌, cond, ℕ, suc, Bool, true, false}
+use Rattle.std.proofs.Common.{List, [], length, get_or, Option, Some, None, refl, sym, ◌∙◌, ap, subst, arith, eq-eqb, eqb-true}
 use Rattle.std.proofs.lemmas.Bool.{cases_eq, cases_Bool, cond-true, cond-false}
 use Rattle.lfs_model.specs.Content.{Content, block}
 use Rattle.lfs_model.specs.Detaching.{is_of, IsCleared, IsDetaching, Detaching}
@@ -31,17 +32,21 @@ pub is_of_true : (n : ℕ) (x : Entry) → is_of n x ≡ true → file_of x ≡ 
 is_of_true n x on = go (file_of x) refl
   where
     go : (f : Option ℕ) → file_of x ≡ f → file_of x ≡ Some n
-    go None is = let bad : false ≡ true = sym (ap (λ (f : Option ℕ). elim f as (λ z. Bool) [ None ↦ false | Some k ↦ k == n ]) is) ∙ on in absurd (cc)
-    go (Some k) is = is ∙ ap Some (eqb-true k n (sym (ap (λ (f : Option ℕ). elim f as (λ z. Bool) [ None ↦ false | Some k ↦ k == n ]) is) ∙ on))
+    go None is = let bad : false ≡ true = sym (ap (λ (f : Option ℕ). elim f as (λ z. Bool) [ None ↦ false | Some k ↦ k == n ]) is) ∙ on in
+        absurd (cc)
+    go (Some k) is = is
+        ∙ ap Some (eqb-true k n (sym (ap (λ (f : Option ℕ). elim f as (λ z. Bool) [ None ↦ false | Some k ↦ k == n ]) is) ∙ on))
 
 pub is_of_no : (n : ℕ) (x : Entry) → (file_of x ≡ Some n → ⊥) → is_of n x ≡ false
-is_of_no n x out = ⊎_elim (λ (on : is_of n x ≡ true). absurd (out (is_of_true n x on))) (λ (off : is_of n x ≡ false). off) (cases_Bool (is_of n x))
+is_of_no n x out =
+    ⊎_elim (λ (on : is_of n x ≡ true). absurd (out (is_of_true n x on))) (λ (off : is_of n x ≡ false). off) (cases_Bool (is_of n x))
 
 true_or_false : (b : Bool) → b ≡ true → b ≡ false → ⊥
 true_or_false b on off = let bad : true ≡ false = sym on ∙ off in absurd (cc)
 
 -- ---- memory without the entries of a set
-module _ (e : Content) (m m' : LogMap) (M : Memory) (o : ℕ) (laid : IsLaid e m M o) (n : ℕ) (gone : Entry → Bool) (M' : Memory) (p : IsDetaching m M n gone m' M') where
+module _ (e : Content) (m m' : LogMap) (M : Memory) (o : ℕ) (laid : IsLaid e m M o) (n : ℕ) (gone : Entry → Bool) (M' : Memory)
+    (p : IsDetaching m M n gone m' M') where
   pub at_cond : (x : Entry) → M'.at x ≡ cond (gone x) 0 (M.at x)
   at_cond x = ⊎_elim
       (λ (on : gone x ≡ true). p.none x on ∙ sym (cond-true (gone x) 0 (M.at x) on))
@@ -68,7 +73,8 @@ module _ (e : Content) (m m' : LogMap) (M : Memory) (o : ℕ) (laid : IsLaid e m
   above_at x lt = p.others (parent x) (above_stays x (stays x lt))
 
   other_file : (x : Entry) → (file_of x ≡ Some n → ⊥) → gone x ≡ false
-  other_file x out = ⊎_elim (λ (on : gone x ≡ true). absurd (out (p.cut.of_file x on))) (λ (off : gone x ≡ false). off) (cases_Bool (gone x))
+  other_file x out =
+      ⊎_elim (λ (on : gone x ≡ true). absurd (out (p.cut.of_file x on))) (λ (off : gone x ≡ false). off) (cases_Bool (gone x))
 
   table_at : (x : Entry) → file_of x ≡ None → M'.at x ≡ M.at x
   table_at x is = p.others x (other_file x (λ h. let bad : None ≡ Some n = sym is ∙ h in absurd (cc)))
@@ -81,14 +87,16 @@ module _ (e : Content) (m m' : LogMap) (M : Memory) (o : ℕ) (laid : IsLaid e m
   same_staying : (x : Entry) → gone x ≡ false → SameAt m m' x
   same_staying (Data k i) off = ⊎_elim
       (λ (here : k ≡ n).
-      ap (λ (k : ℕ). m'.block k i) here ∙ p.map.block i ∙ cond-false (gone (Data n i)) [] (m.block n i) (ap (λ (k : ℕ). gone (Data k i)) (sym here) ∙ off) ∙ ap (λ (k : ℕ). m.block k i) (sym here))
+      ap (λ (k : ℕ). m'.block k i) here ∙ p.map.block i ∙ cond-false (gone (Data n i)) [] (m.block n i)
+      (ap (λ (k : ℕ). gone (Data k i)) (sym here) ∙ off) ∙ ap (λ (k : ℕ). m.block k i) (sym here))
       (λ (away : k ≡ n → ⊥). p.map.blocks k i away)
       (cases_eq k n)
   same_staying (Leaf k q) off = tt
   same_staying (Double k) off = tt
   same_staying (Inode k) off = ⊎_elim
       (λ (here : k ≡ n).
-      ap m'.header here ∙ p.map.header ∙ cond-false (gone (Inode n)) None (m.header n) (ap (λ (k : ℕ). gone (Inode k)) (sym here) ∙ off) ∙ ap m.header (sym here))
+      ap m'.header here ∙ p.map.header ∙ cond-false (gone (Inode n)) None (m.header n) (ap (λ (k : ℕ). gone (Inode k)) (sym here) ∙ off)
+      ∙ ap m.header (sym here))
       (λ (away : k ≡ n → ⊥). p.map.headers k away)
       (cases_eq k n)
   same_staying (Map j) off = tt
@@ -101,7 +109,8 @@ module _ (e : Content) (m m' : LogMap) (M : Memory) (o : ℕ) (laid : IsLaid e m
   blocks_now k i = ⊎_elim
       (λ (on : gone (Data k i) ≡ true).
       let here = number_of k i on in
-      let b = ap length (ap (λ (k : ℕ). m'.block k i) here ∙ p.map.block i ∙ cond-true (gone (Data n i)) [] (m.block n i) (ap (λ (k : ℕ). gone (Data k i)) (sym here) ∙ on)) in
+      let b = ap length (ap (λ (k : ℕ). m'.block k i) here ∙ p.map.block i
+      ∙ cond-true (gone (Data n i)) [] (m.block n i) (ap (λ (k : ℕ). gone (Data k i)) (sym here) ∙ on)) in
       let a = p.none (Data k i) on in
       (λ has. absurd (omega arith), λ lt. absurd (omega arith)))
       (λ (off : gone (Data k i) ≡ false).
@@ -159,24 +168,30 @@ module _ (e : Content) (m m' : LogMap) (M : Memory) (o : ℕ) (laid : IsLaid e m
   spells_kept : (x : Entry) → gone x ≡ false → (file_of x ≡ Some n → M.at x ≡ 1 → ⊥) → 0 < M.at x → SpellsBlock m' M'.at (M'.bytes x) x
   spells_kept x off not_cleared lt =
       subst (λ (b : List ℕ). SpellsBlock m' M'.at b x) (sym (p.kept x off not_cleared))
-      (spells_children m m' M.at M'.at (M.bytes x) x (same_staying x off) (λ z nz up. child_same x z up nz off not_cleared) (laid.spells x lt))
+      (spells_children m m' M.at M'.at (M.bytes x) x (same_staying x off) (λ z nz up. child_same x z up nz off not_cleared)
+      (laid.spells x lt))
 
   -- the word of a block without pointers to them
-  word_now : (y c : Entry) (w : ℕ) (b b' : List ℕ) → IsCleared gone y b b' → parent c ≡ y → pointer c ≡ w → (c ≡ y → ⊥) → ((k q : ℕ) → c ≡ Leaf k q → q ≤ 128) → word b w ≡ M.at c → word b' w ≡ M'.at c
+  word_now : (y c : Entry) (w : ℕ) (b b' : List ℕ) → IsCleared gone y b b' → parent c ≡ y → pointer c ≡ w → (c ≡ y → ⊥)
+      → ((k q : ℕ) → c ≡ Leaf k q → q ≤ 128) → word b w ≡ M.at c → word b' w ≡ M'.at c
   word_now y c w b b' clear up at ne low was =
       ap (word b') (sym at) ∙ clear.pointers c up ne low ∙ ap (λ (a : ℕ). cond (gone c) 0 a) (ap (word b) at ∙ was) ∙ sym (at_cond c)
 
   spells_cleared : (x : Entry) (b b' : List ℕ) → gone x ≡ false → IsCleared gone x b b' → SpellsBlock m M.at b x → SpellsBlock m' M'.at b' x
   spells_cleared (Data k i) b b' off clear is = clear.same k i refl ∙ is ∙ sym (same_staying (Data k i) off)
   spells_cleared (Leaf k q) b b' off clear is = λ i low.
-      word_now (Leaf k q) (Data k (112 + 128 * q + i)) i b b' clear (leaf_parent k q i low) (leaf_pointer k q i low) (λ h. absurd (cc)) (λ k q h. absurd (cc)) (is i low)
+      word_now (Leaf k q) (Data k (112 + 128 * q + i)) i b b' clear (leaf_parent k q i low) (leaf_pointer k q i low) (λ h. absurd (cc))
+      (λ k q h. absurd (cc)) (is i low)
   spells_cleared (Double k) b b' off clear is = λ q low.
-      word_now (Double k) (Leaf k (suc q)) q b b' clear refl refl (λ h. absurd (cc)) (λ a r h. let s : suc q ≡ r = cc in omega arith) (is q low)
+      word_now (Double k) (Leaf k (suc q)) q b b' clear refl refl (λ h. absurd (cc)) (λ a r h. let s : suc q ≡ r = cc in omega arith)
+      (is q low)
   spells_cleared (Inode k) b b' off clear is = record {
     formed = clear.formed k refl;
     header = same_staying (Inode k) off ∙ is.header ∙ ap Some (sym (clear.header k refl));
-    direct = λ i low. word_now (Inode k) (Data k i) (8 + i) b b' clear (data_parent_low k i low) (data_pointer_low k i low) (λ h. absurd (cc)) (λ k q h. absurd (cc)) (is.direct i low);
-    single = word_now (Inode k) (Leaf k 0) 120 b b' clear refl refl (λ h. absurd (cc)) (λ a r h. let s : 0 ≡ r = cc in omega arith) is.single;
+    direct = λ i low. word_now (Inode k) (Data k i) (8 + i) b b' clear (data_parent_low k i low) (data_pointer_low k i low)
+        (λ h. absurd (cc)) (λ k q h. absurd (cc)) (is.direct i low);
+    single = word_now (Inode k) (Leaf k 0) 120 b b' clear refl refl (λ h. absurd (cc))
+        (λ a r h. let s : 0 ≡ r = cc in omega arith) is.single;
     double = word_now (Inode k) (Double k) 121 b b' clear refl refl (λ h. absurd (cc)) (λ k q h. absurd (cc)) is.double;
   }
   spells_cleared (Map j) b b' off clear is = tt
@@ -218,7 +233,8 @@ module _ (e : Content) (m m' : LogMap) (M : Memory) (o : ℕ) (laid : IsLaid e m
       subst (λ (k : ℕ). shown m' M'.at (Inode k) ≡ shown m M.at (Inode k)) (sym here)
       (let on_n = subst (λ (k : ℕ). gone (Inode k) ≡ true) here on in
       shown_none m' M'.at n (p.none (Inode n) on_n) ∙ sym (unseen on_n (subst (λ (k : ℕ). M.at (Map k) ≡ 1 → ⊥) (sym e) out))))
-      (λ (off : gone (Inode (128 * j + i)) ≡ false). shown_alike m m' M.at M'.at (128 * j + i) (same_staying (Inode (128 * j + i)) off) (p.others (Inode (128 * j + i)) off))
+      (λ (off : gone (Inode (128 * j + i)) ≡ false).
+      shown_alike m m' M.at M'.at (128 * j + i) (same_staying (Inode (128 * j + i)) off) (p.others (Inode (128 * j + i)) off))
       (cases_Bool (gone (Inode (128 * j + i)))))
       (laid.mapped j out)
 

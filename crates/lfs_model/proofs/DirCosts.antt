@@ -21,7 +21,13 @@ one_more false y h = omega arith
 
 pub counts_more : {X : Type 0} (p q : X → Bool) → ((x : X) → p x ≡ true → q x ≡ true) → (xs : List X) → count_by p xs ≤ count_by q xs
 counts_more p q h [] = omega arith
-counts_more {X} p q h (x ∷ xs) = omega (arith, sum_by-cons (λ (x : X). cond (p x) 1 0) x xs, sum_by-cons (λ (x : X). cond (q x) 1 0) x xs, one_more (p x) (q x) (h x), counts_more p q h xs)
+counts_more {X} p q h (x ∷ xs) = omega (
+  arith,
+  sum_by-cons (λ (x : X). cond (p x) 1 0) x xs,
+  sum_by-cons (λ (x : X). cond (q x) 1 0) x xs,
+  one_more (p x) (q x) (h x),
+  counts_more p q h xs,
+)
 
 length-range : (s n : ℕ) → length (range_with_len s n) ≡ n
 length-range s zero = refl
@@ -31,7 +37,8 @@ length-range s (suc n) = ap suc (length-range (s + 1) n)
 pub pointers_sub : (xs ys : List ℕ) → ((p : ℕ → Bool) → list_any p xs ≡ true → list_any p ys ≡ true) → pointers xs ≤ pointers ys
 pointers_sub xs ys sub =
     let one = one_more (list_any (lies_in 112 240) xs) (list_any (lies_in 112 240) ys) (sub (lies_in 112 240)) in
-    let two = counts_more (λ g. list_any (lies_in (240 + 128 * g) (368 + 128 * g)) xs) (λ g. list_any (lies_in (240 + 128 * g) (368 + 128 * g)) ys)
+    let two = counts_more (λ g. list_any (lies_in (240 + 128 * g) (368 + 128 * g)) xs)
+    (λ g. list_any (lies_in (240 + 128 * g) (368 + 128 * g)) ys)
     (λ g. sub (lies_in (240 + 128 * g) (368 + 128 * g))) (range_with_len 0 128) in
     let three = one_more (list_any (nat_le 240) xs) (list_any (nat_le 240) ys) (sub (nat_le 240)) in
     omega (arith, one, two, three)
@@ -49,9 +56,12 @@ blocks_more : (form a b : ℕ) → a ≤ b → (slot_len form * a + 511) / 512 �
 blocks_more zero a b h = omega arith
 blocks_more (suc form) a b h = omega arith
 
-range_cost : (a b : ℕ) → a ≤ b → length (range_with_len 0 a) + 7 * (1 + pointers (range_with_len 0 a)) ≤ length (range_with_len 0 b) + 7 * (1 + pointers (range_with_len 0 b))
-range_cost a b h = costs_more (length (range_with_len 0 a)) (length (range_with_len 0 b)) (pointers (range_with_len 0 a)) (pointers (range_with_len 0 b)) (length_more a b h) (pointers_more a b h)
+range_cost : (a b : ℕ) → a ≤ b → length (range_with_len 0 a) + 7 * (1 + pointers (range_with_len 0 a))
+    ≤ length (range_with_len 0 b) + 7 * (1 + pointers (range_with_len 0 b))
+range_cost a b h = costs_more (length (range_with_len 0 a)) (length (range_with_len 0 b)) (pointers (range_with_len 0 a))
+    (pointers (range_with_len 0 b)) (length_more a b h) (pointers_more a b h)
 
 pub dir_cost : (form : ℕ) (m k : Names) → length m ≤ length k → cost (Dir form m) ≤ cost (Dir form k)
 unfolding data_of meta_of
-dir_cost form m k h = range_cost ((slot_len form * length m + 511) / 512) ((slot_len form * length k + 511) / 512) (blocks_more form (length m) (length k) h)
+dir_cost form m k h =
+    range_cost ((slot_len form * length m + 511) / 512) ((slot_len form * length k + 511) / 512) (blocks_more form (length m) (length k) h)

@@ -1,5 +1,6 @@
 -- A file or link that has lost a name or a handle: it leaves the tree with the last of both.
-use Rattle.std.proofs.Common.{◌≡◌, ◌≢◌, refl, sym, ap, subst, ◌∙◌, ℕ, ◌+◌, ◌*◌, ◌<◌, ◌≤◌, Bool, true, false, ◌&&◌, List, [], Option, Some, None, arith, cond, inl, inr, eqb, ◌⊎◌}
+use Rattle.std.proofs.Common.{◌≡◌, ◌≢◌, refl, sym, ap, subst, ◌∙◌, ℕ, ◌+◌, ◌*◌, ◌<◌, ◌≤◌, Bool, true, false, ◌&&◌, List, [], Option, Some}
+use Rattle.std.proofs.Common.{None, arith, cond, inl, inr, eqb, ◌⊎◌}
 use Rattle.std.specs.Prelude.{T, count_by, unwrap_or, if◌then◌else◌, ◌==◌, not}
 use Rattle.std.proofs.Math.Path.{fun_ext}
 use Rattle.std.proofs.lemmas.Bool.{eqb-true, eq-eqb}
@@ -8,7 +9,8 @@ use Rattle.std.proofs.lemmas.Cmp.{nat_cmp_total}
 use Rattle.std.proofs.lemmas.Bool.Decides.{nat_tests}
 use Rattle.std.specs.FinMap.{find, is_sorted}
 use Rattle.std.specs.FinMap.Entries.{is_sorted-where_key}
-use Rattle.lfs_model.specs.Tree.{Tree, Names, Node, File, Dir, Link, State, node, without, names_of, is_dir, entry, byte_cmp, names, links, links_at, opened}
+use Rattle.lfs_model.specs.Tree.{Tree, Names, Node, File, Dir, Link, State, node, without, names_of, is_dir, entry, byte_cmp, names, links}
+use Rattle.lfs_model.specs.Tree.{links_at, opened}
 use Rattle.lfs_model.specs.Need.{need, data_of, meta_of}
 use Rattle.lfs_model.specs.Sound.{Sound, NamesGive, IsReachable, root, below, IsWithinLimits, IsOfVersion, IsFile, IsKeptOpen}
 use Rattle.lfs_model.specs.Step.{let_go, with_tree}
@@ -36,7 +38,8 @@ pub record SoundBut (N : ℕ) (s : State) (n : ℕ) : Type 0 where
   pub room : need s.tree ≤ 47 * N
 
 -- an open node is a file
-pub opened_file : (s : State) (n : ℕ) → T (is_sorted nat_cmp s.handles) → ((h k : ℕ) → find nat_cmp h s.handles ≡ Some k → (h < 64) × IsFile (node s.tree k)) → (opened s.handles n ≡ 0) ⊎ IsFile (node s.tree n)
+pub opened_file : (s : State) (n : ℕ) → T (is_sorted nat_cmp s.handles) → ((h k : ℕ) → find nat_cmp h s.handles ≡ Some k
+    → (h < 64) × IsFile (node s.tree k)) → (opened s.handles n ≡ 0) ⊎ IsFile (node s.tree n)
 opened_file s n order files = by (node s.tree n) refl
   where
     none : ((b : List ℕ) → node s.tree n ≢ Some (File b)) → opened s.handles n ≡ 0
@@ -69,7 +72,8 @@ stays_sound N s n but kept_by = record {
   held = λ q ne some none. same_or_not q n
       (λ e. elim (opened_file s n but.handles_in_order but.handles) [
         | inl shut ↦ absurd (kept_by (subst (λ x. names s.tree x ≡ 0) e none, shut))
-        | inr file ↦ subst (λ x. IsKeptOpen s x) (sym e) (record { file = file; handle = positive (opened s.handles n) (λ z. kept_by (subst (λ x. names s.tree x ≡ 0) e none, z)) })
+        | inr file ↦ subst (λ x. IsKeptOpen s x) (sym e)
+            (record { file = file; handle = positive (opened s.handles n) (λ z. kept_by (subst (λ x. names s.tree x ≡ 0) e none, z)) })
       ])
       (λ a. but.held q a ne some none);
   handles = but.handles;
@@ -81,7 +85,8 @@ stays_sound N s n but kept_by = record {
 
 -- ---- where it goes
 
-module _ (N : ℕ) (s : State) (n : ℕ) (but : SoundBut N s n) (plain : is_dir (node s.tree n) ≡ false) (unnamed : names s.tree n ≡ 0) (shut : opened s.handles n ≡ 0) where
+module _ (N : ℕ) (s : State) (n : ℕ) (but : SoundBut N s n) (plain : is_dir (node s.tree n) ≡ false) (unnamed : names s.tree n ≡ 0)
+    (shut : opened s.handles n ≡ 0) where
   abbrev t : Tree
   t = s.tree
 
@@ -109,7 +114,8 @@ module _ (N : ℕ) (s : State) (n : ℕ) (but : SoundBut N s n) (plain : is_dir 
   no_gives q (Some (Dir f ms)) e = cc
 
   names2 : (q : ℕ) → names t2 q ≡ names t q
-  names2 q = let all = total_without nat_cmp_total (gives q) n t but.in_order in let z = no_gives q (node t n) plain in omega (arith, all, z)
+  names2 q = let all = total_without nat_cmp_total (gives q) n t but.in_order in let z = no_gives q (node t n) plain in
+      omega (arith, all, z)
 
   abbrev names_at : Option Node → Names
   names_at o = names_of (unwrap_or o (File []))
@@ -137,7 +143,8 @@ module _ (N : ℕ) (s : State) (n : ℕ) (but : SoundBut N s n) (plain : is_dir 
   reached2 (below x r e) = below x (reached2 r) (entry2_kept _ x _ e)
 
   subdirs2 : (ms : Names) → count_by (λ x. is_dir (node t2 x.1)) ms ≡ count_by (λ x. is_dir (node t x.1)) ms
-  subdirs2 ms = let f : (λ (q : ℕ). is_dir (node t2 q)) ≡ (λ (q : ℕ). is_dir (node t q)) = fun_ext dirs2 in ap (λ (f : ℕ → Bool). count_by (λ (x : List ℕ × ℕ). f x.1) ms) f
+  subdirs2 ms = let f : (λ (q : ℕ). is_dir (node t2 q)) ≡ (λ (q : ℕ). is_dir (node t q)) = fun_ext dirs2 in
+      ap (λ (f : ℕ → Bool). count_by (λ (x : List ℕ × ℕ). f x.1) ms) f
 
   links2 : (q : ℕ) → q ≢ n → links t2 q ≡ links t q
   links2 q ne = ap (links_at t2 q) (same q ne) ∙ by (node t q)
@@ -149,7 +156,8 @@ module _ (N : ℕ) (s : State) (n : ℕ) (but : SoundBut N s n) (plain : is_dir 
       by (Some (Dir f ms)) = ap (λ c. 2 + c) (subdirs2 ms)
 
   need2 : need t2 ≤ need t
-  need2 = let a = total_without nat_cmp_total data_of n t but.in_order in let b = total_without nat_cmp_total meta_of n t but.in_order in omega (arith, a, b)
+  need2 = let a = total_without nat_cmp_total data_of n t but.in_order in let b = total_without nat_cmp_total meta_of n t but.in_order in
+      omega (arith, a, b)
 
   file2 : (q : ℕ) → q ≢ n → IsFile (node t q) → IsFile (node t2 q)
   file2 q ne f = (f.0, same q ne ∙ f.1)
@@ -170,7 +178,8 @@ module _ (N : ℕ) (s : State) (n : ℕ) (but : SoundBut N s n) (plain : is_dir 
     root = dirs2 1 ∙ but.root;
     numbers = λ q some. but.numbers q (there2 q some).1;
     limits = λ q x h. but.limits q x (sym (same q (there2 q (λ none. cc)).0) ∙ h);
-    few_links = λ q some. (let ne = (there2 q some).0 in let two = links2 q ne in let few = but.few_links q (there2 q some).1 in omega arith);
+    few_links = λ q some.
+        (let ne = (there2 q some).0 in let two = links2 q ne in let few = but.few_links q (there2 q some).1 in omega arith);
     named = λ q x k e none. (
         let one = entry2 q x k e in
         let counts = named_counts t q x k one in
@@ -199,10 +208,13 @@ not_both true true e h = cc
 not_both true false e h = let f = h.1 in cc
 not_both false b e h = let f = h.0 in cc
 
-pub let_go_sound : (N : ℕ) (s : State) (n : ℕ) → SoundBut N s n → is_dir (node s.tree n) ≡ false → Sound N (with_tree s (let_go s.tree s.handles n))
+pub let_go_sound : (N : ℕ) (s : State) (n : ℕ) → SoundBut N s n → is_dir (node s.tree n) ≡ false
+    → Sound N (with_tree s (let_go s.tree s.handles n))
 let_go_sound N s n but plain =
-    elim (names s.tree n == 0 && opened s.handles n == 0) as (λ b. (names s.tree n == 0 && opened s.handles n == 0) ≡ b → Sound N (with_tree s (if b then without nat_cmp n s.tree else s.tree))) [
+    elim (names s.tree n == 0 && opened s.handles n == 0) as (λ b. (names s.tree n == 0 && opened s.handles n == 0) ≡ b
+    → Sound N (with_tree s (if b then without nat_cmp n s.tree else s.tree))) [
       | true ↦ λ h. (let both = and_both (names s.tree n == 0) (opened s.handles n == 0) h in
           goes_sound N s n but plain (eqb-true (names s.tree n) 0 both.0) (eqb-true (opened s.handles n) 0 both.1))
-      | false ↦ λ h. stays_sound N s n but (λ z. not_both (names s.tree n == 0) (opened s.handles n == 0) h (eq-eqb (names s.tree n) 0 z.0, eq-eqb (opened s.handles n) 0 z.1))
+      | false ↦ λ h. stays_sound N s n but (λ z.
+          not_both (names s.tree n == 0) (opened s.handles n == 0) h (eq-eqb (names s.tree n) 0 z.0, eq-eqb (opened s.handles n) 0 z.1))
     ] refl

@@ -11,7 +11,8 @@ use Rattle.lfs_model.proofs.Counting.{settled_some, those_some, view_named}
 use Rattle.lfs_model.proofs.Live.{count_up_same, live_sectors}
 use Rattle.lfs_model.proofs.BlocksCounted.{none_pass}
 
-pub empty_count : (e : Content) (m : LogMap) (M : Memory) (opened_at s : ℕ) → IsLaid e m M opened_at → ((x : Entry) → 2 ≤ M.at x → segment_of (M.at x) ≡ s → ⊥) → (is : Entry → Bool) → count_of is M s ≡ 0
+pub empty_count : (e : Content) (m : LogMap) (M : Memory) (opened_at s : ℕ) → IsLaid e m M opened_at
+    → ((x : Entry) → 2 ≤ M.at x → segment_of (M.at x) ≡ s → ⊥) → (is : Entry → Bool) → count_of is M s ≡ 0
 empty_count e m M opened_at s laid none is =
     count_up_same (is_live (memory_view is M) s) (λ at. false) 64 (λ at low. false_from_ne_true _ (λ on.
     let held = (live_sectors (memory_view is M) (view_named is M laid.named) s at low).0 on in
@@ -24,5 +25,7 @@ empty_count e m M opened_at s laid none is =
     none held.0 (omega (arith, above, is_at)) (omega (arith, there, same, is_at, low))))
     ∙ none_pass 64
 
-pub empty_segment : (e : Content) (m : LogMap) (M : Memory) (opened_at s : ℕ) → IsLaid e m M opened_at → ((x : Entry) → 2 ≤ M.at x → segment_of (M.at x) ≡ s → ⊥) → (live_of m M s ≡ 0) × (held_of m M s ≡ 0)
-empty_segment e m M opened_at s laid none = (empty_count e m M opened_at s laid none (is_shown m), empty_count e m M opened_at s laid none (is_held m))
+pub empty_segment : (e : Content) (m : LogMap) (M : Memory) (opened_at s : ℕ) → IsLaid e m M opened_at
+    → ((x : Entry) → 2 ≤ M.at x → segment_of (M.at x) ≡ s → ⊥) → (live_of m M s ≡ 0) × (held_of m M s ≡ 0)
+empty_segment e m M opened_at s laid none =
+    (empty_count e m M opened_at s laid none (is_shown m), empty_count e m M opened_at s laid none (is_held m))

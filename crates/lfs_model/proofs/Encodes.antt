@@ -1,5 +1,6 @@
 -- What a writer has laid out is what a reader finds.
-use Rattle.std.proofs.Common.{◌≡◌, ◌<◌, ◌≤◌, ⊎_elim, ◌+◌, ◌*◌, ◌-◌, ◌/◌, ◌%◌, nat_lt, ℕ, zero, suc, List, [], length, take, Option, Some, None, refl, sym, ◌∙◌, ap, subst, arith, slice_index}
+use Rattle.std.proofs.Common.{◌≡◌, ◌<◌, ◌≤◌, ⊎_elim, ◌+◌, ◌*◌, ◌-◌, ◌/◌, ◌%◌, nat_lt, ℕ, zero, suc, List, [], length, take, Option, Some}
+use Rattle.std.proofs.Common.{None, refl, sym, ◌∙◌, ap, subst, arith, slice_index}
 use Rattle.std.proofs.Math.Path.{fun_ext}
 use Rattle.std.proofs.lemmas.List.{drop_all, nil_from_length}
 use Rattle.std.proofs.lemmas.Bool.{cases_eq, cases_lt, lt-ltb, le-ltb, cond-true, cond-false}
@@ -30,10 +31,12 @@ same_zero a none = omega arith
 
 module _ (c : Content) (k : CheckpointValue) (A : Entry → ℕ) (m : LogMap) (formed : IsLogMap m) (en : Encodes c k A m) where
   -- a pointer that stands in a block, or in none
-  pointer : (parent child : Entry) (place : ℕ) → (0 < A parent → word (block c (A parent)) place ≡ A child) → (0 < A child → 0 < A parent) → A child ≡ word (block c (A parent)) place
+  pointer : (parent child : Entry) (place : ℕ) → (0 < A parent → word (block c (A parent)) place ≡ A child) → (0 < A child → 0 < A parent)
+      → A child ≡ word (block c (A parent)) place
   pointer parent child place there up =
       ⊎_elim
-      (λ (none : A parent ≡ 0). same_zero (A child) (λ lt. let h = up lt in omega arith) ∙ sym (word_none c (A parent) place (λ lt. omega arith)))
+      (λ (none : A parent ≡ 0). same_zero (A child) (λ lt. let h = up lt in omega arith)
+      ∙ sym (word_none c (A parent) place (λ lt. omega arith)))
       (λ (some : A parent ≡ 0 → ⊥). sym (there (omega arith)))
       (cases_eq (A parent) 0)
 
@@ -61,22 +64,27 @@ module _ (c : Content) (k : CheckpointValue) (A : Entry → ℕ) (m : LogMap) (f
       (λ lt. let h = en.only (Leaf n zero) lt in has_inode n (112 + 128 * 0 + h.0) h.2)
   links (Leaf n (suc q)) =
       ⊎_elim
-      (λ (low : q < 128). pointer (Double n) (Leaf n (suc q)) q (λ lt. en.spells (Double n) lt q low) (λ lt. en.stored (Double n) (q, low, en.only (Leaf n (suc q)) lt)))
+      (λ (low : q < 128). pointer (Double n) (Leaf n (suc q)) q (λ lt. en.spells (Double n) lt q low)
+      (λ lt. en.stored (Double n) (q, low, en.only (Leaf n (suc q)) lt)))
       (λ (high : 128 ≤ q).
-      let none : 0 < A (Leaf n (suc q)) → ⊥ = λ lt. let h = en.only (Leaf n (suc q)) lt in let s = formed.small n (112 + 128 * suc q + h.0) h.2 in omega arith in
-      pointer (Double n) (Leaf n (suc q)) q (λ lt. word_past (block c (A (Double n))) q (en.long (Double n) lt) high ∙ sym (same_zero (A (Leaf n (suc q))) none)) (λ lt. absurd (none lt)))
+      let none : 0 < A (Leaf n (suc q)) → ⊥ = λ lt. let h = en.only (Leaf n (suc q)) lt in
+      let s = formed.small n (112 + 128 * suc q + h.0) h.2 in omega arith in
+      pointer (Double n) (Leaf n (suc q)) q (λ lt. word_past (block c (A (Double n))) q (en.long (Double n) lt) high
+      ∙ sym (same_zero (A (Leaf n (suc q))) none)) (λ lt. absurd (none lt)))
       (cases_lt q 128)
   links (Data n i) =
       ⊎_elim
       (λ (low : i < 112).
       pointer (Inode n) (Data n i) (8 + i) (λ lt. (en.spells (Inode n) lt).direct i low) (λ lt. has_inode n i (en.only (Data n i) lt))
-      ∙ sym (cond-true (nat_lt i 112) (word (block c (A (Inode n))) (8 + i)) (word (block c (A (Leaf n ((i - 112) / 128)))) ((i - 112) % 128)) (lt-ltb i 112 low)))
+      ∙ sym (cond-true (nat_lt i 112) (word (block c (A (Inode n))) (8 + i))
+      (word (block c (A (Leaf n ((i - 112) / 128)))) ((i - 112) % 128)) (lt-ltb i 112 low)))
       (λ (high : 112 ≤ i).
       let e : 112 + 128 * ((i - 112) / 128) + (i - 112) % 128 ≡ i = omega arith in
       pointer (Leaf n ((i - 112) / 128)) (Data n i) ((i - 112) % 128)
       (λ lt. en.spells (Leaf n ((i - 112) / 128)) lt ((i - 112) % 128) (omega arith) ∙ ap (λ (x : ℕ). A (Data n x)) e)
       (λ lt. has_leaf n i high (en.only (Data n i) lt))
-      ∙ sym (cond-false (nat_lt i 112) (word (block c (A (Inode n))) (8 + i)) (word (block c (A (Leaf n ((i - 112) / 128)))) ((i - 112) % 128)) (le-ltb i 112 high)))
+      ∙ sym (cond-false (nat_lt i 112) (word (block c (A (Inode n))) (8 + i))
+      (word (block c (A (Leaf n ((i - 112) / 128)))) ((i - 112) % 128)) (le-ltb i 112 high)))
       (cases_lt i 112)
 
   -- the assignment is what the checkpoint reaches
@@ -141,7 +149,8 @@ module _ (c : Content) (k : CheckpointValue) (A : Entry → ℕ) (m : LogMap) (f
       fresh = fresh 5;
       single = λ n lt.
           let h = en.only (Leaf n 0) lt in
-          word_of (Leaf n 0) (Data n (112 + 128 * 0 + h.0)) h.0 h.1 (en.spells (Leaf n 0) lt h.0 h.1) (en.stored (Data n (112 + 128 * 0 + h.0)) h.2);
+          word_of (Leaf n 0) (Data n (112 + 128 * 0 + h.0)) h.0 h.1 (en.spells (Leaf n 0) lt h.0 h.1)
+          (en.stored (Data n (112 + 128 * 0 + h.0)) h.2);
       double = λ n lt.
           let h = en.only (Double n) lt in
           word_of (Double n) (Leaf n (suc h.0)) h.0 h.1 (en.spells (Double n) lt h.0 h.1) (en.stored (Leaf n (suc h.0)) h.2);
@@ -150,12 +159,15 @@ module _ (c : Content) (k : CheckpointValue) (A : Entry → ℕ) (m : LogMap) (f
       fresh = fresh 6;
       nonempty = λ n q lt.
           let h = en.only (Leaf n (suc q)) lt in
-          word_of (Leaf n (suc q)) (Data n (112 + 128 * suc q + h.0)) h.0 h.1 (en.spells (Leaf n (suc q)) lt h.0 h.1) (en.stored (Data n (112 + 128 * suc q + h.0)) h.2);
+          word_of (Leaf n (suc q)) (Data n (112 + 128 * suc q + h.0)) h.0 h.1 (en.spells (Leaf n (suc q)) lt h.0 h.1)
+          (en.stored (Data n (112 + 128 * suc q + h.0)) h.2);
     };
     blocks = record {
       fresh = fresh 7;
-      nonzero = λ n i lt. subst (λ (b : List ℕ). (o : ℕ) × (0 < slice_index b o)) (data_is n i) (formed.nonzero n i (en.only (Data n i) lt));
-      within = λ n i lt. let h = formed.within n i (en.only (Data n i) lt) in let e = ap (λ (x : Header). x.size) (header_of n h.0 h.1).1 in let w = h.2 in omega arith;
+      nonzero = λ n i lt.
+          subst (λ (b : List ℕ). (o : ℕ) × (0 < slice_index b o)) (data_is n i) (formed.nonzero n i (en.only (Data n i) lt));
+      within = λ n i lt. let h = formed.within n i (en.only (Data n i) lt) in let e = ap (λ (x : Header). x.size) (header_of n h.0 h.1).1 in
+          let w = h.2 in omega arith;
       past = λ n i lt o past.
           let h = formed.within n i (en.only (Data n i) lt) in
           let e = ap (λ (x : Header). x.size) (header_of n h.0 h.1).1 in
@@ -174,7 +186,8 @@ module _ (c : Content) (k : CheckpointValue) (A : Entry → ℕ) (m : LogMap) (f
           is ∙ sym (cond-false (nat_lt 0 (A (Inode n))) (Some (header (block c (A (Inode n))))) None (le-ltb 0 (A (Inode n)) (omega arith)))
       go (Some h) is =
           let t = header_of n h is in
-          is ∙ ap Some t.1 ∙ sym (cond-true (nat_lt 0 (A (Inode n))) (Some (header (block c (A (Inode n))))) None (lt-ltb 0 (A (Inode n)) t.0))
+          is ∙ ap Some t.1
+          ∙ sym (cond-true (nat_lt 0 (A (Inode n))) (Some (header (block c (A (Inode n))))) None (lt-ltb 0 (A (Inode n)) t.0))
 
   pub stands : StandsAt c k m
   stands = record {

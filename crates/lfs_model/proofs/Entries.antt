@@ -1,5 +1,6 @@
 -- Entries and the blocks that point to them: a pointer has one entry.
-use Rattle.std.proofs.Common.{◌≡◌, ◌<◌, ◌≤◌, ◌⊎◌, inl, inr, ⊎_elim, ◌+◌, ◌*◌, ◌-◌, ◌/◌, ◌%◌, ◌==◌, nat_lt, cond, ℕ, zero, suc, Some, None, refl, sym, ◌∙◌, ap, ap₂, arith}
+use Rattle.std.proofs.Common.{◌≡◌, ◌<◌, ◌≤◌, ◌⊎◌, inl, inr, ⊎_elim, ◌+◌, ◌*◌, ◌-◌, ◌/◌, ◌%◌, ◌==◌, nat_lt, cond, ℕ, zero, suc, Some, None}
+use Rattle.std.proofs.Common.{refl, sym, ◌∙◌, ap, ap₂, arith}
 use Rattle.std.proofs.lemmas.Bool.{cases_eq, cases_lt, lt-ltb, le-ltb, cond-true, cond-false}
 use Rattle.lfs_model.specs.Entry.{Entry, Data, Leaf, Double, Inode, Map, Usage}
 use Rattle.lfs_model.specs.Memory.{parent, pointer, file_of, IsOfFile, IsPointers}
@@ -53,7 +54,8 @@ same_entry x y =
     ⊎_elim
     (λ (f : owner x ≡ owner y).
     ⊎_elim
-    (λ (i : place x ≡ place y). inl (sym (rebuilt x) ∙ ap (λ (n : ℕ). rebuild n (owner x) (place x)) t ∙ ap₂ (rebuild (tag y)) f i ∙ rebuilt y))
+    (λ (i : place x ≡ place y).
+    inl (sym (rebuilt x) ∙ ap (λ (n : ℕ). rebuild n (owner x) (place x)) t ∙ ap₂ (rebuild (tag y)) f i ∙ rebuilt y))
     (λ (ne : place x ≡ place y → ⊥). inr (λ e. ne (ap place e)))
     (cases_eq (place x) (place y)))
     (λ (ne : owner x ≡ owner y → ⊥). inr (λ e. ne (ap owner e)))
@@ -86,31 +88,39 @@ leaf_pointer n q i low =
     data_pointer_high n (112 + 128 * q + i) (omega arith) ∙ e
 
 -- an entry is in its inode, or in a leaf
-by_data : (P : Type 0) (n i : ℕ) → (i < 112 → parent (Data n i) ≡ Inode n → P) → (112 ≤ i → parent (Data n i) ≡ Leaf n ((i - 112) / 128) → P) → P
-by_data P n i low high = ⊎_elim (λ (l : i < 112). low l (data_parent_low n i l)) (λ (h : 112 ≤ i). high h (data_parent_high n i h)) (cases_lt i 112)
+by_data : (P : Type 0) (n i : ℕ) → (i < 112 → parent (Data n i) ≡ Inode n → P)
+    → (112 ≤ i → parent (Data n i) ≡ Leaf n ((i - 112) / 128) → P) → P
+by_data P n i low high =
+    ⊎_elim (λ (l : i < 112). low l (data_parent_low n i l)) (λ (h : 112 ≤ i). high h (data_parent_high n i h)) (cases_lt i 112)
 
 -- ---- a block has one child at a word
 pub inode_child : ℕ → ℕ → Entry
 inode_child n w = cond (nat_lt w 120) (Data n (w - 8)) (cond (w == 120) (Leaf n 0) (Double n))
 
-pub is_inode_child : (n : ℕ) (x : Entry) → (x ≡ Inode n → ⊥) → parent x ≡ Inode n → (x ≡ inode_child n (pointer x)) × (8 ≤ pointer x) × (pointer x < 122)
+pub is_inode_child : (n : ℕ) (x : Entry) → (x ≡ Inode n → ⊥) → parent x ≡ Inode n → (x ≡ inode_child n (pointer x)) × (8 ≤ pointer x)
+    × (pointer x < 122)
 unfolding inode_child
 is_inode_child n (Data a i) ne px = by_data _ a i
     (λ low up.
     let same : Inode a ≡ Inode n = sym up ∙ px in
     let s : a ≡ n = cc in
     let at = data_pointer_low a i low in
-    let e : i ≡ pointer (Data a i) - 8 = omega arith in
-    (ap₂ Data s e ∙ sym (cond-true (nat_lt (pointer (Data a i)) 120) _ _ (lt-ltb (pointer (Data a i)) 120 (omega arith))), omega arith, omega arith))
+    let e : i ≡ pointer (Data a i) - 8 = omega arith in (
+      ap₂ Data s e ∙ sym (cond-true (nat_lt (pointer (Data a i)) 120) _ _ (lt-ltb (pointer (Data a i)) 120 (omega arith))),
+      omega arith,
+      omega arith,
+    ))
     (λ high up. let e : Leaf a ((i - 112) / 128) ≡ Inode n = sym up ∙ px in absurd (cc))
-is_inode_child n (Leaf a zero) ne px = let e : Inode a ≡ Inode n = px in let s : a ≡ n = cc in (ap (λ (v : ℕ). Leaf v 0) s, omega arith, omega arith)
+is_inode_child n (Leaf a zero) ne px = let e : Inode a ≡ Inode n = px in let s : a ≡ n = cc in
+    (ap (λ (v : ℕ). Leaf v 0) s, omega arith, omega arith)
 is_inode_child n (Leaf a (suc q)) ne px = let e : Double a ≡ Inode n = px in absurd (cc)
 is_inode_child n (Double a) ne px = let e : Inode a ≡ Inode n = px in let s : a ≡ n = cc in (ap Double s, omega arith, omega arith)
 is_inode_child n (Inode a) ne px = absurd (ne px)
 is_inode_child n (Map j) ne px = let e : Map j ≡ Inode n = px in absurd (cc)
 is_inode_child n (Usage j) ne px = let e : Usage j ≡ Inode n = px in absurd (cc)
 
-pub child_of_inode : (n : ℕ) (x y : Entry) → (x ≡ Inode n → ⊥) → (y ≡ Inode n → ⊥) → parent x ≡ Inode n → parent y ≡ Inode n → pointer x ≡ pointer y → x ≡ y
+pub child_of_inode : (n : ℕ) (x y : Entry) → (x ≡ Inode n → ⊥) → (y ≡ Inode n → ⊥) → parent x ≡ Inode n → parent y ≡ Inode n
+    → pointer x ≡ pointer y → x ≡ y
 child_of_inode n x y nx ny px py same = (is_inode_child n x nx px).0 ∙ ap (inode_child n) same ∙ sym (is_inode_child n y ny py).0
 
 pub is_leaf_child : (n q : ℕ) (x : Entry) → parent x ≡ Leaf n q → (x ≡ Data n (112 + 128 * q + pointer x)) × (pointer x < 128)
@@ -131,7 +141,8 @@ is_leaf_child n q (Map j) px = let e : Map j ≡ Leaf n q = px in absurd (cc)
 is_leaf_child n q (Usage j) px = let e : Usage j ≡ Leaf n q = px in absurd (cc)
 
 pub child_of_leaf : (n q : ℕ) (x y : Entry) → parent x ≡ Leaf n q → parent y ≡ Leaf n q → pointer x ≡ pointer y → x ≡ y
-child_of_leaf n q x y px py same = (is_leaf_child n q x px).0 ∙ ap (λ (w : ℕ). Data n (112 + 128 * q + w)) same ∙ sym (is_leaf_child n q y py).0
+child_of_leaf n q x y px py same = (is_leaf_child n q x px).0 ∙ ap (λ (w : ℕ). Data n (112 + 128 * q + w)) same
+    ∙ sym (is_leaf_child n q y py).0
 
 pub is_double_child : (n : ℕ) (x : Entry) → parent x ≡ Double n → x ≡ Leaf n (suc (pointer x))
 is_double_child n (Data a i) px = by_data _ a i
@@ -178,14 +189,6 @@ map_child j (Inode n) px = px
 map_child j (Map i) px = px
 map_child j (Usage i) px = px
 
-pub usage_child : (j : ℕ) (x : Entry) → parent x ≡ Usage j → x ≡ Usage j
-usage_child j (Data n i) px = let e : Some n ≡ None = sym (file_of_parent (Data n i)) ∙ ap file_of px in absurd (cc)
-usage_child j (Leaf n q) px = let e : Some n ≡ None = sym (file_of_parent (Leaf n q)) ∙ ap file_of px in absurd (cc)
-usage_child j (Double n) px = let e : Inode n ≡ Usage j = px in absurd (cc)
-usage_child j (Inode n) px = px
-usage_child j (Map i) px = px
-usage_child j (Usage i) px = px
-
 -- a block with a parent of its own is a block of a file
 pub below_of_file : (x : Entry) → (parent x ≡ x → ⊥) → IsOfFile x
 below_of_file (Data n i) ne = (n, refl)
@@ -217,7 +220,8 @@ pointers_below (Usage j) is top = absurd is
 -- ---- an entry's pointer is a word of a block
 pub pointer_low : (x : Entry) → ((n q : ℕ) → x ≡ Leaf n q → q ≤ 128) → pointer x < 128
 pointer_low (Data n i) low =
-    ⊎_elim (λ (l : i < 112). let at = data_pointer_low n i l in omega arith) (λ (h : 112 ≤ i). let at = data_pointer_high n i h in omega arith) (cases_lt i 112)
+    ⊎_elim (λ (l : i < 112). let at = data_pointer_low n i l in omega arith)
+    (λ (h : 112 ≤ i). let at = data_pointer_high n i h in omega arith) (cases_lt i 112)
 pointer_low (Leaf n zero) low = omega arith
 pointer_low (Leaf n (suc q)) low = let l : suc q ≤ 128 = low n (suc q) refl in omega arith
 pointer_low (Double n) low = omega arith

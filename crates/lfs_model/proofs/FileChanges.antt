@@ -1,5 +1,6 @@
 -- A file's header is another, and files come and go.
-use Rattle.std.proofs.Common.{◌≡◌, ◌<◌, ◌↔◌, ⊎_elim, ◌+◌, ◌*◌, ◌-◌, ◌/◌, ◌%◌, ℕ, true, false, List, length, get_or, Option, Some, None, refl, sym, ◌∙◌, ap, subst, arith}
+use Rattle.std.proofs.Common.{◌≡◌, ◌<◌, ◌↔◌, ⊎_elim, ◌+◌, ◌*◌, ◌-◌, ◌/◌, ◌%◌, ℕ, true, false, List, length, get_or, Option, Some, None}
+use Rattle.std.proofs.Common.{refl, sym, ◌∙◌, ap, subst, arith}
 use Rattle.std.proofs.lemmas.Bool.{cases_eq, cases_Bool}
 use Rattle.lfs_model.specs.Entry.{Entry, Data, Leaf, Double, Inode, Map, Usage, header, word}
 use Rattle.lfs_model.specs.Content.{Content, block}
@@ -17,8 +18,10 @@ use Rattle.lfs_model.proofs.BlockMoves.{IsStep, mapped_step, mapped_by, hidden, 
 use Rattle.lfs_model.proofs.BlockChanges.{in_place}
 
 -- ---- an inode in memory, with the header that the log map has now
-module _ (e : Content) (m m' : LogMap) (M : Memory) (o : ℕ) (laid : IsLaid e m M o) (n : ℕ) (M' : Memory) (map : IsWithHeader m n (Some (header (M'.bytes (Inode n)))) m')
-    (t : IsTaken M (Inode n) 1 M') (mapped : WillBeMapped m' M n) (formed : HoldsInode n (M'.bytes (Inode n))) (kept : (y : Entry) → (y ≡ Inode n → ⊥) → M'.bytes y ≡ M.bytes y) where
+module _ (e : Content) (m m' : LogMap) (M : Memory) (o : ℕ) (laid : IsLaid e m M o) (n : ℕ) (M' : Memory)
+    (map : IsWithHeader m n (Some (header (M'.bytes (Inode n)))) m')
+    (t : IsTaken M (Inode n) 1 M') (mapped : WillBeMapped m' M n) (formed : HoldsInode n (M'.bytes (Inode n)))
+    (kept : (y : Entry) → (y ≡ Inode n → ⊥) → M'.bytes y ≡ M.bytes y) where
   same_but_file : (y : Entry) → (y ≡ Inode n → ⊥) → SameAt m m' y
   same_but_file (Data k l) ne = map.block k l
   same_but_file (Leaf k q) ne = tt
@@ -120,17 +123,8 @@ creating e m M o n m' M' laid p =
         (cases_eq (M.at y) 0)
 
 -- ---- a file goes with all its blocks
-by_file : (P : Type 0) (n : ℕ) (y : Entry) → (file_of y ≡ Some n → P) → ((file_of y ≡ Some n → ⊥) → P) → P
-by_file P n y inside outside = go (file_of y) refl
-  where
-    go : (f : Option ℕ) → file_of y ≡ f → P
-    go None is = outside (λ h. let bad : None ≡ Some n = sym is ∙ h in absurd (cc))
-    go (Some k) is = ⊎_elim
-        (λ (here : k ≡ n). inside (is ∙ ap Some here))
-        (λ (away : k ≡ n → ⊥). outside (λ h. let both : Some k ≡ Some n = sym is ∙ h in away (cc)))
-        (cases_eq k n)
-
-module _ (e : Content) (m m' : LogMap) (M : Memory) (o : ℕ) (laid : IsLaid e m M o) (n : ℕ) (M' : Memory) (p : IsForgetting m M n m' M') where
+module _ (e : Content) (m m' : LogMap) (M : Memory) (o : ℕ) (laid : IsLaid e m M o) (n : ℕ) (M' : Memory)
+    (p : IsForgetting m M n m' M') where
   -- what is still there is of another file
   outside : (y : Entry) → 0 < M'.at y → file_of y ≡ Some n → ⊥
   outside y lt is = let g = p.gone y is in omega arith
@@ -201,7 +195,8 @@ module _ (e : Content) (m m' : LogMap) (M : Memory) (o : ℕ) (laid : IsLaid e m
       subst (λ (k : ℕ). shown m' M'.at (Inode k) ≡ shown m M.at (Inode k)) (sym here)
       (shown_none m' M'.at n (p.gone (Inode n) refl) ∙ sym (unseen (subst (λ (k : ℕ). M.at (Map k) ≡ 1 → ⊥) (sym e) out))))
       (λ (away : 128 * j + i ≡ n → ⊥).
-      shown_alike m m' M.at M'.at (128 * j + i) (p.headers (128 * j + i) away) (p.others (Inode (128 * j + i)) (λ h. let s : Some (128 * j + i) ≡ Some n = h in away (cc))))
+      shown_alike m m' M.at M'.at (128 * j + i) (p.headers (128 * j + i) away)
+      (p.others (Inode (128 * j + i)) (λ h. let s : Some (128 * j + i) ≡ Some n = h in away (cc))))
       (cases_eq (128 * j + i) n))
       (laid.mapped j out)
 
@@ -213,7 +208,8 @@ module _ (e : Content) (m m' : LogMap) (M : Memory) (o : ℕ) (laid : IsLaid e m
     inodes = inodes_now;
     down = λ y lt. let a = at_outside y lt in let b = parent_outside y lt in let d = laid.down y (omega arith) in omega arith;
     low = λ k q lt. let a = at_outside (Leaf k q) lt in laid.low k q (omega arith);
-    some = λ y is le. let a = at_outside y (omega arith) in subst HasPointer (sym (bytes_outside y (omega arith))) (laid.some y is (omega arith));
+    some = λ y is le. let a = at_outside y (omega arith) in
+        subst HasPointer (sym (bytes_outside y (omega arith))) (laid.some y is (omega arith));
     up = λ y one. let a = at_outside y (omega arith) in parent_outside y (omega arith) ∙ laid.up y (sym a ∙ one);
     long = λ y f lt. let a = at_outside y lt in ap length (bytes_outside y lt) ∙ laid.long y f (omega arith);
     spells = λ y lt.

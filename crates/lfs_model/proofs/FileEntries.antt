@@ -1,5 +1,6 @@
 -- The entries of a file, one by one: as many as its totals say.
-use Rattle.std.proofs.Common.{◌≡◌, ◌<◌, ◌≤◌, ⊎_elim, ◌+◌, cond, ℕ, zero, suc, Bool, true, false, List, [], ◌∷◌, ◌++◌, length, count_by, refl, sym, ◌∙◌, ap, subst, arith, inl, inr, Some, None}
+use Rattle.std.proofs.Common.{◌≡◌, ◌<◌, ◌≤◌, ⊎_elim, ◌+◌, cond, ℕ, zero, suc, Bool, true, false, List, [], ◌∷◌, ◌++◌, length, count_by}
+use Rattle.std.proofs.Common.{refl, sym, ◌∙◌, ap, subst, arith, inl, inr, Some, None}
 use Rattle.std.specs.Prelude.{Option}
 use Rattle.std.specs.List.{range_with_len}
 use Rattle.std.proofs.lemmas.Bool.{cases_eq}
@@ -57,8 +58,10 @@ pub in_picks : (f : ℕ → Entry) (p : ℕ → Bool) (a n i : ℕ) → a ≤ i 
 unfolding picks
 in_picks f p a zero i le lt on = absurd (omega (arith, le, lt))
 in_picks f p a (suc n) i le lt on = ⊎_elim
-    (λ (here : a ≡ i). subst (λ (j : ℕ). IsIn (put_if (p a) (f a) (picks f p (a + 1) n)) (f j)) here (in_first (p a) (f a) (picks f p (a + 1) n) (ap p here ∙ on)))
-    (λ (later : a ≡ i → ⊥). in_rest (p a) (f a) (f i) (picks f p (a + 1) n) (in_picks f p (a + 1) n i (omega (arith, le, later)) (omega (arith, lt)) on))
+    (λ (here : a ≡ i). subst (λ (j : ℕ). IsIn (put_if (p a) (f a) (picks f p (a + 1) n)) (f j)) here
+    (in_first (p a) (f a) (picks f p (a + 1) n) (ap p here ∙ on)))
+    (λ (later : a ≡ i → ⊥).
+    in_rest (p a) (f a) (f i) (picks f p (a + 1) n) (in_picks f p (a + 1) n i (omega (arith, le, later)) (omega (arith, lt)) on))
     (cases_eq a i)
 
 -- what is in the first of two lists is in both together

@@ -22,7 +22,8 @@ module _ (M : Memory) (down : (x : Entry) → 0 < M.at x → 0 < M.at (parent x)
       above (Usage j) a is none lt = let bad : None ≡ Some a = is in absurd (cc)
 
       climb : (x : Entry) (n : ℕ) → file_of x ≡ Some n → 0 < M.at x → 0 < M.at (Inode n)
-      climb (Data n i) a is lt = above (parent (Data n i)) a (file_of_parent (Data n i) ∙ is) (λ k l h. no_data_parent k l (Data n i) h) (down (Data n i) lt)
+      climb (Data n i) a is lt =
+          above (parent (Data n i)) a (file_of_parent (Data n i) ∙ is) (λ k l h. no_data_parent k l (Data n i) h) (down (Data n i) lt)
       climb (Leaf n q) a is lt = above (Leaf n q) a is (λ k l h. let bad : Leaf n q ≡ Data k l = h in absurd (cc)) lt
       climb (Double n) a is lt = above (Double n) a is (λ k l h. let bad : Double n ≡ Data k l = h in absurd (cc)) lt
       climb (Inode n) a is lt = above (Inode n) a is (λ k l h. let bad : Inode n ≡ Data k l = h in absurd (cc)) lt

@@ -1,5 +1,6 @@
 -- What a commit leaves stands for the log map without its files of no links.
-use Rattle.std.proofs.Common.{◌≡◌, ◌<◌, ◌≤◌, inl, inr, ⊎_elim, ◌+◌, ◌*◌, ◌-◌, ◌/◌, ◌%◌, ◌==◌, nat_lt, not, ℕ, suc, Bool, true, false, List, [], ◌∷◌, length, get_or, Option, Some, None, refl, sym, ◌∙◌, ap, subst, arith, eq-eqb, eqb-true}
+use Rattle.std.proofs.Common.{◌≡◌, ◌<◌, ◌≤◌, inl, inr, ⊎_elim, ◌+◌, ◌*◌, ◌-◌, ◌/◌, ◌%◌, ◌==◌, nat_lt, not, ℕ, suc, Bool, true, false, List}
+use Rattle.std.proofs.Common.{[], ◌∷◌, length, get_or, Option, Some, None, refl, sym, ◌∙◌, ap, subst, arith, eq-eqb, eqb-true}
 use Rattle.std.proofs.lemmas.List.{nil_from_length}
 use Rattle.std.proofs.lemmas.Bool.{cases_eq, cases_Bool, lt-ltb, ltb-true, cond-true, cond-false, false_from_ne_true}
 use Rattle.lfs_model.specs.Entry.{Entry, Data, Leaf, Double, Inode, Map, Usage, Header, header, half}
@@ -32,14 +33,16 @@ module _ (m : LogMap) (n : ℕ) where
     where
       go : (o : Option Header) → is_unlinked o ≡ true → kept o o None ≡ None
       go None is = refl
-      go (Some h) is = cond-false (nat_lt 0 h.links) (Some h) None (false_from_ne_true _ (λ t. let z = eqb-true h.links 0 is in let l = ltb-true 0 h.links t in omega arith))
+      go (Some h) is = cond-false (nat_lt 0 h.links) (Some h) None
+          (false_from_ne_true _ (λ t. let z = eqb-true h.links 0 is in let l = ltb-true 0 h.links t in omega arith))
 
   gone_block : is_nameless m n ≡ true → (i : ℕ) → (dropped m).block n i ≡ []
   gone_block is i = go (m.header n) is
     where
       go : (o : Option Header) → is_unlinked o ≡ true → kept o (m.block n i) [] ≡ []
       go None is = refl
-      go (Some h) is = cond-false (nat_lt 0 h.links) (m.block n i) [] (false_from_ne_true _ (λ t. let z = eqb-true h.links 0 is in let l = ltb-true 0 h.links t in omega arith))
+      go (Some h) is = cond-false (nat_lt 0 h.links) (m.block n i) []
+          (false_from_ne_true _ (λ t. let z = eqb-true h.links 0 is in let l = ltb-true 0 h.links t in omega arith))
 
   some_links : (h : Header) → is_unlinked (Some h) ≡ false → 0 < h.links
   some_links h off = let ne : h.links ≡ 0 → ⊥ = λ z. let on : true ≡ false = sym (eq-eqb h.links 0 z) ∙ off in absurd (cc) in omega arith
@@ -75,7 +78,8 @@ module _ (e : Content) (m : LogMap) (M : Memory) (o : ℕ) (next : CheckpointVal
   file_shown n x is named = ap (λ (f : Option ℕ). elim f as (λ z. Bool) [ None ↦ true | Some n ↦ not (is_nameless m n) ]) is ∙ ap not named
 
   shown_file : (n : ℕ) (x : Entry) → file_of x ≡ Some n → is_shown m x ≡ true → is_nameless m n ≡ false
-  shown_file n x is on = go (is_nameless m n) (sym (ap (λ (f : Option ℕ). elim f as (λ z. Bool) [ None ↦ true | Some n ↦ not (is_nameless m n) ]) is) ∙ on)
+  shown_file n x is on =
+      go (is_nameless m n) (sym (ap (λ (f : Option ℕ). elim f as (λ z. Bool) [ None ↦ true | Some n ↦ not (is_nameless m n) ]) is) ∙ on)
     where
       go : (b : Bool) → not b ≡ true → b ≡ false
       go false h = refl
@@ -105,14 +109,16 @@ module _ (e : Content) (m : LogMap) (M : Memory) (o : ℕ) (next : CheckpointVal
           sub a b None is lt = absurd (omega arith)
           sub a b (Some h) is lt = ⊎_elim
               (λ (on : nat_lt 0 h.links ≡ true). subst (λ (c : List ℕ). 0 < length c) (cond-true (nat_lt 0 h.links) (m.block a b) [] on) lt)
-              (λ (off : nat_lt 0 h.links ≡ false). let z = ap length (cond-false (nat_lt 0 h.links) (m.block a b) [] off) in absurd (omega arith))
+              (λ (off : nat_lt 0 h.links ≡ false). let z = ap length (cond-false (nat_lt 0 h.links) (m.block a b) [] off) in
+              absurd (omega arith))
               (cases_Bool (nat_lt 0 h.links))
 
   leaf_above : (n q i : ℕ) → i < 128 → 0 < M.at (Data n (112 + 128 * q + i)) → 0 < M.at (Leaf n q)
   leaf_above n q i low lt = subst (λ (p : Entry). 0 < M.at p) (leaf_parent n q i low) (laid.down (Data n (112 + 128 * q + i)) lt)
 
   stored : (x : Entry) → Has (dropped m) next.segments x → 0 < shown m M.at x
-  stored (Data n i) has = let d = has_data n i has in let s = A_is (Data n i) (file_shown n (Data n i) refl d.0) in let lt = d.1 in omega arith
+  stored (Data n i) has = let d = has_data n i has in let s = A_is (Data n i) (file_shown n (Data n i) refl d.0) in let lt = d.1 in
+      omega arith
   stored (Leaf n q) has =
       let d = has_data n (112 + 128 * q + has.0) has.2 in
       let s = A_is (Leaf n q) (file_shown n (Leaf n q) refl d.0) in
@@ -139,7 +145,8 @@ module _ (e : Content) (m : LogMap) (M : Memory) (o : ℕ) (next : CheckpointVal
       let ne : M.at (Map j) ≡ 0 → ⊥ = λ z. let none = (laid.mapped j (done.none (Map j))).none z has.0 has.1 in omega arith in
       let t = A_is (Map j) refl in
       omega arith
-  stored (Usage j) has = let t = A_is (Usage j) refl in let lt = (laid.usages j).0 (subst (λ (n : ℕ). j < (n + 63) / 64) done.segments has) in omega arith
+  stored (Usage j) has = let t = A_is (Usage j) refl in
+      let lt = (laid.usages j).0 (subst (λ (n : ℕ). j < (n + 63) / 64) done.segments has) in omega arith
 
   -- nothing else has an address there
   header_there : (n : ℕ) → is_nameless m n ≡ false → 0 < M.at (Inode n) → HasInode (dropped m) n
@@ -147,7 +154,8 @@ module _ (e : Content) (m : LogMap) (M : Memory) (o : ℕ) (next : CheckpointVal
 
   data_there : (n i : ℕ) → is_nameless m n ≡ false → 0 < M.at (Data n i) → HasData (dropped m) n i
   data_there n i named lt =
-      subst (λ (b : List ℕ). 0 < length b) (sym (data_same n i (file_there M laid.down (Data n i) n refl lt) named)) ((laid.blocks n i).1 lt)
+      subst (λ (b : List ℕ). 0 < length b) (sym (data_same n i (file_there M laid.down (Data n i) n refl lt) named))
+      ((laid.blocks n i).1 lt)
 
   leaf_there : (n q : ℕ) → is_nameless m n ≡ false → 2 ≤ M.at (Leaf n q) → HasLeaf (dropped m) n q
   leaf_there n q named le =
@@ -176,14 +184,16 @@ module _ (e : Content) (m : LogMap) (M : Memory) (o : ℕ) (next : CheckpointVal
       let lt = w.2 in
       let b = A_some (Inode (128 * j + w.0)) (omega arith) in
       (w.0, w.1, header_there (128 * j + w.0) (shown_file (128 * j + w.0) (Inode (128 * j + w.0)) refl b.0) (omega (arith, b.2)))
-  only (Usage j) lt = let a = A_some (Usage j) lt in subst (λ (n : ℕ). j < (n + 63) / 64) (sym done.segments) ((laid.usages j).1 (omega (arith, a.2)))
+  only (Usage j) lt = let a = A_some (Usage j) lt in
+      subst (λ (n : ℕ). j < (n + 63) / 64) (sym done.segments) ((laid.usages j).1 (omega (arith, a.2)))
 
   -- its block is what stands there
   block_is : (x : Entry) → 0 < shown m M.at x → block e (shown m M.at x) ≡ M.bytes x
   block_is x lt = let a = A_some x lt in ap (block e) a.1 ∙ laid.there x a.2
 
   within : (x : Entry) → 0 < shown m M.at x → (2 ≤ shown m M.at x) × (shown m M.at x < 2 + 64 * next.segments)
-  within x lt = let a = A_some x lt in let s = a.1 in let le = a.2 in let w = laid.within x a.2 in let n = done.segments in (omega arith, omega arith)
+  within x lt = let a = A_some x lt in let s = a.1 in let le = a.2 in let w = laid.within x a.2 in let n = done.segments in
+      (omega arith, omega arith)
 
   long_bytes : (x : Entry) → 2 ≤ M.at x → length (M.bytes x) ≡ 512
   long_bytes (Data n i) le = laid.long (Data n i) (n, refl) (omega arith)
@@ -204,7 +214,8 @@ module _ (e : Content) (m : LogMap) (M : Memory) (o : ℕ) (next : CheckpointVal
   of_version : IsLogMap (dropped m) → (n : ℕ) (h : Header) → (dropped m).header n ≡ Some h → IsForm (layout_version next) h.kind h.form
   of_version map n h at = subst (λ (v : ℕ). IsForm v h.kind h.form) (sym done.version) (map.forms n h at)
 
-  spells_bytes : IsLogMap (dropped m) → (x : Entry) → 0 < shown m M.at x → Spells (dropped m) (layout_version next) (shown m M.at) (M.bytes x) x
+  spells_bytes : IsLogMap (dropped m) → (x : Entry) → 0 < shown m M.at x
+      → Spells (dropped m) (layout_version next) (shown m M.at) (M.bytes x) x
   spells_bytes map (Data n i) lt =
       let a = A_some (Data n i) lt in
       let named = shown_file n (Data n i) refl a.0 in
@@ -221,9 +232,11 @@ module _ (e : Content) (m : LogMap) (M : Memory) (o : ℕ) (next : CheckpointVal
       let named = shown_file n (Inode n) refl a.0 in
       let some : 0 < M.at (Inode n) = omega (arith, a.2) in
       let s = laid.spells (Inode n) some in
-      let linked : 1 ≤ (header (M.bytes (Inode n))).links = some_links m n (header (M.bytes (Inode n))) (sym (ap is_unlinked s.header) ∙ named) in
+      let linked : 1 ≤ (header (M.bytes (Inode n))).links =
+      some_links m n (header (M.bytes (Inode n))) (sym (ap is_unlinked s.header) ∙ named) in
       record {
-        formed = is_inode n (M.bytes (Inode n)) s.formed (layout_version next) (of_version map n (header (M.bytes (Inode n))) (same_header m n named ∙ s.header)) linked;
+        formed = is_inode n (M.bytes (Inode n)) s.formed (layout_version next)
+            (of_version map n (header (M.bytes (Inode n))) (same_header m n named ∙ s.header)) linked;
         header = same_header m n named ∙ s.header;
         direct = λ i low. s.direct i low ∙ of_shown n (Data n i) refl named;
         single = s.single ∙ of_shown n (Leaf n 0) refl named;
@@ -232,8 +245,10 @@ module _ (e : Content) (m : LogMap) (M : Memory) (o : ℕ) (next : CheckpointVal
   spells_bytes map (Map j) lt = let a = A_some (Map j) lt in (laid.mapped j (done.none (Map j))).spells a.2
   spells_bytes map (Usage j) lt = tt
 
-  spells : IsLogMap (dropped m) → (x : Entry) → 0 < shown m M.at x → Spells (dropped m) (layout_version next) (shown m M.at) (block e (shown m M.at x)) x
-  spells map x lt = subst (λ (b : List ℕ). Spells (dropped m) (layout_version next) (shown m M.at) b x) (sym (block_is x lt)) (spells_bytes map x lt)
+  spells : IsLogMap (dropped m) → (x : Entry) → 0 < shown m M.at x
+      → Spells (dropped m) (layout_version next) (shown m M.at) (block e (shown m M.at x)) x
+  spells map x lt =
+      subst (λ (b : List ℕ). Spells (dropped m) (layout_version next) (shown m M.at) b x) (sym (block_is x lt)) (spells_bytes map x lt)
 
   -- ---- segments
   V : View
@@ -244,7 +259,8 @@ module _ (e : Content) (m : LogMap) (M : Memory) (o : ℕ) (next : CheckpointVal
 
   row_sealed : (s : ℕ) → row_by e (length (M.rows s)) s ≡ Some (M.rows s)
   row_sealed s = ⊎_elim
-      (λ (here : s ≡ o). subst (λ (r : Row). row_by e (length r) s ≡ Some r) (sym (laid.past s (let c = done.closed in omega arith))) (empty_row e s))
+      (λ (here : s ≡ o).
+      subst (λ (r : Row). row_by e (length r) s ≡ Some r) (sym (laid.past s (let c = done.closed in omega arith))) (empty_row e s))
       (λ (away : s ≡ o → ⊥). laid.sealed s away)
       (cases_eq s o)
 
@@ -255,7 +271,8 @@ module _ (e : Content) (m : LogMap) (M : Memory) (o : ℕ) (next : CheckpointVal
   used_none s z = done.used s ∙ cond-true (live_of m M s == 0) 0 (length (M.rows s)) (eq-eqb (live_of m M s) 0 z)
 
   used_some : (s : ℕ) → (live_of m M s ≡ 0 → ⊥) → used_in (shown_view e m M next) s ≡ length (M.rows s)
-  used_some s nz = done.used s ∙ cond-false (live_of m M s == 0) 0 (length (M.rows s)) (false_from_ne_true _ (λ h. nz (eqb-true (live_of m M s) 0 h)))
+  used_some s nz = done.used s
+      ∙ cond-false (live_of m M s == 0) 0 (length (M.rows s)) (false_from_ne_true _ (λ h. nz (eqb-true (live_of m M s) 0 h)))
 
   row_split : (r : Row) → get_or r 0 None ≡ None → 0 < length r → (q : Row) × (r ≡ None ∷ q)
   row_split [] none lt = absurd (omega arith)
@@ -263,7 +280,8 @@ module _ (e : Content) (m : LogMap) (M : Memory) (o : ℕ) (next : CheckpointVal
 
   live_some_row : (s : ℕ) → (live_of m M s ≡ 0 → ⊥) → live_of m M s < length (M.rows s)
   live_some_row s nz =
-      let nonempty : length (M.rows s) ≡ 0 → ⊥ = λ z. nz (no_row_live (memory_view (is_shown m) M) s (ap Some (nil_from_length (M.rows s) z))) in
+      let nonempty : length (M.rows s) ≡ 0
+      → ⊥ = λ z. nz (no_row_live (memory_view (is_shown m) M) s (ap Some (nil_from_length (M.rows s) z))) in
       let q = row_split (M.rows s) (laid.first s) (omega arith) in
       let l = live_less (memory_view (is_shown m) M) s q.0 (ap Some q.1) in
       let le = ap length q.1 in
@@ -271,9 +289,6 @@ module _ (e : Content) (m : LogMap) (M : Memory) (o : ℕ) (next : CheckpointVal
 
   used_row : (s : ℕ) → (live_of m M s ≡ 0 → ⊥) → row e next s ≡ Some (M.rows s)
   used_row s nz = ap (λ (u : ℕ). row_by e u s) (used_is s ∙ used_some s nz) ∙ row_sealed s
-
-  unused_row : (s : ℕ) → live_of m M s ≡ 0 → row e next s ≡ Some []
-  unused_row s z = ap (λ (u : ℕ). row_by e u s) (used_is s ∙ used_none s z) ∙ empty_row e s
 
   by_live : (P : Type 0) (s : ℕ) → (live_of m M s ≡ 0 → P) → ((live_of m M s ≡ 0 → ⊥) → P) → P
   by_live P s none some = ⊎_elim none some (cases_eq (live_of m M s) 0)
@@ -292,11 +307,15 @@ module _ (e : Content) (m : LogMap) (M : Memory) (o : ℕ) (next : CheckpointVal
       ∙ ap (λ (a : ℕ). get_or (M.rows ((a - 2) / 64)) ((a - 2) % 64) None) a.1 ∙ laid.named x a.2
 
   settled_is : (x : Entry) → settled_at (shown m M.at x) ≡ shown m M.at x
-  settled_is x = ⊎_elim (λ (z : shown m M.at x ≡ 0). ap settled_at z ∙ sym z) (λ (some : shown m M.at x ≡ 0 → ⊥). settled_above (shown m M.at x) (within x (omega arith)).0) (cases_eq (shown m M.at x) 0)
+  settled_is x = ⊎_elim (λ (z : shown m M.at x ≡ 0). ap settled_at z ∙ sym z)
+      (λ (some : shown m M.at x ≡ 0 → ⊥). settled_above (shown m M.at x) (within x (omega arith)).0) (cases_eq (shown m M.at x) 0)
 
   live_is : (s : ℕ) → live_of m M s ≡ live_count (shown_view e m M next) s
   live_is s = same_live (shown_view e m M next) (memory_view (is_shown m) M) all_named (view_named (is_shown m) M laid.named) s
-      (λ at low. ((λ (h : IsHeld (shown_view e m M next) (2 + 64 * s + at)). (h.0, settled_is h.0 ∙ h.1)), (λ (h : IsHeld (memory_view (is_shown m) M) (2 + 64 * s + at)). (h.0, sym (settled_is h.0) ∙ h.1))))
+      (λ at low. (
+        (λ (h : IsHeld (shown_view e m M next) (2 + 64 * s + at)). (h.0, settled_is h.0 ∙ h.1)),
+        (λ (h : IsHeld (memory_view (is_shown m) M) (2 + 64 * s + at)). (h.0, sym (settled_is h.0) ∙ h.1)),
+      ))
 
   all_counted : AreCounted (shown_view e m M next)
   all_counted s low = (named_counts (shown_view e m M next) all_named s (live_in (shown_view e m M next) s)).1 (done.live s ∙ live_is s)
@@ -314,10 +333,13 @@ module _ (e : Content) (m : LogMap) (M : Memory) (o : ℕ) (next : CheckpointVal
     spells = spells map;
     rows = λ s lt. (M.rows s, by_live _ s (λ z. let u = used_none s z in absurd (omega arith)) (used_row s));
     named = all_named;
-    fit = λ s. by_live _ s (λ z. let u = used_none s z in omega arith) (λ nz. let u = used_some s nz in let l = laid.short s in omega arith);
-    less = λ s. by_live _ s (λ z. inl (used_none s z)) (λ nz. let u = used_some s nz in let l = done.live s in let r = live_some_row s nz in inr (omega arith, omega arith));
+    fit = λ s.
+        by_live _ s (λ z. let u = used_none s z in omega arith) (λ nz. let u = used_some s nz in let l = laid.short s in omega arith);
+    less = λ s. by_live _ s (λ z. inl (used_none s z))
+        (λ nz. let u = used_some s nz in let l = done.live s in let r = live_some_row s nz in inr (omega arith, omega arith));
     both = λ s z. by_live _ s (λ z. done.live s ∙ z) (λ nz. let u = used_some s nz in let r = live_some_row s nz in absurd (omega arith));
-    past = λ s le. let n = done.segments in let r = laid.past s (omega arith) in (used_none s (no_row_live (memory_view (is_shown m) M) s (ap Some r)), done.age s (omega arith));
+    past = λ s le. let n = done.segments in let r = laid.past s (omega arith) in
+        (used_none s (no_row_live (memory_view (is_shown m) M) s (ap Some r)), done.age s (omega arith));
     counted = all_counted;
     clean = done.clean;
   }

@@ -20,10 +20,11 @@ some_parts c [] = elim (eqb c 47) as (λ b. (p : List ℕ) × (rest : List (List
   | true ↦ ([], [], refl)
   | false ↦ (c ∷ [], [], refl)
 ]
-some_parts c (p ∷ ps) = elim (eqb c 47) as (λ b. (x : List ℕ) × (rest : List (List ℕ)) × ((if b then [] ∷ p ∷ ps else (c ∷ p) ∷ ps) ≡ x ∷ rest)) [
-  | true ↦ ([], p ∷ ps, refl)
-  | false ↦ (c ∷ p, ps, refl)
-]
+some_parts c (p ∷ ps) =
+    elim (eqb c 47) as (λ b. (x : List ℕ) × (rest : List (List ℕ)) × ((if b then [] ∷ p ∷ ps else (c ∷ p) ∷ ps) ≡ x ∷ rest)) [
+      | true ↦ ([], p ∷ ps, refl)
+      | false ↦ (c ∷ p, ps, refl)
+    ]
 
 first_part : (x : List ℕ) → (p : List ℕ) × (ps : List (List ℕ)) × (parts x ≡ p ∷ ps)
 first_part [] = ([], [], refl)
@@ -32,8 +33,10 @@ first_part (c ∷ x) = some_parts c (parts x)
 slash_first : (ps : List (List ℕ)) (p : List ℕ) (rest : List (List ℕ)) → ps ≡ p ∷ rest → before_parts 47 ps ≡ [] ∷ ps
 slash_first ps p rest is = ap (before_parts 47) is ∙ sym (ap (λ (qs : List (List ℕ)). [] ∷ qs) is)
 
-before_both : (c : ℕ) (ps qs : List (List ℕ)) (p : List ℕ) (rest : List (List ℕ)) → ps ≡ p ∷ rest → before_parts c (ps ++ qs) ≡ before_parts c ps ++ qs
-before_both c ps qs p rest is = ap (λ (x : List (List ℕ)). before_parts c (x ++ qs)) is ∙ by (eqb c 47) ∙ sym (ap (λ (x : List (List ℕ)). before_parts c x ++ qs) is)
+before_both : (c : ℕ) (ps qs : List (List ℕ)) (p : List ℕ) (rest : List (List ℕ)) → ps ≡ p ∷ rest
+    → before_parts c (ps ++ qs) ≡ before_parts c ps ++ qs
+before_both c ps qs p rest is = ap (λ (x : List (List ℕ)). before_parts c (x ++ qs)) is ∙ by (eqb c 47)
+    ∙ sym (ap (λ (x : List (List ℕ)). before_parts c x ++ qs) is)
   where
     by : (b : Bool) → (if b then [] ∷ p ∷ (rest ++ qs) else (c ∷ p) ∷ (rest ++ qs)) ≡ (if b then [] ∷ p ∷ rest else (c ∷ p) ∷ rest) ++ qs
     by true = refl
@@ -83,7 +86,8 @@ or_false true = refl
 or_false false = refl
 
 -- the slash end is that of what was left, and the link's where nothing was
-pub slash_joined : (x rest : List ℕ) → IsRest rest → more (comps rest) (slash rest) ≡ nat_lt 0 (length rest) → slash_with x (comps rest) (slash rest) ≡ slash (x ++ rest)
+pub slash_joined : (x rest : List ℕ) → IsRest rest → more (comps rest) (slash rest) ≡ nat_lt 0 (length rest)
+    → slash_with x (comps rest) (slash rest) ≡ slash (x ++ rest)
 slash_joined x [] is goes_on = or_false (slash x) ∙ ap slash (sym (nothing_behind x))
 slash_joined x (c ∷ q) is goes_on = ends_by x (comps (c ∷ q)) (slash (c ∷ q)) (goes_on ∙ some_true (length q)) ∙ sym (slash_last x c q)
 

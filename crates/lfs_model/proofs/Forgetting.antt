@@ -1,5 +1,6 @@
 -- What a mount finds after a stop is sound: the nodes without a name are gone, and no handle is open.
-use Rattle.std.proofs.Common.{◌≡◌, ◌≢◌, refl, sym, ap, ◌∙◌, ℕ, ◌+◌, ◌≤◌, Bool, true, false, ◌||◌, List, [], Option, Some, None, arith, cond, inl, inr, eqb, ◌⊎◌}
+use Rattle.std.proofs.Common.{◌≡◌, ◌≢◌, refl, sym, ap, ◌∙◌, ℕ, ◌+◌, ◌≤◌, Bool, true, false, ◌||◌, List, [], Option, Some, None, arith, cond}
+use Rattle.std.proofs.Common.{inl, inr, eqb, ◌⊎◌}
 use Rattle.std.specs.Prelude.{count_by, unwrap_or, ◌==◌, not, filter}
 use Rattle.std.proofs.Math.Path.{fun_ext}
 use Rattle.std.proofs.lemmas.Bool.{eqb-true, eq-eqb}
@@ -10,7 +11,8 @@ use Rattle.std.specs.declared.cmp.Ordering.TheVariants.{Equal}
 use Rattle.std.proofs.lemmas.Cmp.{nat_cmp_total}
 use Rattle.std.specs.FinMap.{find}
 use Rattle.std.specs.FinMap.Entries.{find-where_key, is_sorted-where_key}
-use Rattle.lfs_model.specs.Tree.{Tree, Names, Node, File, Dir, Link, State, node, names_of, is_dir, entry, byte_cmp, names, links, links_at, drop_nameless}
+use Rattle.lfs_model.specs.Tree.{Tree, Names, Node, File, Dir, Link, State, node, names_of, is_dir, entry, byte_cmp, names, links, links_at}
+use Rattle.lfs_model.specs.Tree.{drop_nameless}
 use Rattle.lfs_model.specs.Need.{need, data_of, meta_of}
 use Rattle.lfs_model.specs.Sound.{Sound, IsReachable, root, below, IsFile}
 use Rattle.lfs_model.proofs.Sums.{total_filter, total_filter-le}
@@ -59,7 +61,8 @@ module _ (N : ℕ) (s : State) (sound : Sound N s) where
   unseen : {A : Type 0} (f : Option Node → A) → ((b : List ℕ) → f None ≡ f (Some (File b))) → (q : ℕ) → f (node t' q) ≡ f (node t q)
   unseen f same q = either q
       (λ h. ap f (kept q h))
-      (λ h. ap f (gone q h) ∙ elim (goes_file q h) as (λ _. f None ≡ f (node t q)) [ inl none ↦ ap f (sym none) | inr file ↦ same file.0 ∙ ap f (sym file.1) ])
+      (λ h. ap f (gone q h) ∙ elim (goes_file q h) as (λ _. f None ≡ f (node t q))
+      [ inl none ↦ ap f (sym none) | inr file ↦ same file.0 ∙ ap f (sym file.1) ])
 
   dirs : (q : ℕ) → is_dir (node t' q) ≡ is_dir (node t q)
   dirs = unseen is_dir (λ b. refl)
@@ -80,7 +83,8 @@ module _ (N : ℕ) (s : State) (sound : Sound N s) where
       some_is e = cc
 
   subdirs : (ms : Names) → count_by (λ x. is_dir (node t' x.1)) ms ≡ count_by (λ x. is_dir (node t x.1)) ms
-  subdirs ms = let f : (λ (q : ℕ). is_dir (node t' q)) ≡ (λ (q : ℕ). is_dir (node t q)) = fun_ext dirs in ap (λ (f : ℕ → Bool). count_by (λ (x : List ℕ × ℕ). f x.1) ms) f
+  subdirs ms = let f : (λ (q : ℕ). is_dir (node t' q)) ≡ (λ (q : ℕ). is_dir (node t q)) = fun_ext dirs in
+      ap (λ (f : ℕ → Bool). count_by (λ (x : List ℕ × ℕ). f x.1) ms) f
 
   pub there : (q : ℕ) → node t' q ≢ None → stays q ≡ true
   there q some = either q (λ h. h) (λ h. absurd (some (gone q h)))
@@ -110,10 +114,12 @@ module _ (N : ℕ) (s : State) (sound : Sound N s) where
   reached_kept (below x r e) = below x (reached_kept r) (entries _ x ∙ e)
 
   less_need : need t' ≤ need t
-  less_need = let a = total_filter-le nat_cmp_total data_of stays t in let b = total_filter-le nat_cmp_total meta_of stays t in omega (arith, a, b)
+  less_need = let a = total_filter-le nat_cmp_total data_of stays t in let b = total_filter-le nat_cmp_total meta_of stays t in
+      omega (arith, a, b)
 
   nameless : (q : ℕ) → q ≢ 1 → stays q ≡ true → names t q ≢ 0
-  nameless q ne h none = let no : eqb q 1 ≡ false = grind (arith, nat_tests) in let zero_is : eqb (names t q) 0 ≡ true = eq-eqb (names t q) 0 none in by (q == 1) (names t q == 0) no zero_is h
+  nameless q ne h none = let no : eqb q 1 ≡ false = grind (arith, nat_tests) in
+      let zero_is : eqb (names t q) 0 ≡ true = eq-eqb (names t q) 0 none in by (q == 1) (names t q == 0) no zero_is h
     where
       by : (a b : Bool) → a ≡ false → b ≡ true → (a || not b) ≡ true → ⊥
       by true b e f h = cc

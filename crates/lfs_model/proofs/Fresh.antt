@@ -16,7 +16,8 @@ none_else n ne = ap (λ b. cond b (Some (Dir 0 [])) None) (cmp_other n 1 ne)
 
 each : (P : ℕ → Node → Type 0) → P 1 (Dir 0 []) → (n : ℕ) (x : Node) → node fresh.tree n ≡ Some x → P n x
 each P one n x h = same_or_not n 1
-    (λ e. let same : Dir 0 [] ≡ x = Some-injective _ _ (subst (λ k. node fresh.tree k ≡ Some x) e h) in subst (λ k. P k x) (sym e) (subst (P 1) same one))
+    (λ e. let same : Dir 0 [] ≡ x = Some-injective _ _ (subst (λ k. node fresh.tree k ≡ Some x) e h) in
+    subst (λ k. P k x) (sym e) (subst (P 1) same one))
     (λ ne. absurd (let none = none_else n ne in cc))
 
 at_one : (P : ℕ → Type 0) → P 1 → (n : ℕ) → node fresh.tree n ≢ None → P n
@@ -33,7 +34,8 @@ new_need = refl
 no_entry : (n : ℕ) (name : List ℕ) (k : ℕ) → entry fresh.tree n name ≡ Some k → ⊥
 no_entry n name k e = same_or_not n 1
     (λ at. let here : entry fresh.tree 1 name ≡ Some k = subst (λ d. entry fresh.tree d name ≡ Some k) at e in absurd (cc here))
-    (λ ne. let none = none_else n ne in let gone : entry fresh.tree n name ≡ None = ap (λ o. find byte_cmp name (names_of (unwrap_or o (File [])))) none in cc)
+    (λ ne. let none = none_else n ne in
+    let gone : entry fresh.tree n name ≡ None = ap (λ o. find byte_cmp name (names_of (unwrap_or o (File [])))) none in cc)
 
 pub fresh_sound : (N : ℕ) → 64 ≤ N → Sound N fresh
 fresh_sound N h = record {

@@ -1,5 +1,6 @@
 -- A tree with one more name in a directory, of a node that is there.
-use Rattle.std.proofs.Common.{◌≡◌, ◌≢◌, refl, sym, ap, subst, ◌∙◌, ℕ, ◌+◌, Bool, true, false, List, [], Option, Some, None, arith, cond, inl, inr, eqb, ◌⊎◌}
+use Rattle.std.proofs.Common.{◌≡◌, ◌≢◌, refl, sym, ap, subst, ◌∙◌, ℕ, ◌+◌, Bool, true, false, List, [], Option, Some, None, arith, cond}
+use Rattle.std.proofs.Common.{inl, inr, eqb, ◌⊎◌}
 use Rattle.std.specs.Prelude.{T, count_by, unwrap_or, if◌then◌else◌, ◌==◌}
 use Rattle.std.proofs.Math.Path.{fun_ext}
 use Rattle.std.specs.Ordering.{nat_cmp, eq_by_cmp, is_eq}
@@ -10,14 +11,16 @@ use Rattle.std.proofs.lemmas.Cmp.{nat_cmp_total}
 use Rattle.std.proofs.lemmas.Bool.Decides.{nat_tests}
 use Rattle.std.specs.FinMap.{find, put, is_sorted}
 use Rattle.std.specs.FinMap.Entries.{is_sorted-put, find-put, find_tied}
-use Rattle.lfs_model.specs.Tree.{Tree, Names, Node, File, Dir, Link, node, with_node, names_of, is_dir, entry, byte_cmp, names, links, links_at}
+use Rattle.lfs_model.specs.Tree.{Tree, Names, Node, File, Dir, Link, node, with_node, names_of, is_dir, entry, byte_cmp, names, links}
+use Rattle.lfs_model.specs.Tree.{links_at}
 use Rattle.lfs_model.specs.Sound.{IsReachable, root, below}
 use Rattle.lfs_model.proofs.Walks.{Some-injective}
 use Rattle.lfs_model.proofs.Sums.{total_put, weight}
 use Rattle.lfs_model.proofs.Trees.{find_here, find_other}
 use Rattle.lfs_model.proofs.Growing.{same_or_not, gives}
 
-module _ (t : Tree) (d n form : ℕ) (m : Names) (nm : List ℕ) (in_order : T (is_sorted nat_cmp t)) (is : node t d ≡ Some (Dir form m)) (dir_order : T (is_sorted byte_cmp m)) (absent : find byte_cmp nm m ≡ None) where
+module _ (t : Tree) (d n form : ℕ) (m : Names) (nm : List ℕ) (in_order : T (is_sorted nat_cmp t)) (is : node t d ≡ Some (Dir form m))
+    (dir_order : T (is_sorted byte_cmp m)) (absent : find byte_cmp nm m ≡ None) where
   abbrev pub grown : Node
   grown = Dir form (put byte_cmp nm n m)
 
@@ -41,7 +44,8 @@ module _ (t : Tree) (d n form : ℕ) (m : Names) (nm : List ℕ) (in_order : T (
   counted : (f : ℕ → Bool) → count_by (λ e. f e.1) (put byte_cmp nm n m) ≡ count_by (λ e. f e.1) m + (if f n then 1 else 0)
   counted f =
       let all = total_put nat_list_cmp_total (λ v. if f v then 1 else 0) nm n m dir_order in
-      let zero_before : weight nat_list_cmp_total (λ v. if f v then 1 else 0) (find byte_cmp nm m) ≡ 0 = ap (weight nat_list_cmp_total (λ v. if f v then 1 else 0)) absent in
+      let zero_before : weight nat_list_cmp_total (λ v. if f v then 1 else 0) (find byte_cmp nm m) ≡ 0 =
+      ap (weight nat_list_cmp_total (λ v. if f v then 1 else 0)) absent in
       omega (arith, all, zero_before)
 
   pub names_after : (q : ℕ) → names after q ≡ names t q + (if n == q then 1 else 0)
@@ -84,7 +88,8 @@ module _ (t : Tree) (d n form : ℕ) (m : Names) (nm : List ℕ) (in_order : T (
   tied : (x : List ℕ) (k : ℕ) → find byte_cmp x m ≡ Some k → eq_by_cmp byte_cmp x nm ≡ false
   tied x k e = elim (byte_cmp x nm) as (λ r. byte_cmp x nm ≡ r → is_eq r ≡ false) [
     | Less ↦ λ _. refl
-    | Equal ↦ λ tie. absurd (let same : find byte_cmp nm m ≡ find byte_cmp x m = find_tied byte_cmp nat_list_cmp_total x nm tie m in let a = absent in cc)
+    | Equal ↦ λ tie. absurd (let same : find byte_cmp nm m ≡ find byte_cmp x m = find_tied byte_cmp nat_list_cmp_total x nm tie m in
+        let a = absent in cc)
     | Greater ↦ λ _. refl
   ] refl
 
@@ -96,13 +101,15 @@ module _ (t : Tree) (d n form : ℕ) (m : Names) (nm : List ℕ) (in_order : T (
       (λ ne. ap (λ o. find byte_cmp x (names_at o)) (at_other q ne) ∙ e)
 
   subdirs : (ms : Names) → count_by (λ x. is_dir (node after x.1)) ms ≡ count_by (λ x. is_dir (node t x.1)) ms
-  subdirs ms = let f : (λ (q : ℕ). is_dir (node after q)) ≡ (λ (q : ℕ). is_dir (node t q)) = fun_ext dirs in ap (λ (f : ℕ → Bool). count_by (λ (x : List ℕ × ℕ). f x.1) ms) f
+  subdirs ms = let f : (λ (q : ℕ). is_dir (node after q)) ≡ (λ (q : ℕ). is_dir (node t q)) = fun_ext dirs in
+      ap (λ (f : ℕ → Bool). count_by (λ (x : List ℕ × ℕ). f x.1) ms) f
 
   -- the directory has one link more where the name gives a directory
   pub links_dir : links after d ≡ links t d + (if is_dir (node t n) then 1 else 0)
   links_dir =
       let more = counted (λ q. is_dir (node t q)) in
-      let now : links after d ≡ 2 + count_by (λ x. is_dir (node t x.1)) (put byte_cmp nm n m) = ap (links_at after d) at_dir ∙ ap (λ c. 2 + c) (subdirs (put byte_cmp nm n m)) in
+      let now : links after d ≡ 2 + count_by (λ x. is_dir (node t x.1)) (put byte_cmp nm n m) = ap (links_at after d) at_dir
+      ∙ ap (λ c. 2 + c) (subdirs (put byte_cmp nm n m)) in
       let was : links t d ≡ 2 + count_by (λ x. is_dir (node t x.1)) m = ap (links_at t d) is in
       omega (arith, more, now, was)
 

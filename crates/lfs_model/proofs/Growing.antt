@@ -1,10 +1,12 @@
 -- A tree with a new name in a directory that gives a new file or link.
-use Rattle.std.proofs.Common.{◌≡◌, ◌≢◌, refl, sym, ap, subst, ◌∙◌, ℕ, ◌+◌, Bool, true, false, List, [], Option, Some, None, arith, cond, inl, inr, eqb, ◌⊎◌, add-zero}
+use Rattle.std.proofs.Common.{◌≡◌, ◌≢◌, refl, sym, ap, subst, ◌∙◌, ℕ, ◌+◌, Bool, true, false, List, [], Option, Some, None, arith, cond}
+use Rattle.std.proofs.Common.{inl, inr, eqb, ◌⊎◌, add-zero}
 use Rattle.std.specs.Prelude.{T, count_by, unwrap_or, if◌then◌else◌, ◌==◌}
 use Rattle.std.proofs.Math.Path.{fun_ext}
 use Rattle.std.specs.Ordering.{nat_cmp, eq_by_cmp, is_eq}
 use Rattle.std.specs.declared.cmp.Ordering.TheVariants.{Less, Equal, Greater}
-use Rattle.lfs_model.specs.Tree.{Tree, Names, Node, File, Dir, Link, node, with_node, names_in, names_of, is_dir, entry, byte_cmp, names, links, links_at}
+use Rattle.lfs_model.specs.Tree.{Tree, Names, Node, File, Dir, Link, node, with_node, names_in, names_of, is_dir, entry, byte_cmp, names}
+use Rattle.lfs_model.specs.Tree.{links, links_at}
 use Rattle.lfs_model.specs.Sound.{IsReachable, root, below}
 use Rattle.std.specs.Cmp.Lexicographic.{nat_list_cmp_total}
 use Rattle.std.proofs.lemmas.Cmp.{nat_cmp_total}
@@ -39,7 +41,8 @@ leaf_links t n (Dir form m) h = cc
 leaf_links t n (Link text) h = refl
 
 module _ (t : Tree) (d n form : ℕ) (m : Names) (nm : List ℕ) (made : Node) (leaf : is_dir (Some made) ≡ false)
-    (in_order : T (is_sorted nat_cmp t)) (is : node t d ≡ Some (Dir form m)) (dir_order : T (is_sorted byte_cmp m)) (fresh : node t n ≡ None) (absent : find byte_cmp nm m ≡ None) where
+    (in_order : T (is_sorted nat_cmp t)) (is : node t d ≡ Some (Dir form m)) (dir_order : T (is_sorted byte_cmp m))
+    (fresh : node t n ≡ None) (absent : find byte_cmp nm m ≡ None) where
   abbrev pub grown : Node
   grown = Dir form (put byte_cmp nm n m)
 
@@ -79,7 +82,8 @@ module _ (t : Tree) (d n form : ℕ) (m : Names) (nm : List ℕ) (made : Node) (
   counted : (f : ℕ → Bool) → count_by (λ e. f e.1) (put byte_cmp nm n m) ≡ count_by (λ e. f e.1) m + (if f n then 1 else 0)
   counted f =
       let all = total_put nat_list_cmp_total (λ v. if f v then 1 else 0) nm n m dir_order in
-      let zero_before : weight nat_list_cmp_total (λ v. if f v then 1 else 0) (find byte_cmp nm m) ≡ 0 = ap (weight nat_list_cmp_total (λ v. if f v then 1 else 0)) absent in
+      let zero_before : weight nat_list_cmp_total (λ v. if f v then 1 else 0) (find byte_cmp nm m) ≡ 0 =
+      ap (weight nat_list_cmp_total (λ v. if f v then 1 else 0)) absent in
       omega (arith, all, zero_before)
 
   pub names_after : (q : ℕ) → names after q ≡ names t q + (if n == q then 1 else 0)
@@ -88,7 +92,8 @@ module _ (t : Tree) (d n form : ℕ) (m : Names) (nm : List ℕ) (made : Node) (
       let two = total_put nat_cmp_total (gives q) n made mid mid_order in
       let no_more = leaf_gives q made leaf in
       let was : weight nat_cmp_total (gives q) (node t d) ≡ gives q (Dir form m) = ap (weight nat_cmp_total (gives q)) is in
-      let none : weight nat_cmp_total (gives q) (node mid n) ≡ 0 = ap (weight nat_cmp_total (gives q)) (find_other t d grown n (λ e. other (sym e)) ∙ fresh) in
+      let none : weight nat_cmp_total (gives q) (node mid n) ≡ 0 =
+      ap (weight nat_cmp_total (gives q)) (find_other t d grown n (λ e. other (sym e)) ∙ fresh) in
       let more = counted (λ v. v == q) in
       omega (arith, one, two, no_more, was, none, more)
 
@@ -105,7 +110,8 @@ module _ (t : Tree) (d n form : ℕ) (m : Names) (nm : List ℕ) (made : Node) (
   names_in_other : (q : ℕ) → q ≢ d → names_in after q ≡ names_in t q
   unfolding nodes_names
   names_in_other q ne = same_or_not q n
-      (λ e. subst (λ x. names_in after x ≡ names_in t x) (sym e) (ap nodes_names at_new ∙ leaf_names made leaf ∙ sym (ap nodes_names fresh)))
+      (λ e.
+      subst (λ x. names_in after x ≡ names_in t x) (sym e) (ap nodes_names at_new ∙ leaf_names made leaf ∙ sym (ap nodes_names fresh)))
       (λ a. ap nodes_names (at_other q a ne))
 
   names_in_dir : names_in after d ≡ put byte_cmp nm n m
@@ -134,7 +140,8 @@ module _ (t : Tree) (d n form : ℕ) (m : Names) (nm : List ℕ) (made : Node) (
   tied_names : (x : List ℕ) (k : ℕ) → find byte_cmp x m ≡ Some k → eq_by_cmp byte_cmp x nm ≡ false
   tied_names x k e = elim (byte_cmp x nm) as (λ r. byte_cmp x nm ≡ r → is_eq r ≡ false) [
     | Less ↦ λ _. refl
-    | Equal ↦ λ tie. absurd (let same : find byte_cmp nm m ≡ find byte_cmp x m = find_tied byte_cmp nat_list_cmp_total x nm tie m in let a = absent in cc)
+    | Equal ↦ λ tie. absurd (let same : find byte_cmp nm m ≡ find byte_cmp x m = find_tied byte_cmp nat_list_cmp_total x nm tie m in
+        let a = absent in cc)
     | Greater ↦ λ _. refl
   ] refl
 
@@ -145,18 +152,16 @@ module _ (t : Tree) (d n form : ℕ) (m : Names) (nm : List ℕ) (made : Node) (
       entry_dir x ∙ ap (λ b. cond b (Some n) (find byte_cmp x m)) (tied_names x k found) ∙ found) e)
       (λ ne. ap (find byte_cmp x) (names_in_other q ne) ∙ e)
 
-  -- a directory's links are as they were, with the same directories
-  subdirs_of : Names → ℕ
-  subdirs_of m = count_by (λ x. is_dir (node after x.1)) m
-
   subdirs_same : (ms : Names) → count_by (λ x. is_dir (node after x.1)) ms ≡ count_by (λ x. is_dir (node t x.1)) ms
-  subdirs_same ms = let f : (λ (q : ℕ). is_dir (node after q)) ≡ (λ (q : ℕ). is_dir (node t q)) = fun_ext dirs in ap (λ (f : ℕ → Bool). count_by (λ (x : List ℕ × ℕ). f x.1) ms) f
+  subdirs_same ms = let f : (λ (q : ℕ). is_dir (node after q)) ≡ (λ (q : ℕ). is_dir (node t q)) = fun_ext dirs in
+      ap (λ (f : ℕ → Bool). count_by (λ (x : List ℕ × ℕ). f x.1) ms) f
 
   pub links_dir : links after d ≡ links t d
   links_dir =
       let new : is_dir (node t n) ≡ false = ap is_dir fresh in
       let more = counted (λ q. is_dir (node t q)) in
-      ap (links_at after d) at_dir ∙ ap (λ c. 2 + c) (subdirs_same (put byte_cmp nm n m) ∙ more ∙ ap (λ b. count_by (λ x. is_dir (node t x.1)) m + (if b then 1 else 0)) new ∙ add-zero _)
+      ap (links_at after d) at_dir ∙ ap (λ c. 2 + c) (subdirs_same (put byte_cmp nm n m) ∙ more
+      ∙ ap (λ b. count_by (λ x. is_dir (node t x.1)) m + (if b then 1 else 0)) new ∙ add-zero _)
       ∙ sym (ap (links_at t d) is)
 
   pub links_other : (q : ℕ) → q ≢ n → q ≢ d → links after q ≡ links t q

@@ -30,7 +30,8 @@ module _ (N : ℕ) (s : State) (n : ℕ) (sound : Sound N s) (room : least_handl
   more_opened : (q : ℕ) → opened s.handles q ≤ opened now q
   more_opened q =
       let all = total_put nat_cmp_total (λ v. if v == q then 1 else 0) h n s.handles sound.handles_in_order in
-      let none : weight nat_cmp_total (λ v. if v == q then 1 else 0) (find nat_cmp h s.handles) ≡ 0 = ap (weight nat_cmp_total (λ v. if v == q then 1 else 0)) free_handle in
+      let none : weight nat_cmp_total (λ v. if v == q then 1 else 0) (find nat_cmp h s.handles) ≡ 0 =
+      ap (weight nat_cmp_total (λ v. if v == q then 1 else 0)) free_handle in
       omega (arith, all, none)
 
   pub opened_sound : Sound N (record s { handles = now })
@@ -47,7 +48,8 @@ module _ (N : ℕ) (s : State) (n : ℕ) (sound : Sound N s) (room : least_handl
     root_unnamed = sound.root_unnamed;
     one_name = sound.one_name;
     reached = sound.reached;
-    held = λ q ne some none. (let was = sound.held q ne some none in record { file = was.file; handle = let up = more_opened q in let old = was.handle in omega arith });
+    held = λ q ne some none. (let was = sound.held q ne some none in
+        record { file = was.file; handle = let up = more_opened q in let old = was.handle in omega arith });
     handles = λ g q e. same_or_not g h
         (λ at. let here : Some n ≡ Some q = sym (find_here s.handles h n) ∙ subst (λ y. find nat_cmp y now ≡ Some q) at e in
         (omega arith, subst (λ x. IsFile (node s.tree x)) (Some-injective _ _ here) file))

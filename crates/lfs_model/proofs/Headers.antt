@@ -1,5 +1,6 @@
 -- Headers in memory change, and files are made, as the log runs.
-use Rattle.std.proofs.Common.{◌≡◌, ◌<◌, ◌≤◌, ⊎_elim, ◌+◌, ◌*◌, ◌/◌, cond, not, Bool, true, false, ℕ, List, Option, Some, None, refl, sym, ◌∙◌, ap, subst, arith}
+use Rattle.std.proofs.Common.{◌≡◌, ◌<◌, ◌≤◌, ⊎_elim, ◌+◌, ◌*◌, ◌/◌, cond, not, Bool, true, false, ℕ, List, Option, Some, None, refl, sym}
+use Rattle.std.proofs.Common.{◌∙◌, ap, subst, arith}
 use Rattle.std.proofs.lemmas.Bool.{cases_eq}
 use Rattle.lfs_model.specs.Changing.{IsWithHeader, IsRelabeling}
 use Rattle.lfs_model.specs.Checkpoint.{CheckpointValue}
@@ -7,7 +8,8 @@ use Rattle.lfs_model.specs.Device.{DeviceState}
 use Rattle.lfs_model.specs.Entry.{Entry, Inode, Map, Usage, Header, header, word}
 use Rattle.lfs_model.specs.Laid.{IsLaid, HoldsInode}
 use Rattle.lfs_model.specs.Lifting.{IsTaken}
-use Rattle.lfs_model.specs.Memory.{Memory, file_of, IsOfFile, is_unlinked, is_nameless, is_shown, is_held, those, settled_at, live_of, held_of}
+use Rattle.lfs_model.specs.Memory.{Memory, file_of, IsOfFile, is_unlinked, is_nameless, is_shown, is_held, those, settled_at, live_of}
+use Rattle.lfs_model.specs.Memory.{held_of}
 use Rattle.lfs_model.specs.Running.{Dirty, Tables, IsCached, SpellsUsage, Running, IsReaddressed}
 use Rattle.lfs_model.specs.Staging.{ChangesTo, HeaderChanging, FileCreating}
 use Rattle.lfs_model.specs.Stands.{LogMap}
@@ -16,28 +18,35 @@ use Rattle.lfs_model.proofs.Counting.{same_counts, settled_low}
 use Rattle.lfs_model.proofs.Entries.{same_entry}
 use Rattle.lfs_model.proofs.FileChanges.{relabeling, creating}
 use Rattle.lfs_model.proofs.Files.{file_there}
-use Rattle.lfs_model.proofs.Running.{pick, pick_yes, pick_no, taken_memory, is_taken, addressed, usage_kept, part_same, kept_same, open_same}
+use Rattle.lfs_model.proofs.Running.{pick, pick_yes, pick_no, taken_memory, is_taken, addressed, usage_kept, part_same, kept_same}
+use Rattle.lfs_model.proofs.Running.{open_same}
 
 -- which entries are shown, where one file's header is another
-shown_but : (m m' : LogMap) (n : ℕ) (h : Option Header) → IsWithHeader m n h m' → (x : Entry) → (file_of x ≡ Some n → ⊥) → is_shown m' x ≡ is_shown m x
+shown_but : (m m' : LogMap) (n : ℕ) (h : Option Header) → IsWithHeader m n h m' → (x : Entry) → (file_of x ≡ Some n → ⊥)
+    → is_shown m' x ≡ is_shown m x
 shown_but m m' n h map x out = go (file_of x) refl
   where
-    go : (f : Option ℕ) → file_of x ≡ f → elim f as (λ z. Bool) [ None ↦ true | Some a ↦ not (is_nameless m' a) ] ≡ elim f as (λ z. Bool) [ None ↦ true | Some a ↦ not (is_nameless m a) ]
+    go : (f : Option ℕ) → file_of x ≡ f → elim f as (λ z. Bool) [ None ↦ true | Some a ↦ not (is_nameless m' a) ] ≡ elim f as (λ z. Bool)
+        [ None ↦ true | Some a ↦ not (is_nameless m a) ]
     go None is = refl
     go (Some a) is = ap (λ (h : Option Header). not (is_unlinked h)) (map.others a (λ same. out (is ∙ ap Some same)))
 
-shown_same : (m m' : LogMap) (n : ℕ) (h : Option Header) → IsWithHeader m n h m' → is_nameless m' n ≡ is_nameless m n → (x : Entry) → is_shown m' x ≡ is_shown m x
+shown_same : (m m' : LogMap) (n : ℕ) (h : Option Header) → IsWithHeader m n h m' → is_nameless m' n ≡ is_nameless m n → (x : Entry)
+    → is_shown m' x ≡ is_shown m x
 shown_same m m' n h map same x = go (file_of x) refl
   where
-    go : (f : Option ℕ) → file_of x ≡ f → elim f as (λ z. Bool) [ None ↦ true | Some a ↦ not (is_nameless m' a) ] ≡ elim f as (λ z. Bool) [ None ↦ true | Some a ↦ not (is_nameless m a) ]
+    go : (f : Option ℕ) → file_of x ≡ f → elim f as (λ z. Bool) [ None ↦ true | Some a ↦ not (is_nameless m' a) ] ≡ elim f as (λ z. Bool)
+        [ None ↦ true | Some a ↦ not (is_nameless m a) ]
     go None is = refl
     go (Some a) is = ⊎_elim
         (λ (here : a ≡ n). ap (λ (a : ℕ). not (is_nameless m' a)) here ∙ ap not same ∙ ap (λ (a : ℕ). not (is_nameless m a)) (sym here))
         (λ (away : a ≡ n → ⊥). ap (λ (h : Option Header). not (is_unlinked h)) (map.others a away))
         (cases_eq a n)
 
-module _ (d : DeviceState) (dirty dirty' : Dirty) (t t' : Tables) (k : CheckpointValue) (m0 m m' : LogMap) (seg : ℕ) (chunk : Option (List Entry)) (n : ℕ) (bytes : List ℕ)
-    (w : Running d dirty t k m0 m seg chunk) (formed : HoldsInode n bytes) (map : IsWithHeader m n (Some (header bytes)) m') (go : ChangesTo dirty dirty' (Inode n) (Some bytes)) where
+module _ (d : DeviceState) (dirty dirty' : Dirty) (t t' : Tables) (k : CheckpointValue) (m0 m m' : LogMap) (seg : ℕ)
+    (chunk : Option (List Entry)) (n : ℕ) (bytes : List ℕ)
+    (w : Running d dirty t k m0 m seg chunk) (formed : HoldsInode n bytes) (map : IsWithHeader m n (Some (header bytes)) m')
+    (go : ChangesTo dirty dirty' (Inode n) (Some bytes)) where
   bytes_next : Entry → List ℕ
   bytes_next y = pick (same_entry y (Inode n)) bytes (w.memory.bytes y)
 
@@ -64,7 +73,8 @@ module _ (d : DeviceState) (dirty dirty' : Dirty) (t t' : Tables) (k : Checkpoin
         (λ (here : y ≡ Inode n).
         let same = some_is bytes b (sym go.own ∙ ap dirty' (sym here) ∙ held) in
         (subst IsOfFile (sym here) (n, refl), ap next.at here ∙ taken_now.at, ap bytes_next here ∙ own ∙ same))
-        (λ (ne : y ≡ Inode n → ⊥). let c = w.cached.cached y b (sym (go.others y ne) ∙ held) in (c.0, taken_now.others y ne ∙ c.1, kept y ne ∙ c.2))
+        (λ (ne : y ≡ Inode n → ⊥). let c = w.cached.cached y b (sym (go.others y ne) ∙ held) in
+        (c.0, taken_now.others y ne ∙ c.1, kept y ne ∙ c.2))
         (same_entry y (Inode n));
     found = λ y f one. ⊎_elim
         (λ (here : y ≡ Inode n). (bytes, ap dirty' here ∙ go.own))
@@ -81,7 +91,8 @@ module _ (d : DeviceState) (dirty dirty' : Dirty) (t t' : Tables) (k : Checkpoin
   formed_now = subst (HoldsInode n) (sym own) formed
 
   -- so the log runs on, where the counts stay
-  staged : IsLaid d.content m' next seg → IsReaddressed t t' (Inode n) 1 → ((s : ℕ) → live_of m' next s ≡ live_of m w.memory s) → ((s : ℕ) → held_of m' next s ≡ held_of m w.memory s) → Running d dirty' t' k m0 m' seg chunk
+  staged : IsLaid d.content m' next seg → IsReaddressed t t' (Inode n) 1 → ((s : ℕ) → live_of m' next s ≡ live_of m w.memory s)
+      → ((s : ℕ) → held_of m' next s ≡ held_of m w.memory s) → Running d dirty' t' k m0 m' seg chunk
   unfolding next taken_memory
   staged laid r live held = record {
     memory = next;
@@ -97,7 +108,8 @@ module _ (d : DeviceState) (dirty dirty' : Dirty) (t t' : Tables) (k : Checkpoin
     };
     fresh = λ i off low.
         subst (SpellsUsage t' i) (sym (kept (Usage i) (λ h. let bad : Usage i ≡ Inode n = h in absurd (cc))))
-        (usage_kept t t' i (w.memory.bytes (Usage i)) (λ q lt. (r.used (64 * i + q), r.live (64 * i + q), r.age (64 * i + q))) (w.fresh i (sym (r.stale i) ∙ off) low));
+        (usage_kept t t' i (w.memory.bytes (Usage i)) (λ q lt. (r.used (64 * i + q), r.live (64 * i + q), r.age (64 * i + q)))
+        (w.fresh i (sym (r.stale i) ∙ off) low));
     part = part_same t t' r.used r.kept w.part;
     kept = kept_same d.content k t t' r.kept w.kept;
     opened = open_same d.content w.memory next t t' seg chunk refl refl r.kept w.opened;
@@ -123,12 +135,14 @@ module _ (d : DeviceState) (dirty dirty' : Dirty) (t t' : Tables) (k : Checkpoin
     off_device true a le = settled_low a le
     off_device false a le = refl
 
-    new_counts : (is is' : Entry → Bool) → ((x : Entry) → (file_of x ≡ Some n → ⊥) → is' x ≡ is x) → (y : Entry) → settled_at (those is' next.at y) ≡ settled_at (those is w.memory.at y)
+    new_counts : (is is' : Entry → Bool) → ((x : Entry) → (file_of x ≡ Some n → ⊥) → is' x ≡ is x) → (y : Entry)
+        → settled_at (those is' next.at y) ≡ settled_at (those is w.memory.at y)
     unfolding next taken_memory
     new_counts is is' same y = cases (file_of y) refl
       where
         other : (file_of y ≡ Some n → ⊥) → settled_at (those is' next.at y) ≡ settled_at (those is w.memory.at y)
-        other out = settled_cond (is' y) (is y) (next.at y) (w.memory.at y) (same y out) (ap settled_at (taken_now.others y (λ h. out (ap file_of h))))
+        other out = settled_cond (is' y) (is y) (next.at y) (w.memory.at y) (same y out)
+            (ap settled_at (taken_now.others y (λ h. out (ap file_of h))))
 
         cases : (f : Option ℕ) → file_of y ≡ f → settled_at (those is' next.at y) ≡ settled_at (those is w.memory.at y)
         cases None is_none = other (λ h. let bad : None ≡ Some n = sym is_none ∙ h in absurd (cc))
@@ -141,10 +155,12 @@ module _ (d : DeviceState) (dirty dirty' : Dirty) (t t' : Tables) (k : Checkpoin
             (cases_eq a n)
 
     live_new : (s : ℕ) → live_of m' next s ≡ live_of m w.memory s
-    live_new = same_counts (is_shown m) (is_shown m') w.memory next w.laid.named laid.named (new_counts (is_shown m) (is_shown m') (shown_but m m' n (Some (header bytes)) map))
+    live_new = same_counts (is_shown m) (is_shown m') w.memory next w.laid.named laid.named
+        (new_counts (is_shown m) (is_shown m') (shown_but m m' n (Some (header bytes)) map))
 
     held_new : (s : ℕ) → held_of m' next s ≡ held_of m w.memory s
-    held_new = same_counts (is_held m) (is_held m') w.memory next w.laid.named laid.named (new_counts (is_held m) (is_held m') (λ x out. ap not (shown_but m m' n (Some (header bytes)) map x out)))
+    held_new = same_counts (is_held m) (is_held m') w.memory next w.laid.named laid.named
+        (new_counts (is_held m) (is_held m') (λ x out. ap not (shown_but m m' n (Some (header bytes)) map x out)))
 
 pub file_creating : FileCreating
 unfolding next taken_memory
@@ -157,7 +173,8 @@ file_creating d dirty dirty' t t' k m0 m m' seg chunk n bytes w none formed empt
       was = was;
       mapped = λ named. w.tables.at (Map (n / 128)) refl ∙ mapped named;
       formed = formed_now d dirty dirty' t t' k m0 m m' seg chunk n bytes w formed map go;
-      words = λ i lo hi. ap (λ (b : List ℕ). word b i) (own d dirty dirty' t t' k m0 m m' seg chunk n bytes w formed map go) ∙ empty i lo hi;
+      words = λ i lo hi. ap (λ (b : List ℕ). word b i) (own d dirty dirty' t t' k m0 m m' seg chunk n bytes w formed map go)
+          ∙ empty i lo hi;
       kept = kept d dirty dirty' t t' k m0 m m' seg chunk n bytes w formed map go;
     }) in
     staged d dirty dirty' t t' k m0 m m' seg chunk n bytes w formed map go laid r
@@ -165,9 +182,12 @@ file_creating d dirty dirty' t t' k m0 m m' seg chunk n bytes w none formed empt
     (held_new d dirty dirty' t t' k m0 m m' seg chunk n bytes w formed map go was laid)
 
 -- ---- another header: memory stays where it is
-module _ (d : DeviceState) (dirty dirty' : Dirty) (t : Tables) (k : CheckpointValue) (m0 m m' : LogMap) (seg : ℕ) (chunk : Option (List Entry)) (n : ℕ) (old bytes : List ℕ)
-    (w : Running d dirty t k m0 m seg chunk) (held : dirty (Inode n) ≡ Some old) (formed : HoldsInode n bytes) (words : (i : ℕ) → 8 ≤ i → i < 122 → word bytes i ≡ word old i)
-    (map : IsWithHeader m n (Some (header bytes)) m') (same : is_nameless m' n ≡ is_nameless m n) (mapped : is_nameless m' n ≡ false → t.at (Map (n / 128)) ≡ 1) (go : ChangesTo dirty dirty' (Inode n) (Some bytes)) where
+module _ (d : DeviceState) (dirty dirty' : Dirty) (t : Tables) (k : CheckpointValue) (m0 m m' : LogMap) (seg : ℕ)
+    (chunk : Option (List Entry)) (n : ℕ) (old bytes : List ℕ)
+    (w : Running d dirty t k m0 m seg chunk) (held : dirty (Inode n) ≡ Some old) (formed : HoldsInode n bytes)
+    (words : (i : ℕ) → 8 ≤ i → i < 122 → word bytes i ≡ word old i)
+    (map : IsWithHeader m n (Some (header bytes)) m') (same : is_nameless m' n ≡ is_nameless m n)
+    (mapped : is_nameless m' n ≡ false → t.at (Map (n / 128)) ≡ 1) (go : ChangesTo dirty dirty' (Inode n) (Some bytes)) where
   labeled_bytes : Entry → List ℕ
   labeled_bytes y = pick (same_entry y (Inode n)) bytes (w.memory.bytes y)
 
@@ -218,12 +238,14 @@ module _ (d : DeviceState) (dirty dirty' : Dirty) (t : Tables) (k : CheckpointVa
   labeled_live : (s : ℕ) → live_of m' labeled s ≡ live_of m w.memory s
   unfolding labeled
   labeled_live = same_counts (is_shown m) (is_shown m') w.memory labeled w.laid.named labeled_laid.named
-      (λ y. settled_cond (is_shown m' y) (is_shown m y) (w.memory.at y) (w.memory.at y) (shown_same m m' n (Some (header bytes)) map same y) refl)
+      (λ y. settled_cond (is_shown m' y) (is_shown m y) (w.memory.at y) (w.memory.at y) (shown_same m m' n (Some (header bytes)) map same y)
+      refl)
 
   labeled_held : (s : ℕ) → held_of m' labeled s ≡ held_of m w.memory s
   unfolding labeled
   labeled_held = same_counts (is_held m) (is_held m') w.memory labeled w.laid.named labeled_laid.named
-      (λ y. settled_cond (is_held m' y) (is_held m y) (w.memory.at y) (w.memory.at y) (ap not (shown_same m m' n (Some (header bytes)) map same y)) refl)
+      (λ y. settled_cond (is_held m' y) (is_held m y) (w.memory.at y) (w.memory.at y)
+      (ap not (shown_same m m' n (Some (header bytes)) map same y)) refl)
 
   header_changed : Running d dirty' t k m0 m' seg chunk
   unfolding labeled
@@ -239,7 +261,8 @@ module _ (d : DeviceState) (dirty dirty' : Dirty) (t : Tables) (k : CheckpointVa
       live = λ s. w.tables.live s ∙ sym (labeled_live s);
       held = λ s. w.tables.held s ∙ sym (labeled_held s);
     };
-    fresh = λ j off low. subst (SpellsUsage t j) (sym (labeled_kept (Usage j) (λ h. let bad : Usage j ≡ Inode n = h in absurd (cc)))) (w.fresh j off low);
+    fresh = λ j off low.
+        subst (SpellsUsage t j) (sym (labeled_kept (Usage j) (λ h. let bad : Usage j ≡ Inode n = h in absurd (cc)))) (w.fresh j off low);
     part = w.part;
     kept = w.kept;
     opened = open_same d.content w.memory labeled t t seg chunk refl refl (λ s. refl) w.opened;

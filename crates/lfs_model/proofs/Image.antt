@@ -1,12 +1,15 @@
 -- A new volume stands for an empty root.
-use Rattle.std.proofs.Common.{◌≡◌, ◌<◌, ◌≤◌, ◌⊎◌, inl, inr, ⊎_elim, ◌+◌, ◌*◌, ◌-◌, ◌/◌, ◌%◌, ◌==◌, ◌^◌, cond, Bool, true, false, nat_lt, ℕ, zero, suc, List, [], ◌∷◌, ◌++◌, length, map, get_or, take, drop, replicate, Option, Some, None, refl, sym, ◌∙◌, ap, subst, arith, lit≤, ne_eqb, eq-eqb}
+use Rattle.std.proofs.Common.{◌≡◌, ◌<◌, ◌≤◌, ◌⊎◌, inl, inr, ⊎_elim, ◌+◌, ◌*◌, ◌-◌, ◌/◌, ◌%◌, ◌==◌, ◌^◌, cond, Bool, true, false, nat_lt, ℕ}
+use Rattle.std.proofs.Common.{zero, suc, List, [], ◌∷◌, ◌++◌, length, map, get_or, take, drop, replicate, Option, Some, None, refl, sym}
+use Rattle.std.proofs.Common.{◌∙◌, ap, subst, arith, lit≤, ne_eqb, eq-eqb}
 use Rattle.std.proofs.lemmas.List.{length-append, get_or_append_left, length-replicate, length-map, get_or_past, get_or-map}
 use Rattle.std.proofs.lemmas.List.FromFn.{get_or-map-range_with_len, length-map-range_with_len}
 use Rattle.std.proofs.lemmas.Bool.{cases_eq, cases_lt, cond-true, cond-false, lt-ltb, le-ltb}
 use Rattle.std.specs.List.{range_with_len}
 use Rattle.std.specs.Option.{option_map}
 use Rattle.lfs_model.specs.Fields.{Are32, le16, le32, le64, words, zeros, part, read32, read64}
-use Rattle.lfs_model.specs.Checkpoint.{CheckpointValue, FitsCheckpoint, IsSegmentCount, IsVersion, checkpoint_in, checkpoint_sector, checkpoint_sector_of, checkpoint_text, layout_version}
+use Rattle.lfs_model.specs.Checkpoint.{CheckpointValue, FitsCheckpoint, IsSegmentCount, IsVersion, checkpoint_in, checkpoint_sector}
+use Rattle.lfs_model.specs.Checkpoint.{checkpoint_sector_of, checkpoint_text, layout_version}
 use Rattle.lfs_model.specs.declared.Kind.TheVariants.{Directory}
 use Rattle.lfs_model.specs.Device.{Cell, cell_at}
 use Rattle.lfs_model.specs.Inode.{FitsInode, IsForm, IsSize, inode_in, inode_sector, kind_byte}
@@ -19,7 +22,8 @@ use Rattle.lfs_model.specs.Reach.{Row, View, row_by, chunks, place_in, view_by}
 use Rattle.lfs_model.specs.Stands.{used_in, live_in, age_in, is_live, is_clean, label_at, AreCounted, AreNamed, EnoughClean, count_up}
 use Rattle.lfs_model.specs.Encodes.{Has, HasInode, Spells, SpellsInode, IsLogMap, Encodes}
 use Rattle.lfs_model.specs.Live.{live_count}
-use Rattle.lfs_model.specs.Image.{blank, usage_blocks, first_usage_address, first_checkpoint, first_name, first_names, new_form, root_inode, first_pointers, first_uses, IsNew, empty_directory, empty_root, Formatted, new_image, image, NewImages}
+use Rattle.lfs_model.specs.Image.{blank, usage_blocks, first_usage_address, first_checkpoint, first_name, first_names, new_form, root_inode}
+use Rattle.lfs_model.specs.Image.{first_pointers, first_uses, IsNew, empty_directory, empty_root, Formatted, new_image, image, NewImages}
 use Rattle.lfs_model.proofs.Decoding.{checkpoint_some, inode_some, summary_some}
 use Rattle.lfs_model.proofs.Encodes.{encoding, word_nil}
 use Rattle.lfs_model.proofs.InodePlaces.{length-inode}
@@ -55,8 +59,10 @@ unfolding IsSize Are32
 fits_inode version known = record {
   number = (lit≤ tt, lit≤ tt);
   links = (lit≤ tt, lit≤ tt);
-  form = ⊎_elim (λ (e : version ≡ 1). subst (λ (v : ℕ). IsForm 2 Directory (new_form v)) (sym e) tt) (λ (e : version ≡ 2). subst (λ (v : ℕ). IsForm 2 Directory (new_form v)) (sym e) (lit≤ tt)) known;
-  size = ⊎_elim (λ (e : version ≡ 1). subst (λ (v : ℕ). IsSize (new_form v) Directory 0) (sym e) (refl, lit≤ tt)) (λ (e : version ≡ 2). subst (λ (v : ℕ). IsSize (new_form v) Directory 0) (sym e) (refl, lit≤ tt)) known;
+  form = ⊎_elim (λ (e : version ≡ 1). subst (λ (v : ℕ). IsForm 2 Directory (new_form v)) (sym e) tt)
+      (λ (e : version ≡ 2). subst (λ (v : ℕ). IsForm 2 Directory (new_form v)) (sym e) (lit≤ tt)) known;
+  size = ⊎_elim (λ (e : version ≡ 1). subst (λ (v : ℕ). IsSize (new_form v) Directory 0) (sym e) (refl, lit≤ tt))
+      (λ (e : version ≡ 2). subst (λ (v : ℕ). IsSize (new_form v) Directory 0) (sym e) (refl, lit≤ tt)) known;
   direct_length = refl;
   direct_fits = λ i. let z = get_or_blank 112 i in omega arith;
   single_fits = omega arith;
@@ -73,7 +79,13 @@ fits_pointers = record { count = refl; fits = each }
     each (suc (suc i)) = let z = get_or_blank 126 i in omega arith
 
 is_unused : IsUse no_use
-is_unused = record { used = omega arith; both = (λ e. refl, λ e. refl); live = omega arith; fewer = λ some. absurd (omega arith); age = omega arith }
+is_unused = record {
+  used = omega arith;
+  both = (λ e. refl, λ e. refl);
+  live = omega arith;
+  fewer = λ some. absurd (omega arith);
+  age = omega arith;
+}
 
 -- the other slot holds nothing
 none_blank : checkpoint_in (blank 512) ≡ None
@@ -82,10 +94,13 @@ none_blank = refl
 
 -- ---- counts
 
-module _ (p : ℕ → Bool) (m : ℕ) (none : p 0 ≡ false) (some : (x : ℕ) → x < m → p (suc x) ≡ true) (past : (x : ℕ) → m ≤ x → p (suc x) ≡ false) where
+module _ (p : ℕ → Bool) (m : ℕ) (none : p 0 ≡ false) (some : (x : ℕ) → x < m → p (suc x) ≡ true)
+    (past : (x : ℕ) → m ≤ x → p (suc x) ≡ false) where
   counts_some : (n : ℕ) → n ≤ m → count_up p (suc n) ≡ n
-  counts_some zero le = count_up_more p 0 ∙ (let start = count_up_none p in let step : cond {A = ℕ} (p 0) 1 0 ≡ 0 = ap {B = ℕ} (λ (b : Bool). cond {A = ℕ} b 1 0) none in omega (arith, start, step))
-  counts_some (suc n) le = count_up_more p (suc n) ∙ (let rest = counts_some n (omega arith) in let step : cond {A = ℕ} (p (suc n)) 1 0 ≡ 1 = ap {B = ℕ} (λ (b : Bool). cond {A = ℕ} b 1 0) (some n (omega arith)) in omega (arith, rest, step))
+  counts_some zero le = count_up_more p 0 ∙ (let start = count_up_none p in
+      let step : cond {A = ℕ} (p 0) 1 0 ≡ 0 = ap {B = ℕ} (λ (b : Bool). cond {A = ℕ} b 1 0) none in omega (arith, start, step))
+  counts_some (suc n) le = count_up_more p (suc n) ∙ (let rest = counts_some n (omega arith) in let step : cond {A = ℕ} (p (suc n)) 1 0
+      ≡ 1 = ap {B = ℕ} (λ (b : Bool). cond {A = ℕ} b 1 0) (some n (omega arith)) in omega (arith, rest, step))
 
   counts_all : (d : ℕ) → count_up p (suc (m + d)) ≡ m
   counts_all zero = ap (λ (n : ℕ). count_up p (suc n)) (omega arith) ∙ counts_some m (omega arith)
@@ -128,7 +143,8 @@ module _ (version N : ℕ) (c : Content) (new : IsNew version N c) where
   usage_at : (j : ℕ) → get_or k.usage j 0 ≡ first_usage_address N j
   usage_at j = ⊎_elim
       (λ (low : j < 16). get_or-map-range_with_len (first_usage_address N) 0 16 j j 0 low (omega arith))
-      (λ (high : 16 ≤ j). get_or_past k.usage j 0 (let l = usage_length in omega arith) ∙ sym (cond-false (nat_lt j u) (5 + j) 0 (le-ltb j u (let most = blocks_high in omega arith))))
+      (λ (high : 16 ≤ j). get_or_past k.usage j 0 (let l = usage_length in omega arith)
+      ∙ sym (cond-false (nat_lt j u) (5 + j) 0 (le-ltb j u (let most = blocks_high in omega arith))))
       (cases_lt j 16)
 
   usage_some : (j : ℕ) → j < u → get_or k.usage j 0 ≡ 5 + j
@@ -147,7 +163,8 @@ module _ (version N : ℕ) (c : Content) (new : IsNew version N c) where
     map_length = refl;
     map_fits = map_fits;
     usage_length = usage_length;
-    usage_fits = λ j. ⊎_elim (λ (lt : j < u). let e = usage_some j lt in let most = blocks_high in omega arith) (λ (le : u ≤ j). let e = usage_none j le in omega arith) (cases_lt j u);
+    usage_fits = λ j. ⊎_elim (λ (lt : j < u). let e = usage_some j lt in let most = blocks_high in omega arith)
+        (λ (le : u ≤ j). let e = usage_none j le in omega arith) (cases_lt j u);
   }
     where
       map_fits : (i : ℕ) → get_or (4 ∷ blank 31) i 0 < 2 ^ 32
@@ -208,7 +225,8 @@ module _ (version N : ℕ) (c : Content) (new : IsNew version N c) where
   v = view_by c k A
 
   inode_at : (n : ℕ) → 0 < cond (n == 1) 3 0 → n ≡ 1
-  inode_at n lt = ⊎_elim (λ (e : n ≡ 1). e) (λ (ne : n ≡ 1 → ⊥). let bad : 0 < 0 = subst (λ (x : ℕ). 0 < x) (cond-false {A = ℕ} (n == 1) 3 0 (ne_eqb n 1 ne)) lt in absurd (omega arith)) (cases_eq n 1)
+  inode_at n lt = ⊎_elim (λ (e : n ≡ 1). e) (λ (ne : n ≡ 1 → ⊥). let bad : 0 < 0 =
+      subst (λ (x : ℕ). 0 < x) (cond-false {A = ℕ} (n == 1) 3 0 (ne_eqb n 1 ne)) lt in absurd (omega arith)) (cases_eq n 1)
 
   usage_there : (j : ℕ) → 0 < get_or k.usage j 0 → j < u
   usage_there j lt = ⊎_elim (λ (low : j < u). low) (λ (high : u ≤ j). let e = usage_none j high in absurd (omega arith)) (cases_lt j u)
@@ -240,10 +258,12 @@ module _ (version N : ℕ) (c : Content) (new : IsNew version N c) where
   stored (Usage j) has = let e = usage_some j has in omega arith
 
   only : (e : Entry) → 0 < A e → Has (empty_root version) N e
-  only = at_each (Has (empty_root version) N) ((empty_directory version), refl) (1, omega arith, ((empty_directory version), refl)) (λ j lt. lt)
+  only = at_each (Has (empty_root version) N) ((empty_directory version), refl) (1, omega arith, ((empty_directory version), refl))
+      (λ j lt. lt)
 
   within : (e : Entry) → 0 < A e → (2 ≤ A e) × (A e < 2 + 64 * N)
-  within = at_each (λ e. (2 ≤ A e) × (A e < 2 + 64 * N)) (let low = new.count.least in (omega arith, omega arith)) (let low = new.count.least in (omega arith, omega arith))
+  within = at_each (λ e. (2 ≤ A e) × (A e < 2 + 64 * N)) (let low = new.count.least in (omega arith, omega arith))
+      (let low = new.count.least in (omega arith, omega arith))
       (λ j lt. let e = usage_some j lt in let most = blocks_high in let low = new.count.least in (omega arith, omega arith))
 
   -- ---- its blocks
@@ -271,10 +291,12 @@ module _ (version N : ℕ) (c : Content) (new : IsNew version N c) where
       each : (i : ℕ) → i < 64 → IsUse (get_or (first_uses N 0) i no_use)
       each zero lt = first_use
       each (suc i) lt = subst IsUse (sym (unused_at 63 i)) is_unused
-  fits_uses (suc j) = record { entries = refl; each = λ i lt. subst IsUse (sym (unused_at 64 i)) is_unused; past = λ i le lt. absurd (omega arith) }
+  fits_uses (suc j) =
+      record { entries = refl; each = λ i lt. subst IsUse (sym (unused_at 64 i)) is_unused; past = λ i le lt. absurd (omega arith) }
 
   long : (e : Entry) → 0 < A e → length (block c (A e)) ≡ 512
-  long = at_each (λ e. length (block c (A e)) ≡ 512) (ap length inode_block ∙ length-inode (root_inode version) (fits_inode version new.known)) (ap length map_block ∙ length-pointers first_pointers fits_pointers)
+  long = at_each (λ e. length (block c (A e)) ≡ 512) (ap length inode_block ∙ length-inode (root_inode version)
+      (fits_inode version new.known)) (ap length map_block ∙ length-pointers first_pointers fits_pointers)
       (λ j lt. ap length (usage_block j lt) ∙ length-usage 64 (first_uses N j) (fits_uses j))
 
   pointer_at : (i : ℕ) → get_or first_pointers i 0 ≡ cond (i == 1) 3 0
@@ -303,7 +325,8 @@ module _ (version N : ℕ) (c : Content) (new : IsNew version N c) where
   -- ---- the usage table
   use_there : (j i : ℕ) → j < u → i < 64 → UseWords (block c (A (Usage j))) i (get_or (first_uses N j) i no_use)
   use_there j i below lt =
-      subst (UseWords (block c (A (Usage j))) i) (sym (use_of (block c (A (Usage j))) 64 (first_uses N j) (fits_uses j) (usage_block j below) i lt)) (use_words (block c (A (Usage j))) i)
+      subst (UseWords (block c (A (Usage j))) i) (sym (use_of (block c (A (Usage j))) 64 (first_uses N j) (fits_uses j)
+      (usage_block j below) i lt)) (use_words (block c (A (Usage j))) i)
 
   no_use_there : (j i : ℕ) → (j ≡ 0 → 0 < i) → get_or (first_uses N j) i no_use ≡ no_use
   no_use_there zero zero some = let h = some refl in absurd (omega arith)
@@ -312,7 +335,8 @@ module _ (version N : ℕ) (c : Content) (new : IsNew version N c) where
 
   unused : (s : ℕ) → 0 < s → UseWords (block c (A (Usage (s / 64)))) (s % 64) no_use
   unused s lt = ⊎_elim
-      (λ (below : s / 64 < u). subst (UseWords (block c (A (Usage (s / 64)))) (s % 64)) (no_use_there (s / 64) (s % 64) (λ e. omega arith)) (use_there (s / 64) (s % 64) below (omega arith)))
+      (λ (below : s / 64 < u). subst (UseWords (block c (A (Usage (s / 64)))) (s % 64)) (no_use_there (s / 64) (s % 64) (λ e. omega arith))
+      (use_there (s / 64) (s % 64) below (omega arith)))
       (λ (past : u ≤ s / 64).
       let none : block c (A (Usage (s / 64))) ≡ [] = ap (block c) (usage_none (s / 64) past) in
       record {
@@ -349,7 +373,8 @@ module _ (version N : ℕ) (c : Content) (new : IsNew version N c) where
   unfolding row_by
   first_row =
       let len : 0 + 1 + length entries ≡ 3 + u = (let l = entries_length in omega arith) in
-      let room : 2 + 64 * 0 + 0 + 1 + length entries ≤ length c = (let l = entries_length in let size = new.size in let low = new.count.least in let most = blocks_high in omega arith) in
+      let room : 2 + 64 * 0 + 0 + 1 + length entries ≤ length c =
+      (let l = entries_length in let size = new.size in let low = new.count.least in let most = blocks_high in omega arith) in
       let read = chunk_read c 0 0 (summary_sector names) entries new.summary named_in room in
       let whole : 0 + 1 + length entries ≡ 0 + 1 + length entries - 0 = omega arith in
       ap (λ (n : ℕ). chunks [] (take n (drop 2 c))) (used_first ∙ sym len ∙ whole) ∙ read
@@ -377,7 +402,8 @@ module _ (version N : ℕ) (c : Content) (new : IsNew version N c) where
           let most = blocks_high in
           let segment : (A (Usage j) - 2) / 64 ≡ 0 = omega arith in
           let place : (A (Usage j) - 2) % 64 ≡ suc (suc (suc j)) = omega arith in
-          ap (λ (s : ℕ). place_in (v.row s) ((A (Usage j) - 2) % 64)) segment ∙ ap (λ (at : ℕ). place_in (v.row 0) at) place ∙ place_at (suc (suc j)) (omega arith)
+          ap (λ (s : ℕ). place_in (v.row s) ((A (Usage j) - 2) % 64)) segment ∙ ap (λ (at : ℕ). place_in (v.row 0) at) place
+          ∙ place_at (suc (suc j)) (omega arith)
 
   -- the place is reached as the entry that the row gives it
   abbrev live_by : ℕ → ℕ → Option Entry → Bool
@@ -392,7 +418,8 @@ module _ (version N : ℕ) (c : Content) (new : IsNew version N c) where
   live_there i lt = ap (live_by 0 (suc i)) (place_at i lt) ∙ eq-eqb (A (entry_of (first_name i))) (2 + 64 * 0 + suc i) (address_is i lt)
 
   counted_first : live_count v 0 ≡ 2 + u
-  counted_first = counted_to (is_live v 0) (2 + u) (ap (λ (o : Option Row). live_by 0 0 (place_in o 0)) first_row) live_there (λ i le. ap (live_by 0 (suc i)) (no_place i le)) 64 (let most = blocks_high in omega arith)
+  counted_first = counted_to (is_live v 0) (2 + u) (ap (λ (o : Option Row). live_by 0 0 (place_in o 0)) first_row) live_there
+      (λ i le. ap (live_by 0 (suc i)) (no_place i le)) 64 (let most = blocks_high in omega arith)
 
   count_none : count_up (λ x. false) 64 ≡ 0
   unfolding count_up
@@ -403,7 +430,8 @@ module _ (version N : ℕ) (c : Content) (new : IsNew version N c) where
   counted (suc s) below =
       (named_counts v named (suc s) (live_in v (suc s))).1
       (live_past (suc s) (omega arith)
-      ∙ sym (count_up_same (is_live v (suc s)) (λ x. false) 64 (λ x lt. ap (λ (o : Option Row). live_by (suc s) x (place_in o x)) (row_past (suc s) (omega arith))) ∙ count_none))
+      ∙ sym (count_up_same (is_live v (suc s)) (λ x. false) 64
+      (λ x lt. ap (λ (o : Option Row). live_by (suc s) x (place_in o x)) (row_past (suc s) (omega arith))) ∙ count_none))
 
   clean : EnoughClean v
   clean =
@@ -426,10 +454,13 @@ module _ (version N : ℕ) (c : Content) (new : IsNew version N c) where
     within = within;
     long = long;
     spells = at_each (λ e. Spells (empty_root version) (layout_version k) A (block c (A e)) e) spells_inode map_words (λ j lt. tt);
-    rows = at_segment (λ s. 0 < used_in v s → (r : List (Option Entry)) × (v.row s ≡ Some r)) (λ lt. (chunk, first_row)) (λ s lt some. let z = used_past s lt in absurd (omega arith));
+    rows = at_segment (λ s. 0 < used_in v s → (r : List (Option Entry)) × (v.row s ≡ Some r)) (λ lt. (chunk, first_row))
+        (λ s lt some. let z = used_past s lt in absurd (omega arith));
     named = named;
-    fit = at_segment (λ s. used_in v s ≤ 64) (let f = used_first in let most = blocks_high in omega arith) (λ s lt. let z = used_past s lt in omega arith);
-    less = at_segment (λ s. (used_in v s ≡ 0) ⊎ ((0 < live_in v s) × (live_in v s < used_in v s))) (inr (let f = used_first in let l = live_first in (omega arith, omega arith))) (λ s lt. inl (used_past s lt));
+    fit = at_segment (λ s. used_in v s ≤ 64) (let f = used_first in let most = blocks_high in omega arith)
+        (λ s lt. let z = used_past s lt in omega arith);
+    less = at_segment (λ s. (used_in v s ≡ 0) ⊎ ((0 < live_in v s) × (live_in v s < used_in v s)))
+        (inr (let f = used_first in let l = live_first in (omega arith, omega arith))) (λ s lt. inl (used_past s lt));
     both = at_segment (λ s. used_in v s ≡ 0 → live_in v s ≡ 0) (λ e. let f = used_first in absurd (omega arith)) (λ s lt e. live_past s lt);
     past = λ s le. (used_past s (let low = new.count.least in omega arith), age_past s (let low = new.count.least in omega arith));
     counted = counted;
@@ -437,13 +468,15 @@ module _ (version N : ℕ) (c : Content) (new : IsNew version N c) where
   }
 
 header_root : (version n : ℕ) (h : Header) → (empty_root version).header n ≡ Some h → h ≡ empty_directory version
-header_root version n h is = elim (n == 1) as (λ (b : Bool). cond b (Some (empty_directory version)) None ≡ Some h → h ≡ empty_directory version) [ true ↦ λ e. cc | false ↦ λ e. absurd (cc) ] is
+header_root version n h is = elim (n == 1) as (λ (b : Bool). cond b (Some (empty_directory version)) None ≡ Some h
+    → h ≡ empty_directory version) [ true ↦ λ e. cc | false ↦ λ e. absurd (cc) ] is
 
 formed : (version : ℕ) → IsVersion version → IsLogMap (empty_root version)
 formed version known = record {
   none = λ h is. absurd (cc);
   root = (empty_directory version, refl, refl);
-  forms = λ n h is. let at = header_root version n h is in subst (λ (x : Header). IsForm version x.kind x.form) (sym at) (small_form version known);
+  forms = λ n h is. let at = header_root version n h is in
+      subst (λ (x : Header). IsForm version x.kind x.form) (sym at) (small_form version known);
   within = λ n i has. absurd (omega arith);
   small = λ n i has. absurd (omega arith);
   nonzero = λ n i has. absurd (omega arith);
@@ -451,7 +484,10 @@ formed version known = record {
 }
 
 pub formatted : Formatted
-formatted version N c new = (is_newest version N c new, encoding c (first_checkpoint version N) (A version N c new) (empty_root version) (formed version new.known) (encodes version N c new))
+formatted version N c new = (
+  is_newest version N c new,
+  encoding c (first_checkpoint version N) (A version N c new) (empty_root version) (formed version new.known) (encodes version N c new),
+)
 
 -- ---- such contents
 
@@ -501,15 +537,20 @@ module _ (version N : ℕ) (known : IsVersion version) (count : IsSegmentCount N
     summary = refl;
     inode = refl;
     pointers = refl;
-    uses = λ j lt. sixth_on (Some (blank 512)) (Some (checkpoint_sector (first_checkpoint version N))) (Some (summary_sector (first_names N))) (Some (inode_sector (root_inode version))) (Some (pointer_sector first_pointers)) (used_cells ++ rest) j ∙ usage_cell j lt;
+    uses = λ j lt.
+        sixth_on (Some (blank 512)) (Some (checkpoint_sector (first_checkpoint version N))) (Some (summary_sector (first_names N)))
+        (Some (inode_sector (root_inode version))) (Some (pointer_sector first_pointers)) (used_cells ++ rest) j ∙ usage_cell j lt;
   }
 
 module _ (version : ℕ) (known : IsVersion version) where
-  first_cells : (cell_at (image version) 1 ≡ Some (checkpoint_sector (first_checkpoint version 64))) × (cell_at (image version) 3 ≡ Some (inode_sector (root_inode version)))
+  first_cells : (cell_at (image version) 1 ≡ Some (checkpoint_sector (first_checkpoint version 64)))
+      × (cell_at (image version) 3 ≡ Some (inode_sector (root_inode version)))
   unfolding checkpoint_sector checkpoint_sector_of checkpoint_text le64 le32 le16 words zeros inode_sector kind_byte
   first_cells = ⊎_elim
-      (λ (e : version ≡ 1). subst (λ (v : ℕ). (cell_at (image v) 1 ≡ Some (checkpoint_sector (first_checkpoint v 64))) × (cell_at (image v) 3 ≡ Some (inode_sector (root_inode v)))) (sym e) (refl, refl))
-      (λ (e : version ≡ 2). subst (λ (v : ℕ). (cell_at (image v) 1 ≡ Some (checkpoint_sector (first_checkpoint v 64))) × (cell_at (image v) 3 ≡ Some (inode_sector (root_inode v)))) (sym e) (refl, refl))
+      (λ (e : version ≡ 1). subst (λ (v : ℕ). (cell_at (image v) 1 ≡ Some (checkpoint_sector (first_checkpoint v 64)))
+      × (cell_at (image v) 3 ≡ Some (inode_sector (root_inode v)))) (sym e) (refl, refl))
+      (λ (e : version ≡ 2). subst (λ (v : ℕ). (cell_at (image v) 1 ≡ Some (checkpoint_sector (first_checkpoint v 64)))
+      × (cell_at (image v) 3 ≡ Some (inode_sector (root_inode v)))) (sym e) (refl, refl))
       known
 
   image_is_new : IsNew version 64 (image version)

@@ -11,7 +11,8 @@ use Rattle.lfs_model.proofs.Runs.{numbers_is}
 use Rattle.lfs_model.proofs.Laid.{Field, Sized, Laid, laid_from, laid_to, length-fields}
 
 unfoldable pub fields : InodeValue → List Field
-fields i = (1, kind_byte i.kind ∷ []) ∷ (1, i.form ∷ []) ∷ (2, zeros 2) ∷ (4, le32 i.number) ∷ (4, le32 i.links) ∷ (4, le32 i.size) ∷ (16, zeros 16) ∷ (448, words i.direct) ∷ (4, le32 i.single) ∷ (4, le32 i.double) ∷ (24, zeros 24) ∷ []
+fields i = (1, kind_byte i.kind ∷ []) ∷ (1, i.form ∷ []) ∷ (2, zeros 2) ∷ (4, le32 i.number) ∷ (4, le32 i.links) ∷ (4, le32 i.size)
+    ∷ (16, zeros 16) ∷ (448, words i.direct) ∷ (4, le32 i.single) ∷ (4, le32 i.double) ∷ (24, zeros 24) ∷ []
 
 -- what stands at each place of the sector
 pub record ReadsAs (s : List ℕ) (i : InodeValue) : Type 0 where
@@ -30,8 +31,31 @@ pub record ReadsAs (s : List ℕ) (i : InodeValue) : Type 0 where
 sized : (i : InodeValue) → FitsInode i → Sized (fields i)
 unfolding fields
 sized i fits =
-    let direct : length (words i.direct) ≡ 448 = length-words i.direct ∙ ap (λ (n : ℕ). 4 * n) fits.direct_length in
-    (refl, (refl, (length-zeros 2, (length-le32 i.number, (length-le32 i.links, (length-le32 i.size, (length-zeros 16, (direct, (length-le32 i.single, (length-le32 i.double, (length-zeros 24, tt)))))))))))
+    let direct : length (words i.direct) ≡ 448 = length-words i.direct ∙ ap (λ (n : ℕ). 4 * n) fits.direct_length in (
+      refl,
+      (
+        refl,
+        (
+          length-zeros 2,
+          (
+            length-le32 i.number,
+            (
+              length-le32 i.links,
+              (
+                length-le32 i.size,
+                (
+                  length-zeros 16,
+                  (
+                    direct,
+                    (length-le32 i.single, (length-le32 i.double, (length-zeros 24, tt))),
+                  ),
+                ),
+              ),
+            ),
+          ),
+        ),
+      ),
+    )
 
 pub length-inode : (i : InodeValue) → FitsInode i → length (inode_sector i) ≡ 512
 unfolding fields inode_sector
@@ -57,7 +81,8 @@ reads_from s i fits e =
 pub reads_to : (s : List ℕ) (i : InodeValue) → length s ≡ 512 → ReadsAs s i → s ≡ inode_sector i
 unfolding fields inode_sector
 reads_to s i long r =
-    laid_to s 0 (fields i) (sym long) (r.kind, (r.form, (r.gap, (r.number, (r.links, (r.size, (r.gap2, (r.direct, (r.single, (r.double, (r.rest, tt)))))))))))
+    laid_to s 0 (fields i) (sym long)
+    (r.kind, (r.form, (r.gap, (r.number, (r.links, (r.size, (r.gap2, (r.direct, (r.single, (r.double, (r.rest, tt)))))))))))
 
 pub kind_of_byte : (k : Kind) → kind_of (kind_byte k) ≡ k
 unfolding kind_byte

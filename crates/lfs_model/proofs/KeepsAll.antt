@@ -1,14 +1,17 @@
 -- Every call keeps a state sound, and so does every run of calls.
 use Rattle.std.proofs.Common.{◌≡◌, ◌<◌, replicate, refl, sym, subst, ℕ, zero, suc, Some, slice_get, true, List, [], ◌∷◌, inl, inr}
 use Rattle.std.specs.List.{AllByRecursion}
-use Rattle.lfs_model.specs.Call.{Call, Open, Create, Close, Pread, Pwrite, Truncate, Mkdir, LinkTo, Symlink, Readlink, Unlink, Rmdir, Rename, StatOf, LstatOf, Readdir, Fsync, Sync, Clean, Space, Version, Upgrade, Widen, ListTree, Answer, AreArguments, leaves_state}
+use Rattle.lfs_model.specs.Call.{Call, Open, Create, Close, Pread, Pwrite, Truncate, Mkdir, LinkTo, Symlink, Readlink, Unlink, Rmdir}
+use Rattle.lfs_model.specs.Call.{Rename, StatOf, LstatOf, Readdir, Fsync, Sync, Clean, Space, Version, Upgrade, Widen, ListTree, Answer}
+use Rattle.lfs_model.specs.Call.{AreArguments, leaves_state}
 use Rattle.lfs_model.specs.Tree.{State, drop_nameless}
 use Rattle.lfs_model.specs.Sound.{Sound}
 use Rattle.lfs_model.specs.Laws.{KeepsSound}
 use Rattle.lfs_model.specs.Run.{Point, Run, LineRun, LineAnswers, Answers, IsPending}
 use Rattle.lfs_model.specs.Bytes.{AreBytes}
 use Rattle.lfs_model.specs.Script.{Line, Plain, Fill, InRange, call_of}
-use Rattle.lfs_model.proofs.Keeps.{create_keeps, symlink_keeps, link_keeps, unlink_keeps, open_keeps, close_keeps, pwrite_keeps, truncate_keeps}
+use Rattle.lfs_model.proofs.Keeps.{create_keeps, symlink_keeps, link_keeps, unlink_keeps, open_keeps, close_keeps, pwrite_keeps}
+use Rattle.lfs_model.proofs.Keeps.{truncate_keeps}
 use Rattle.lfs_model.proofs.KeepsNames.{mkdir_keeps, rmdir_keeps, rename_keeps}
 use Rattle.lfs_model.proofs.Widening.{upgrade_keeps, widen_keeps}
 use Rattle.lfs_model.proofs.Pendings.{reads_leave}
@@ -45,13 +48,15 @@ call_keeps (Widen p) N s s' a sound args st = widen_keeps N s s' p a sound st
 call_keeps ListTree N s s' a sound args st = read_keeps ListTree refl N s s' a sound args st
 
 -- an excused refusal leaves the state
-answer_keeps : (N : ℕ) (call : Call) (p q : Point) (a : Answer) → Sound N p.state → AreArguments call → Answers N call p a q → Sound N q.state
+answer_keeps : (N : ℕ) (call : Call) (p q : Point) (a : Answer) → Sound N p.state → AreArguments call → Answers N call p a q
+    → Sound N q.state
 answer_keeps N call p q a sound args does = elim does.steps as (λ _. Sound N q.state) [
   | inl st ↦ call_keeps call N p.state q.state a sound args st.0
   | inr excused ↦ subst (Sound N) (sym excused.3) sound
 ]
 
-pub run_keeps : (N : ℕ) (p : Point) (calls : List Call) (answers : List Answer) (points : List Point) → Sound N p.state → AllByRecursion AreArguments calls → Run N p calls answers points
+pub run_keeps : (N : ℕ) (p : Point) (calls : List Call) (answers : List Answer) (points : List Point) → Sound N p.state
+    → AllByRecursion AreArguments calls → Run N p calls answers points
     → AllByRecursion (λ q. Sound N q.state) points
 run_keeps N p [] [] [] sound args run = tt
 run_keeps N p [] [] (q ∷ points) sound args run = absurd run
@@ -75,7 +80,8 @@ line_keeps : (N : ℕ) (line : Line) (p q : Point) (a : Answer) → Sound N p.st
 line_keeps N line p q a sound fits (inl does) = answer_keeps N (call_of line) p q a sound (arguments_of line fits) does
 line_keeps N line p q a sound fits (inr refused) = subst (λ (z : Point). Sound N z.state) (sym refused.2) sound
 
-pub line_run_keeps : (N : ℕ) (p : Point) (asked : List Line) (answers : List Answer) (points : List Point) → Sound N p.state → AllByRecursion InRange asked → LineRun N p asked answers points
+pub line_run_keeps : (N : ℕ) (p : Point) (asked : List Line) (answers : List Answer) (points : List Point) → Sound N p.state
+    → AllByRecursion InRange asked → LineRun N p asked answers points
     → AllByRecursion (λ q. Sound N q.state) points
 line_run_keeps N p [] [] [] sound fits run = tt
 line_run_keeps N p [] [] (q ∷ points) sound fits run = absurd run
@@ -91,8 +97,10 @@ at_point P [] n q all is = cc
 at_point P (p ∷ points) zero q all is = subst P (Some-injective p q is) all.0
 at_point P (p ∷ points) (suc n) q all is = at_point P points n q all.1 is
 
-pub pending_sound : (N : ℕ) (p : Point) (calls : List Call) (answers : List Answer) (points : List Point) (s : State) → Sound N p.state → AllByRecursion AreArguments calls → Run N p calls answers points
+pub pending_sound : (N : ℕ) (p : Point) (calls : List Call) (answers : List Answer) (points : List Point) (s : State) → Sound N p.state
+    → AllByRecursion AreArguments calls → Run N p calls answers points
     → IsPending (p ∷ points) calls answers s → Sound N (drop_nameless s)
 pending_sound N p calls answers points s sound args run pending =
     let all = run_keeps N p calls answers points sound args run in
-    dropped_sound N s (subst (Sound N) pending.is (at_point (λ q. Sound N q.state) (p ∷ points) pending.n pending.point (sound, all) pending.at))
+    dropped_sound N s
+    (subst (Sound N) pending.is (at_point (λ q. Sound N q.state) (p ∷ points) pending.n pending.point (sound, all) pending.at))

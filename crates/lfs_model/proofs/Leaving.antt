@@ -1,5 +1,7 @@
 -- The other steps of a commit: segments opened and sealed, blocks of the tables that leave their places or are written.
-use Rattle.std.proofs.Common.{◌≡◌, ◌<◌, ◌≤◌, ⊎_elim, ◌+◌, ◌*◌, ◌-◌, ◌/◌, ◌%◌, ◌==◌, cond, eq-eqb, true, false, ℕ, suc, List, [], ◌∷◌, ◌++◌, map, length, get_or, length-set, length-append, get_or-set_other, Option, Some, None, refl, sym, ◌∙◌, ap, ap₂, subst, arith}
+use Rattle.std.proofs.Common.{◌≡◌, ◌<◌, ◌≤◌, ⊎_elim, ◌+◌, ◌*◌, ◌-◌, ◌/◌, ◌%◌, ◌==◌, cond, eq-eqb, true, false, ℕ, suc, List, [], ◌∷◌, ◌++◌}
+use Rattle.std.proofs.Common.{map, length, get_or, length-set, length-append, get_or-set_other, Option, Some, None, refl, sym, ◌∙◌, ap, ap₂}
+use Rattle.std.proofs.Common.{subst, arith}
 use Rattle.std.proofs.lemmas.Bool.{cases_eq, cond-true}
 use Rattle.std.proofs.lemmas.List.{get_or_append_left}
 use Rattle.lfs_model.specs.Entry.{Entry, Inode, Map, Usage}
@@ -23,12 +25,19 @@ use Rattle.lfs_model.proofs.Outgoing.{map_leaving, usage_lifting, filling}
 use Rattle.lfs_model.proofs.Segments.{opening, reopening, sealing, no_row_live}
 use Rattle.lfs_model.proofs.Tables.{map_table, usage_table, empty_row, row_kept}
 use Rattle.lfs_model.proofs.Settled.{settled_write, settled_still}
-use Rattle.lfs_model.proofs.Running.{pick, pick_yes, pick_no, taken_memory, is_taken, addressed, lifted_tables, lifted_fresh, usage_kept, row_length, part_same, kept_same, open_same}
+use Rattle.lfs_model.proofs.Running.{pick, pick_yes, pick_no, taken_memory, is_taken, addressed, lifted_tables, lifted_fresh, usage_kept}
+use Rattle.lfs_model.proofs.Running.{row_length, part_same, kept_same, open_same}
 
 -- ---- a clean segment is opened
-module _ (d : DeviceState) (dirty : Dirty) (t t' : Tables) (k : CheckpointValue) (m0 m : LogMap) (none s : ℕ) (w : Running d dirty t k m0 m none None) (inside : s < k.segments) (go : IsTakenFrom t t' s) where
+module _ (d : DeviceState) (dirty : Dirty) (t t' : Tables) (k : CheckpointValue) (m0 m : LogMap) (none s : ℕ)
+    (w : Running d dirty t k m0 m none None) (inside : s < k.segments) (go : IsTakenFrom t t' s) where
   opened_memory : Memory
-  opened_memory = record { segments = w.memory.segments; at = w.memory.at; bytes = w.memory.bytes; rows = λ i. pick (cases_eq i s) (None ∷ []) (w.memory.rows i) }
+  opened_memory = record {
+    segments = w.memory.segments;
+    at = w.memory.at;
+    bytes = w.memory.bytes;
+    rows = λ i. pick (cases_eq i s) (None ∷ []) (w.memory.rows i);
+  }
 
   nothing : (r : Row) → length r ≡ 0 → r ≡ []
   nothing [] z = refl
@@ -59,7 +68,8 @@ module _ (d : DeviceState) (dirty : Dirty) (t t' : Tables) (k : CheckpointValue)
         tables = record {
           at = λ x top. w.tables.at x top ∙ sym (go.at x);
           used = λ i. ⊎_elim
-              (λ (here : i ≡ s). ap t'.used here ∙ go.used.own ∙ sym (ap length is_opening.row) ∙ ap (λ (i : ℕ). length (opened_memory.rows i)) (sym here))
+              (λ (here : i ≡ s). ap t'.used here ∙ go.used.own ∙ sym (ap length is_opening.row)
+              ∙ ap (λ (i : ℕ). length (opened_memory.rows i)) (sym here))
               (λ (away : i ≡ s → ⊥). go.used.others i away ∙ w.tables.used i ∙ sym (ap length (is_opening.rows i away)))
               (cases_eq i s);
           live = λ i. go.live i ∙ w.tables.live i ∙ sym (o.1 (is_shown m) i);
@@ -98,11 +108,13 @@ module _ (d : DeviceState) (dirty : Dirty) (t t' : Tables) (k : CheckpointValue)
         age = λ i low. is.age i low ∙ saved t.age t'.age (λ i ne. sym (go.age i ne)) (64 * j + i);
       }
         where
-          saved : (f g : ℕ → ℕ) → ((i : ℕ) → (i ≡ s → ⊥) → f i ≡ g i) → (i : ℕ) → cond (t.live i == 0) 0 (f i) ≡ cond (t'.live i == 0) 0 (g i)
+          saved : (f g : ℕ → ℕ) → ((i : ℕ) → (i ≡ s → ⊥) → f i ≡ g i) → (i : ℕ)
+              → cond (t.live i == 0) 0 (f i) ≡ cond (t'.live i == 0) 0 (g i)
           saved f g same i = ⊎_elim
               (λ (here : i ≡ s).
               let z : t.live i ≡ 0 = ap t.live here ∙ nothing_lives in
-              cond-true (t.live i == 0) 0 (f i) (eq-eqb (t.live i) 0 z) ∙ sym (cond-true (t'.live i == 0) 0 (g i) (eq-eqb (t'.live i) 0 (go.live i ∙ z))))
+              cond-true (t.live i == 0) 0 (f i) (eq-eqb (t.live i) 0 z)
+              ∙ sym (cond-true (t'.live i == 0) 0 (g i) (eq-eqb (t'.live i) 0 (go.live i ∙ z))))
               (λ (away : i ≡ s → ⊥). ap₂ (λ (l u : ℕ). cond (l == 0) 0 u) (sym (go.live i)) (same i away))
               (cases_eq i s)
 
@@ -110,9 +122,15 @@ pub beginning : Beginning
 beginning d dirty t t' k m0 m none s w inside go = begun d dirty t t' k m0 m none s w inside go
 
 -- ---- a chunk more begins in a segment with room
-module _ (d : DeviceState) (dirty : Dirty) (t t' : Tables) (k : CheckpointValue) (m0 m : LogMap) (none s : ℕ) (w : Running d dirty t k m0 m none None) (inside : s < k.segments) (go : GoesOnIn t t' s) where
+module _ (d : DeviceState) (dirty : Dirty) (t t' : Tables) (k : CheckpointValue) (m0 m : LogMap) (none s : ℕ)
+    (w : Running d dirty t k m0 m none None) (inside : s < k.segments) (go : GoesOnIn t t' s) where
   reopened_memory : Memory
-  reopened_memory = record { segments = w.memory.segments; at = w.memory.at; bytes = w.memory.bytes; rows = λ i. pick (cases_eq i s) (w.memory.rows s ++ None ∷ []) (w.memory.rows i) }
+  reopened_memory = record {
+    segments = w.memory.segments;
+    at = w.memory.at;
+    bytes = w.memory.bytes;
+    rows = λ i. pick (cases_eq i s) (w.memory.rows s ++ None ∷ []) (w.memory.rows i);
+  }
 
   is_reopening : IsReopening w.memory s reopened_memory
   unfolding reopened_memory
@@ -183,7 +201,8 @@ pub going_on : GoingOn
 going_on d dirty t t' k m0 m none s w inside go = gone_on d dirty t t' k m0 m none s w inside go
 
 -- ---- blocks of the tables leave their places
-module _ (d : DeviceState) (dirty : Dirty) (t t' : Tables) (k : CheckpointValue) (m0 m : LogMap) (seg : ℕ) (chunk : Option (List Entry)) (w : Running d dirty t k m0 m seg chunk)
+module _ (d : DeviceState) (dirty : Dirty) (t t' : Tables) (k : CheckpointValue) (m0 m : LogMap) (seg : ℕ) (chunk : Option (List Entry))
+    (w : Running d dirty t k m0 m seg chunk)
     (x : Entry) (table : IsOfFile x → ⊥) (v : ℕ) (least : v ≤ 1) where
   unfoldable pub left_memory : Memory
   left_memory = taken_memory w.memory x v w.memory.bytes
@@ -202,7 +221,8 @@ module _ (d : DeviceState) (dirty : Dirty) (t t' : Tables) (k : CheckpointValue)
       other : (y : Entry) → IsOfFile y → y ≡ x → ⊥
       other y f h = table (subst IsOfFile h f)
 
-  pub still_open : (c : Option (List Entry)) → IsOpenAt d.content w.memory t seg c → ((s : ℕ) → t'.kept s ≡ t.kept s) → IsOpenAt d.content left_memory t' seg c
+  pub still_open : (c : Option (List Entry)) → IsOpenAt d.content w.memory t seg c → ((s : ℕ) → t'.kept s ≡ t.kept s)
+      → IsOpenAt d.content left_memory t' seg c
   unfolding left_memory taken_memory
   still_open c is same = open_same d.content w.memory left_memory t t' seg c refl refl same is
 
@@ -212,13 +232,16 @@ map_dropping d dirty t t' k m0 m seg chunk j w one none go =
     let M' = left_memory d dirty t t' k m0 m seg chunk w (Map j) (map_table j) 0 (omega arith) in
     let p = left_taken d dirty t t' k m0 m seg chunk w (Map j) (map_table j) 0 (omega arith) in
     let was : w.memory.at (Map j) ≡ 1 = w.tables.at (Map j) refl ∙ one in
-    let counts = unplaced_counts d.content m w.memory seg (Map j) 0 (left_memory d dirty t t' k m0 m seg chunk w (Map j) (map_table j) 0 (omega arith)) w.laid (omega (arith, was)) p in
+    let counts = unplaced_counts d.content m w.memory seg (Map j) 0
+    (left_memory d dirty t t' k m0 m seg chunk w (Map j) (map_table j) 0 (omega arith)) w.laid (omega (arith, was)) p in
     record {
       memory = left_memory d dirty t t' k m0 m seg chunk w (Map j) (map_table j) 0 (omega arith);
-      laid = map_leaving d.content m w.memory seg j (left_memory d dirty t t' k m0 m seg chunk w (Map j) (map_table j) 0 (omega arith)) w.laid
+      laid =
+          map_leaving d.content m w.memory seg j (left_memory d dirty t t' k m0 m seg chunk w (Map j) (map_table j) 0 (omega arith)) w.laid
           (record {
             was = was;
-            none = λ i low. ap (λ (a : ℕ). cond (is_shown m (Inode (128 * j + i))) a 0) (w.tables.at (Inode (128 * j + i)) refl) ∙ none i low;
+            none = λ i low. ap (λ (a : ℕ). cond (is_shown m (Inode (128 * j + i))) a 0) (w.tables.at (Inode (128 * j + i)) refl)
+                ∙ none i low;
             segments = refl;
             at = p.at;
             others = p.others;
@@ -229,12 +252,14 @@ map_dropping d dirty t t' k m0 m seg chunk j w one none go =
       settled = w.settled;
       cached = left_cached d dirty t t' k m0 m seg chunk w (Map j) (map_table j) 0 (omega arith);
       tables = record {
-        at = addressed t t' (Map j) 0 w.memory (left_memory d dirty t t' k m0 m seg chunk w (Map j) (map_table j) 0 (omega arith)) go.at p.at p.others w.tables.at;
+        at = addressed t t' (Map j) 0 w.memory (left_memory d dirty t t' k m0 m seg chunk w (Map j) (map_table j) 0 (omega arith)) go.at
+            p.at p.others w.tables.at;
         used = λ s. go.used s ∙ w.tables.used s;
         live = λ s. go.live s ∙ w.tables.live s ∙ sym (counts (is_shown m) s);
         held = λ s. go.held s ∙ w.tables.held s ∙ sym (counts (is_held m) s);
       };
-      fresh = λ i off low. usage_kept t t' i (w.memory.bytes (Usage i)) (λ q lt. (go.used (64 * i + q), go.live (64 * i + q), go.age (64 * i + q))) (w.fresh i (sym (go.stale i) ∙ off) low);
+      fresh = λ i off low. usage_kept t t' i (w.memory.bytes (Usage i))
+          (λ q lt. (go.used (64 * i + q), go.live (64 * i + q), go.age (64 * i + q))) (w.fresh i (sym (go.stale i) ∙ off) low);
       part = part_same t t' go.used go.kept w.part;
       kept = kept_same d.content k t t' go.kept w.kept;
       opened = still_open d dirty t t' k m0 m seg chunk w (Map j) (map_table j) 0 (omega arith) chunk w.opened go.kept;
@@ -248,29 +273,36 @@ usage_leaving d dirty t t' k m0 m seg chunk j w above old go =
     let was : 2 ≤ w.memory.at (Usage j) = omega arith in
     record {
       memory = left_memory d dirty t t' k m0 m seg chunk w (Usage j) (usage_table j) 1 (omega arith);
-      laid = usage_lifting d.content m w.memory seg j (left_memory d dirty t t' k m0 m seg chunk w (Usage j) (usage_table j) 1 (omega arith)) w.laid (record { taken = p; was = was; bytes = refl });
+      laid = usage_lifting d.content m w.memory seg j (left_memory d dirty t t' k m0 m seg chunk w (Usage j) (usage_table j) 1
+          (omega arith)) w.laid (record { taken = p; was = was; bytes = refl });
       segments = w.segments;
       settled = w.settled;
       cached = left_cached d dirty t t' k m0 m seg chunk w (Usage j) (usage_table j) 1 (omega arith);
-      tables = lifted_tables d.content m w.memory seg (Usage j) 1 (left_memory d dirty t t' k m0 m seg chunk w (Usage j) (usage_table j) 1 (omega arith)) t t' w.laid was p w.tables
+      tables = lifted_tables d.content m w.memory seg (Usage j) 1
+          (left_memory d dirty t t' k m0 m seg chunk w (Usage j) (usage_table j) 1 (omega arith)) t t' w.laid was p w.tables
           (subst (λ (a : ℕ). IsLifted m t t' (Usage j) 1 (segment_of a)) (sym same) go);
-      fresh = λ i off low. let no = lifted_fresh m t t' (Usage j) 1 (segment_of (t.at (Usage j))) go i off in no.1 (w.memory.bytes (Usage i)) (w.fresh i no.0 low);
+      fresh = λ i off low. let no = lifted_fresh m t t' (Usage j) 1 (segment_of (t.at (Usage j))) go i off in
+          no.1 (w.memory.bytes (Usage i)) (w.fresh i no.0 low);
       part = part_same t t' go.used go.kept w.part;
       kept = kept_same d.content k t t' go.kept w.kept;
       opened = still_open d dirty t t' k m0 m seg chunk w (Usage j) (usage_table j) 1 (omega arith) chunk w.opened go.kept;
     }
 
 -- ---- the content changes where k has no use for it
-module _ (d d' : DeviceState) (dirty : Dirty) (t : Tables) (k : CheckpointValue) (m0 m : LogMap) (seg : ℕ) (chunk : Option (List Entry)) (w : Running d dirty t k m0 m seg chunk)
-    (s o : ℕ) (below : s < k.segments) (on : t.kept s ≤ o) (within : o < 64) (bytes : List ℕ) (is : IsWritten d d' (2 + 64 * s + o) bytes) where
+module _ (d d' : DeviceState) (dirty : Dirty) (t : Tables) (k : CheckpointValue) (m0 m : LogMap) (seg : ℕ) (chunk : Option (List Entry))
+    (w : Running d dirty t k m0 m seg chunk)
+    (s o : ℕ) (below : s < k.segments) (on : t.kept s ≤ o) (within : o < 64) (bytes : List ℕ)
+    (is : IsWritten d d' (2 + 64 * s + o) bytes) where
   taken_free : IsFreeSector d.content k (2 + 64 * s + o)
   taken_free = record { segment = s; place = o; is = refl; within = within; below = below; unused = let u = w.kept s below in omega arith }
 
   taken_settled : IsSettled d' k m0 × ((s : ℕ) → used_in (view d'.content k) s ≡ used_in (view d.content k) s)
   taken_settled = settled_write d d' k m0 (2 + 64 * s + o) bytes w.settled taken_free (left_new is.content) is.crash
 
-module _ (d d' : DeviceState) (dirty : Dirty) (t t' : Tables) (k : CheckpointValue) (m0 m : LogMap) (seg : ℕ) (chunk : Option (List Entry)) (j : ℕ) (bytes : List ℕ)
-    (w : Running d dirty t k m0 m seg chunk) (above : 2 ≤ t.at (Usage j)) (on : IsUnkept t (t.at (Usage j))) (spells : SpellsUsage t j bytes)
+module _ (d d' : DeviceState) (dirty : Dirty) (t t' : Tables) (k : CheckpointValue) (m0 m : LogMap) (seg : ℕ) (chunk : Option (List Entry))
+    (j : ℕ) (bytes : List ℕ)
+    (w : Running d dirty t k m0 m seg chunk) (above : 2 ≤ t.at (Usage j)) (on : IsUnkept t (t.at (Usage j)))
+    (spells : SpellsUsage t j bytes)
     (is : IsWritten d d' (t.at (Usage j)) bytes) (go : IsFresh t t' j) where
   fill_bytes : Entry → List ℕ
   fill_bytes y = pick (same_entry y (Usage j)) bytes (w.memory.bytes y)
@@ -297,20 +329,24 @@ module _ (d d' : DeviceState) (dirty : Dirty) (t t' : Tables) (k : CheckpointVal
   split = omega arith
 
   filled_settled : IsSettled d' k m0 × ((s : ℕ) → used_in (view d'.content k) s ≡ used_in (view d.content k) s)
-  filled_settled = taken_settled d d' dirty t k m0 m seg chunk w (segment_of (t.at (Usage j))) ((t.at (Usage j) - 2) % 64) below_all on (omega arith) bytes
+  filled_settled = taken_settled d d' dirty t k m0 m seg chunk w (segment_of (t.at (Usage j))) ((t.at (Usage j) - 2) % 64) below_all on
+      (omega arith) bytes
       (subst (λ (a : ℕ). IsWritten d d' a bytes) split is)
     where
       below_all : segment_of (t.at (Usage j)) < k.segments
       below_all = let s = same_at in let n = w.segments in let i = w.laid.within (Usage j) (omega arith) in omega arith
 
   -- the chunks before the open one stay sealed, for none of their summaries stands there
-  fill_sealed : (before behind : Row) → w.memory.rows seg ≡ before ++ behind → row_by d.content (length before) seg ≡ Some before → row_by d'.content (length before) seg ≡ Some before
+  fill_sealed : (before behind : Row) → w.memory.rows seg ≡ before ++ behind → row_by d.content (length before) seg ≡ Some before
+      → row_by d'.content (length before) seg ≡ Some before
   fill_sealed before behind row sealed =
       let whole = ap length row ∙ length-append before behind in
       let few = w.laid.short seg in
       subst (λ (c : Content). row_by c (length before) seg ≡ Some before) (sym is.content)
-      (row_kept d.content (put d.content (t.at (Usage j)) bytes) seg before (omega arith) (length-set d.content (t.at (Usage j)) (Some bytes))
-      (λ q lt blank. get_or-set_other d.content (t.at (Usage j)) (2 + 64 * seg + q) (Some bytes) None (λ here. labelled q (omega arith) lt blank here)) sealed)
+      (row_kept d.content (put d.content (t.at (Usage j)) bytes) seg before (omega arith)
+      (length-set d.content (t.at (Usage j)) (Some bytes))
+      (λ q lt blank. get_or-set_other d.content (t.at (Usage j)) (2 + 64 * seg + q) (Some bytes) None
+      (λ here. labelled q (omega arith) lt blank here)) sealed)
     where
       labelled : (q : ℕ) → q < 64 → q < length before → get_or before q None ≡ None → 2 + 64 * seg + q ≡ t.at (Usage j) → ⊥
       labelled q low lt blank here =
@@ -318,8 +354,10 @@ module _ (d d' : DeviceState) (dirty : Dirty) (t t' : Tables) (k : CheckpointVal
           let es : (w.memory.at (Usage j) - 2) / 64 ≡ seg = omega arith in
           let eq : (w.memory.at (Usage j) - 2) % 64 ≡ q = omega arith in
           let named = w.laid.named (Usage j) (omega arith) in
-          let one : get_or (w.memory.rows seg) q None ≡ Some (Usage j) = sym (ap₂ (λ (s o : ℕ). get_or (w.memory.rows s) o None) es eq) ∙ named in
-          let two : get_or (w.memory.rows seg) q None ≡ None = ap (λ (r : Row). get_or r q None) row ∙ get_or_append_left before behind None q lt ∙ blank in
+          let one : get_or (w.memory.rows seg) q None ≡ Some (Usage j) = sym (ap₂ (λ (s o : ℕ). get_or (w.memory.rows s) o None) es eq)
+          ∙ named in
+          let two : get_or (w.memory.rows seg) q None ≡ None = ap (λ (r : Row). get_or r q None) row
+          ∙ get_or_append_left before behind None q lt ∙ blank in
           let bad : None ≡ Some (Usage j) = sym two ∙ one in
           absurd (cc)
 
@@ -344,7 +382,8 @@ module _ (d d' : DeviceState) (dirty : Dirty) (t t' : Tables) (k : CheckpointVal
   unfolding fill_memory
   filled_now = record {
     memory = fill_memory;
-    laid = subst (λ (c : Content). IsLaid c m fill_memory seg) (sym (is.content ∙ ap (λ (a : ℕ). put d.content a bytes) (sym same_at))) (filling d.content m w.memory seg j bytes fill_memory w.laid is_filling);
+    laid = subst (λ (c : Content). IsLaid c m fill_memory seg) (sym (is.content ∙ ap (λ (a : ℕ). put d.content a bytes) (sym same_at)))
+        (filling d.content m w.memory seg j bytes fill_memory w.laid is_filling);
     segments = w.segments;
     settled = filled_settled.0;
     cached = record {
@@ -358,10 +397,12 @@ module _ (d d' : DeviceState) (dirty : Dirty) (t t' : Tables) (k : CheckpointVal
       held = λ s. go.held s ∙ w.tables.held s;
     };
     fresh = λ i off low. ⊎_elim
-        (λ (here : i ≡ j). subst (λ (i : ℕ). SpellsUsage t' i (fill_bytes (Usage i))) (sym here) (subst (SpellsUsage t' j) (sym fill_own) (numbers j bytes spells)))
+        (λ (here : i ≡ j). subst (λ (i : ℕ). SpellsUsage t' i (fill_bytes (Usage i))) (sym here)
+        (subst (SpellsUsage t' j) (sym fill_own) (numbers j bytes spells)))
         (λ (away : i ≡ j → ⊥).
         let ne : Usage i ≡ Usage j → ⊥ = λ h. away (cc) in
-        subst (SpellsUsage t' i) (sym (fill_kept (Usage i) ne)) (numbers i (w.memory.bytes (Usage i)) (w.fresh i (sym (go.stale.others i away) ∙ off) low)))
+        subst (SpellsUsage t' i) (sym (fill_kept (Usage i) ne))
+        (numbers i (w.memory.bytes (Usage i)) (w.fresh i (sym (go.stale.others i away) ∙ off) low)))
         (cases_eq i j);
     part = part_same t t' go.used go.kept w.part;
     kept = λ s low. let a = filled_settled.1 s in let b = w.kept s low in let c = go.kept s in omega arith;
@@ -369,7 +410,8 @@ module _ (d d' : DeviceState) (dirty : Dirty) (t t' : Tables) (k : CheckpointVal
   }
 
 pub usage_filling : UsageFilling
-usage_filling d d' dirty t t' k m0 m seg chunk j bytes w above on spells is go = filled_now d d' dirty t t' k m0 m seg chunk j bytes w above on spells is go
+usage_filling d d' dirty t t' k m0 m seg chunk j bytes w above on spells is go =
+    filled_now d d' dirty t t' k m0 m seg chunk j bytes w above on spells is go
 
 pub closing : Closing
 closing d d' dirty t k m0 m seg start es bytes none w long spelt is past =

@@ -51,7 +51,8 @@ module _ (e : Content) (m : LogMap) (M : Memory) (o : ℕ) (laid : IsLaid e m M 
     low = λ n q h lt. low n q h;
     some = λ h le. let a = p.taken.at in absurd (omega arith);
     long = λ lt. ap length p.own ∙ laid.long x p.of_file was;
-    spells = λ lt. subst (λ (b : List ℕ). SpellsBlock m M'.at b x) (sym p.own) (spells_other m M.at M'.at x p.taken.others (M.bytes x) x (λ h. refl) (laid.spells x was));
+    spells = λ lt. subst (λ (b : List ℕ). SpellsBlock m M'.at b x) (sym p.own)
+        (spells_other m M.at M'.at x p.taken.others (M.bytes x) x (λ h. refl) (laid.spells x was));
     mapped = mapped_step m m M M' x p.of_file p.taken.others p.kept (λ k ne. refl)
         (λ n h none. unshown m M'.at n (not_shown n h none) ∙ sym (unshown m M.at n (not_shown n h none)))
         laid.mapped;

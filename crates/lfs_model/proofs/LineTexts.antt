@@ -1,5 +1,6 @@
 -- A text of a script spells at most one line, and the lines of a script come one after the other.
-use Rattle.std.proofs.Common.{◌≢◌, ◌==◌, false, ◌++◌, length, ◌≡◌, refl, sym, ap, ◌∙◌, subst, arith, ℕ, ◌<◌, ◌^◌, true, List, [], ◌∷◌, decimal}
+use Rattle.std.proofs.Common.{◌≢◌, ◌==◌, false, ◌++◌, length, ◌≡◌, refl, sym, ap, ◌∙◌, subst, arith, ℕ, ◌<◌, ◌^◌, true, List, [], ◌∷◌}
+use Rattle.std.proofs.Common.{decimal}
 use Rattle.std.specs.Prelude.{codes}
 use Rattle.std.specs.List.{AllByRecursion}
 use Rattle.std.proofs.lemmas.Bool.{false≢true}
@@ -8,7 +9,8 @@ use Rattle.std.proofs.lemmas.List.Elements.{recursion_from_All}
 use Rattle.std.proofs.lemmas.Fmt.{decimal_injective}
 use Rattle.lfs_model.specs.Tree.{same_name}
 use Rattle.lfs_model.proofs.Walks.{same_name-refl}
-use Rattle.lfs_model.specs.Call.{Call, Open, Create, Close, Pread, Pwrite, Truncate, Mkdir, LinkTo, Symlink, Readlink, Unlink, Rmdir, Rename, StatOf, LstatOf, Readdir, Fsync, Sync, Clean, Space, Version, Upgrade, Widen, ListTree}
+use Rattle.lfs_model.specs.Call.{Call, Open, Create, Close, Pread, Pwrite, Truncate, Mkdir, LinkTo, Symlink, Readlink, Unlink, Rmdir}
+use Rattle.lfs_model.specs.Call.{Rename, StatOf, LstatOf, Readdir, Fsync, Sync, Clean, Space, Version, Upgrade, Widen, ListTree}
 use Rattle.lfs_model.specs.Laws.{OneLine, LinesInTurn}
 use Rattle.lfs_model.specs.Script.{before_lines, lines, Line, Plain, Fill, InRange, hex, line_of, text_of, word}
 use Rattle.lfs_model.proofs.WordTexts.{all_solid, same_words, solid-decimal, solid-hex, solid-word, hex_once, word_once}
@@ -99,7 +101,8 @@ pub solid : (l : Line) → InRange l → all_solid (first_of l ∷ others_of l) 
 solid (Plain (Open p)) fits = rw (solid-word p) refl
 solid (Plain (Create p)) fits = rw (solid-word p) refl
 solid (Plain (Close h)) fits = rw (solid-decimal h (omega arith)) refl
-solid (Plain (Pread h off n)) fits = rw (solid-decimal h (let a = fits.0 in omega arith), solid-decimal off fits.1, solid-decimal n (let a = fits.2 in omega arith)) refl
+solid (Plain (Pread h off n)) fits =
+    rw (solid-decimal h (let a = fits.0 in omega arith), solid-decimal off fits.1, solid-decimal n (let a = fits.2 in omega arith)) refl
 solid (Plain (Pwrite h off w)) fits = rw (solid-decimal h (let a = fits.0 in omega arith), solid-decimal off fits.1, solid-hex w) refl
 solid (Plain (Truncate h n)) fits = rw (solid-decimal h (let a = fits.0 in omega arith), solid-decimal n fits.1) refl
 solid (Plain (Mkdir p)) fits = rw (solid-word p) refl
@@ -120,7 +123,12 @@ solid (Plain Version) fits = refl
 solid (Plain Upgrade) fits = refl
 solid (Plain (Widen p)) fits = rw (solid-word p) refl
 solid (Plain ListTree) fits = refl
-solid (Fill h off n byte) fits = rw (solid-decimal h (let a = fits.0 in omega arith), solid-decimal off fits.1, solid-decimal n (let a = fits.2 in omega arith), solid-decimal byte (let a = fits.3 in omega arith)) refl
+solid (Fill h off n byte) fits = rw (
+  solid-decimal h (let a = fits.0 in omega arith),
+  solid-decimal off fits.1,
+  solid-decimal n (let a = fits.2 in omega arith),
+  solid-decimal byte (let a = fits.3 in omega arith),
+) refl
 
 -- ---- one word of each kind
 
@@ -156,12 +164,15 @@ same (Plain (Truncate h n)) (Plain (Truncate g m)) fa fb e f =
     let y : n ≡ m = decimal_injective n m fa.1 fb.1 (cc) in
     cc
 same (Plain (Mkdir p)) (Plain (Mkdir q)) fa fb e f = ap (λ x. Plain (Mkdir x)) (path_is p q f)
-same (Plain (LinkTo p q)) (Plain (LinkTo r s)) fa fb e f = let both = paths_are p q r s f in let x : p ≡ r = both.0 in let y : q ≡ s = both.1 in cc
-same (Plain (Symlink p q)) (Plain (Symlink r s)) fa fb e f = let both = paths_are p q r s f in let x : p ≡ r = both.0 in let y : q ≡ s = both.1 in cc
+same (Plain (LinkTo p q)) (Plain (LinkTo r s)) fa fb e f = let both = paths_are p q r s f in let x : p ≡ r = both.0 in
+    let y : q ≡ s = both.1 in cc
+same (Plain (Symlink p q)) (Plain (Symlink r s)) fa fb e f = let both = paths_are p q r s f in let x : p ≡ r = both.0 in
+    let y : q ≡ s = both.1 in cc
 same (Plain (Readlink p)) (Plain (Readlink q)) fa fb e f = ap (λ x. Plain (Readlink x)) (path_is p q f)
 same (Plain (Unlink p)) (Plain (Unlink q)) fa fb e f = ap (λ x. Plain (Unlink x)) (path_is p q f)
 same (Plain (Rmdir p)) (Plain (Rmdir q)) fa fb e f = ap (λ x. Plain (Rmdir x)) (path_is p q f)
-same (Plain (Rename p q)) (Plain (Rename r s)) fa fb e f = let both = paths_are p q r s f in let x : p ≡ r = both.0 in let y : q ≡ s = both.1 in cc
+same (Plain (Rename p q)) (Plain (Rename r s)) fa fb e f = let both = paths_are p q r s f in let x : p ≡ r = both.0 in
+    let y : q ≡ s = both.1 in cc
 same (Plain (StatOf p)) (Plain (StatOf q)) fa fb e f = ap (λ x. Plain (StatOf x)) (path_is p q f)
 same (Plain (LstatOf p)) (Plain (LstatOf q)) fa fb e f = ap (λ x. Plain (LstatOf x)) (path_is p q f)
 same (Plain (Readdir p)) (Plain (Readdir q)) fa fb e f = ap (λ x. Plain (Readdir x)) (path_is p q f)
@@ -184,7 +195,8 @@ same _ _ fa fb e f = absurd (false≢true e)
 
 pub one_line : OneLine
 one_line bytes a b sa sb =
-    let texts : line_of (first_of a) (others_of a) ≡ line_of (first_of b) (others_of b) = sym (text_is a) ∙ sym sa.text ∙ sb.text ∙ text_is b in
+    let texts : line_of (first_of a) (others_of a) ≡ line_of (first_of b) (others_of b) = sym (text_is a) ∙ sym sa.text ∙ sb.text
+    ∙ text_is b in
     let words = same_words (first_of a) (first_of b) (others_of a) (others_of b) (solid a sa.in_range) (solid b sb.in_range) texts in
     same a b sa.in_range sb.in_range (subst (λ w. same_name (first_of a) w ≡ true) words.0 (same_name-refl (first_of a))) words.1
 
@@ -207,4 +219,5 @@ line_last (c ∷ []) h some = rw (no_end c h.0) refl
 line_last (c ∷ d ∷ line) h some = ap (before_lines c) (line_last (d ∷ line) h.1 (omega arith)) ∙ rw (no_end c h.0) refl
 
 pub lines_in_turn : LinesInTurn
-lines_in_turn line none = let each = recursion_from_All (λ c. c ≢ 10) line none in (λ rest. line_first line rest each, λ some. line_last line each some)
+lines_in_turn line none = let each = recursion_from_All (λ c. c ≢ 10) line none in
+    (λ rest. line_first line rest each, λ some. line_last line each some)

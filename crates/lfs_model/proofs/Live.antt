@@ -1,4 +1,6 @@
-use Rattle.std.proofs.Common.{◌≡◌, ◌<◌, ◌≤◌, ◌↔◌, ⊎_elim, ◌+◌, ◌*◌, ◌-◌, ◌/◌, ◌%◌, ◌==◌, ℕ, zero, suc, Bool, true, false, cond, List, [], ◌∷◌, length, take, drop, length-take-le, length-drop, Option, Some, None, count_by, refl, sym, ◌∙◌, ap, ap₂, arith, eqb-true, eq-eqb}
+use Rattle.std.proofs.Common.{◌≡◌, ◌<◌, ◌≤◌, ◌↔◌, ⊎_elim, ◌+◌, ◌*◌, ◌-◌, ◌/◌, ◌%◌, ◌==◌, ℕ, zero, suc, Bool, true, false, cond, List, []}
+use Rattle.std.proofs.Common.{◌∷◌, length, take, drop, length-take-le, length-drop, Option, Some, None, count_by, refl, sym, ◌∙◌, ap, ap₂}
+use Rattle.std.proofs.Common.{arith, eqb-true, eq-eqb}
 use Rattle.std.specs.List.{range_with_len}
 use Rattle.std.proofs.lemmas.List.Sums.{sum_by-cons}
 use Rattle.std.proofs.lemmas.List.{get_or_past}
@@ -13,12 +15,15 @@ use Rattle.lfs_model.specs.Live.{LiveSectors, NamedCounts, live_count, OneMoreLi
 counts : (p : ℕ → Bool) (a n : ℕ) → count_by p (range_with_len a (suc n)) ≡ cond (p a) 1 0 + count_by p (range_with_len (a + 1) n)
 counts p a n = sum_by-cons (λ (x : ℕ). cond (p x) 1 0) a (range_with_len (a + 1) n)
 
-pub count_same : (p q : ℕ → Bool) (a n : ℕ) → ((x : ℕ) → a ≤ x → x < a + n → p x ≡ q x) → count_by p (range_with_len a n) ≡ count_by q (range_with_len a n)
+pub count_same : (p q : ℕ → Bool) (a n : ℕ) → ((x : ℕ) → a ≤ x → x < a + n → p x ≡ q x)
+    → count_by p (range_with_len a n) ≡ count_by q (range_with_len a n)
 count_same p q a zero same = refl
 count_same p q a (suc n) same =
-    counts p a n ∙ ap₂ (λ (b : Bool) (c : ℕ). cond b 1 0 + c) (same a (omega arith) (omega arith)) (count_same p q (a + 1) n (λ x le lt. same x (omega arith) (omega arith))) ∙ sym (counts q a n)
+    counts p a n ∙ ap₂ (λ (b : Bool) (c : ℕ). cond b 1 0 + c) (same a (omega arith) (omega arith))
+    (count_same p q (a + 1) n (λ x le lt. same x (omega arith) (omega arith))) ∙ sym (counts q a n)
 
-pub count_one_more : (p q : ℕ → Bool) (a n o : ℕ) → a ≤ o → o < a + n → ((x : ℕ) → a ≤ x → x < a + n → (x ≡ o → ⊥) → p x ≡ q x) → p o ≡ false → q o ≡ true
+pub count_one_more : (p q : ℕ → Bool) (a n o : ℕ) → a ≤ o → o < a + n → ((x : ℕ) → a ≤ x → x < a + n → (x ≡ o → ⊥) → p x ≡ q x)
+    → p o ≡ false → q o ≡ true
     → count_by q (range_with_len a n) ≡ suc (count_by p (range_with_len a n))
 count_one_more p q a zero o le lt same off on = absurd (omega arith)
 count_one_more p q a (suc n) o le lt same off on =
@@ -38,9 +43,13 @@ count_one_more p q a (suc n) o le lt same off on =
 
 module _ (v : View) (named : AreNamed v) (s at : ℕ) (low : at < 64) where
   live_from : (o : Option Entry) → place_in (v.row s) at ≡ o → is_live v s at ≡ true → IsHeld v (2 + 64 * s + at)
-  live_from None is live = let e : false ≡ true = sym (ap (λ (o : Option Entry). elim o as (λ x. Bool) [ None ↦ false | Some e ↦ v.address e == 2 + 64 * s + at ]) is) ∙ live in absurd (cc)
-  live_from (Some e) is live =
-      (e, eqb-true (v.address e) (2 + 64 * s + at) (sym (ap (λ (o : Option Entry). elim o as (λ x. Bool) [ None ↦ false | Some e ↦ v.address e == 2 + 64 * s + at ]) is) ∙ live))
+  live_from None is live = let e : false ≡ true = sym
+      (ap (λ (o : Option Entry). elim o as (λ x. Bool) [ None ↦ false | Some e ↦ v.address e == 2 + 64 * s + at ]) is) ∙ live in absurd (cc)
+  live_from (Some e) is live = (
+    e,
+    eqb-true (v.address e) (2 + 64 * s + at)
+        (sym (ap (λ (o : Option Entry). elim o as (λ x. Bool) [ None ↦ false | Some e ↦ v.address e == 2 + 64 * s + at ]) is) ∙ live),
+  )
 
   live_to : IsHeld v (2 + 64 * s + at) → is_live v s at ≡ true
   live_to held =
@@ -49,7 +58,8 @@ module _ (v : View) (named : AreNamed v) (s at : ℕ) (low : at < 64) where
       let es : (v.address held.0 - 2) / 64 ≡ s = omega arith in
       let eo : (v.address held.0 - 2) % 64 ≡ at = omega arith in
       let there : place_in (v.row s) at ≡ Some held.0 = sym (ap₂ (λ (x y : ℕ). place_in (v.row x) y) es eo) ∙ n in
-      ap (λ (o : Option Entry). elim o as (λ x. Bool) [ None ↦ false | Some e ↦ v.address e == 2 + 64 * s + at ]) there ∙ eq-eqb (v.address held.0) (2 + 64 * s + at) is
+      ap (λ (o : Option Entry). elim o as (λ x. Bool) [ None ↦ false | Some e ↦ v.address e == 2 + 64 * s + at ]) there
+      ∙ eq-eqb (v.address held.0) (2 + 64 * s + at) is
 
   not_live : (IsHeld v (2 + 64 * s + at) → ⊥) → is_live v s at ≡ false
   not_live none = false_from_ne_true (is_live v s at) (λ live. none (live_from (place_in (v.row s) at) refl live))
@@ -57,21 +67,25 @@ module _ (v : View) (named : AreNamed v) (s at : ℕ) (low : at < 64) where
 pub live_sectors : LiveSectors
 live_sectors v named s at low = (live_from v named s at low (place_in (v.row s) at) refl, live_to v named s at low)
 
-same_live_at : (v w : View) → AreNamed v → AreNamed w → (s at : ℕ) → at < 64 → IsHeld v (2 + 64 * s + at) ↔ IsHeld w (2 + 64 * s + at) → is_live v s at ≡ is_live w s at
+same_live_at : (v w : View) → AreNamed v → AreNamed w → (s at : ℕ) → at < 64 → IsHeld v (2 + 64 * s + at) ↔ IsHeld w (2 + 64 * s + at)
+    → is_live v s at ≡ is_live w s at
 same_live_at v w nv nw s at low same =
     ⊎_elim
     (λ (on : is_live w s at ≡ true). live_to v nv s at low (same.1 ((live_sectors w nw s at low).0 on)) ∙ sym on)
-    (λ (off : is_live w s at ≡ false). not_live v nv s at low (λ held. let on = live_to w nw s at low (same.0 held) in let e : true ≡ false = sym on ∙ off in absurd (cc)) ∙ sym off)
+    (λ (off : is_live w s at ≡ false). not_live v nv s at low
+    (λ held. let on = live_to w nw s at low (same.0 held) in let e : true ≡ false = sym on ∙ off in absurd (cc)) ∙ sym off)
     (cases_Bool (is_live w s at))
 
 pub one_more_live : OneMoreLive
 unfolding count_up
 one_more_live v w nv nw s o low same none held =
-    count_one_more (is_live v s) (is_live w s) 0 64 o (omega arith) (omega arith) (λ x le lt ne. same_live_at v w nv nw s x (omega arith) (same x (omega arith) ne)) (not_live v nv s o low none) (live_to w nw s o low held)
+    count_one_more (is_live v s) (is_live w s) 0 64 o (omega arith) (omega arith) (λ x le lt ne.
+    same_live_at v w nv nw s x (omega arith) (same x (omega arith) ne)) (not_live v nv s o low none) (live_to w nw s o low held)
 
 pub same_live : SameLive
 unfolding count_up
-same_live v w nv nw s same = count_same (is_live w s) (is_live v s) 0 64 (λ x le lt. sym (same_live_at v w nv nw s x (omega arith) (same x (omega arith))))
+same_live v w nv nw s same =
+    count_same (is_live w s) (is_live v s) 0 64 (λ x le lt. sym (same_live_at v w nv nw s x (omega arith) (same x (omega arith))))
 
 module _ (v w : View) (nv : AreNamed v) (nw : AreNamed w) (x : Entry) (s o : ℕ) (p : GainsBlock v w x s o) where
   -- an entry of v isn't the one that comes, and so keeps its place
@@ -128,7 +142,8 @@ count_below p u a (suc n) none =
     let rest = count_below p u (a + 1) n none in
     ⊎_elim
     (λ (low : a < u). let one = cond_at_most (p a) in omega (arith, counts p a n))
-    (λ (high : u ≤ a). let zero_here : cond {A = ℕ} (p a) 1 0 ≡ 0 = ap {B = ℕ} (λ (b : Bool). cond {A = ℕ} b 1 0) (none a high) in omega (arith, counts p a n))
+    (λ (high : u ≤ a). let zero_here : cond {A = ℕ} (p a) 1 0 ≡ 0 = ap {B = ℕ} (λ (b : Bool). cond {A = ℕ} b 1 0) (none a high) in
+    omega (arith, counts p a n))
     (cases_lt a u)
   where
     cond_at_most : (b : Bool) → cond b 1 0 ≤ 1
@@ -143,7 +158,8 @@ unfolding count_up
 live_less v s q is =
     let u = length q in
     let first = not_named v s 0 (ap (λ (o : Option Row). place_in o 0) is) in
-    let past : (x : ℕ) → suc (length q) ≤ x → is_live v s x ≡ false = λ x le. not_named v s x (ap (λ (o : Option Row). place_in o x) is ∙ get_or_past (None ∷ q) x None le) in
+    let past : (x : ℕ) → suc (length q) ≤ x
+    → is_live v s x ≡ false = λ x le. not_named v s x (ap (λ (o : Option Row). place_in o x) is ∙ get_or_past (None ∷ q) x None le) in
     let rest = count_below (is_live v s) (suc (length q)) 1 63 past in
     let here : cond {A = ℕ} (is_live v s 0) 1 0 ≡ 0 = ap {B = ℕ} (λ (b : Bool). cond {A = ℕ} b 1 0) first in
     omega (arith, counts (is_live v s) 0 63)
@@ -165,7 +181,8 @@ counts_last p a zero = counts p a 0 ∙ omega (arith, ap (λ (x : ℕ). cond {A 
     plus_zero a = omega arith
 counts_last p a (suc n) =
     let rest = counts_last p (a + 1) n in
-    let there : cond {A = ℕ} (p (a + 1 + n)) 1 0 ≡ cond {A = ℕ} (p (a + suc n)) 1 0 = ap (λ (x : ℕ). cond {A = ℕ} (p x) 1 0) (omega arith) in
+    let there : cond {A = ℕ} (p (a + 1 + n)) 1 0 ≡ cond {A = ℕ} (p (a + suc n)) 1 0 =
+    ap (λ (x : ℕ). cond {A = ℕ} (p x) 1 0) (omega arith) in
     omega (arith, counts p a (suc n), counts p a n, rest, there)
 
 pub count_up_more : (is : ℕ → Bool) (n : ℕ) → count_up is (suc n) ≡ count_up is n + cond (is n) 1 0
@@ -181,7 +198,8 @@ pub named_counts : NamedCounts
 named_counts v named s n = (to, from)
   where
     to : HoldsCount v s n → n ≡ live_count v s
-    to holds = holds.count ∙ count_up_same holds.is_held (is_live v s) 64 (λ x lt. same_tests (holds.is_held x) (is_live v s x) (IsHeld v (2 + 64 * s + x)) (holds.exact x lt) (live_sectors v named s x lt))
+    to holds = holds.count ∙ count_up_same holds.is_held (is_live v s) 64
+        (λ x lt. same_tests (holds.is_held x) (is_live v s x) (IsHeld v (2 + 64 * s + x)) (holds.exact x lt) (live_sectors v named s x lt))
 
     from : n ≡ live_count v s → HoldsCount v s n
     from is = record { is_held = is_live v s; exact = λ at lt. live_sectors v named s at lt; count = is }

@@ -1,5 +1,6 @@
 -- A file loses its last name, as the log runs: its blocks are live no more and hold their segments.
-use Rattle.std.proofs.Common.{◌≡◌, ◌<◌, ◌≤◌, ⊎_elim, ◌+◌, ◌==◌, cond, not, ℕ, Bool, true, false, List, Option, Some, refl, sym, ◌∙◌, ap, subst, arith}
+use Rattle.std.proofs.Common.{◌≡◌, ◌<◌, ◌≤◌, ⊎_elim, ◌+◌, ◌==◌, cond, not, ℕ, Bool, true, false, List, Option, Some, refl, sym, ◌∙◌, ap}
+use Rattle.std.proofs.Common.{subst, arith}
 use Rattle.lfs_model.specs.Changing.{IsWithHeader, IsRelabeling}
 use Rattle.lfs_model.specs.Checkpoint.{CheckpointValue}
 use Rattle.lfs_model.specs.Detaching.{is_of, IsHeldFrom, LinkLosing}
@@ -19,12 +20,15 @@ use Rattle.lfs_model.proofs.FileChanges.{relabeling}
 use Rattle.lfs_model.proofs.Running.{pick, pick_yes, pick_no, part_same, kept_same, open_same}
 
 -- ---- counts, where a file that was shown is so no more and nothing moves
-module _ (m m' : LogMap) (M M' : Memory) (n : ℕ) (at : M'.at ≡ M.at) (rows : M'.rows ≡ M.rows) (headers : (k : ℕ) → (k ≡ n → ⊥) → m'.header k ≡ m.header k)
+module _ (m m' : LogMap) (M M' : Memory) (n : ℕ) (at : M'.at ≡ M.at) (rows : M'.rows ≡ M.rows)
+    (headers : (k : ℕ) → (k ≡ n → ⊥) → m'.header k ≡ m.header k)
     (was : is_nameless m n ≡ false) (now : is_nameless m' n ≡ true) where
   -- three tests of one address
   tests : (p q r : Bool) (x : Entry) (a : ℕ) → 0 < a → (b c e : Bool) → b ≡ p → c ≡ q → e ≡ r
-      → ((z : ℕ) → 0 < a → one_if (settled_at (cond {A = ℕ} p z 0) == a) + one_if (settled_at (cond {A = ℕ} q z 0) == a) ≡ one_if (settled_at (cond {A = ℕ} r z 0) == a))
-      → one_if (settled_at (cond {A = ℕ} b (M.at x) 0) == a) + one_if (settled_at (cond {A = ℕ} c (M.at x) 0) == a) ≡ one_if (settled_at (cond {A = ℕ} e (M.at x) 0) == a)
+      → ((z : ℕ) → 0 < a → one_if (settled_at (cond {A = ℕ} p z 0) == a) + one_if (settled_at (cond {A = ℕ} q z 0) == a)
+      ≡ one_if (settled_at (cond {A = ℕ} r z 0) == a))
+      → one_if (settled_at (cond {A = ℕ} b (M.at x) 0) == a) + one_if (settled_at (cond {A = ℕ} c (M.at x) 0) == a)
+      ≡ one_if (settled_at (cond {A = ℕ} e (M.at x) 0) == a)
   tests p q r x a lt b c e is_b is_c is_e sum =
       let s = sum (M.at x) lt in
       let eb = ap (λ (b : Bool). one_if (settled_at (cond {A = ℕ} b (M.at x) 0) == a)) is_b in
@@ -32,10 +36,12 @@ module _ (m m' : LogMap) (M M' : Memory) (n : ℕ) (at : M'.at ≡ M.at) (rows :
       let ee = ap (λ (b : Bool). one_if (settled_at (cond {A = ℕ} b (M.at x) 0) == a)) is_e in
       omega arith
 
-  first_of : (a : ℕ) (b : Bool) (z : ℕ) → 0 < a → one_if (settled_at (cond {A = ℕ} b z 0) == a) + one_if (settled_at (cond {A = ℕ} false z 0) == a) ≡ one_if (settled_at (cond {A = ℕ} b z 0) == a)
+  first_of : (a : ℕ) (b : Bool) (z : ℕ) → 0 < a → one_if (settled_at (cond {A = ℕ} b z 0) == a)
+      + one_if (settled_at (cond {A = ℕ} false z 0) == a) ≡ one_if (settled_at (cond {A = ℕ} b z 0) == a)
   first_of a b z lt = let n = nowhere a 0 lt refl in omega arith
 
-  second_of : (a : ℕ) (b : Bool) (z : ℕ) → 0 < a → one_if (settled_at (cond {A = ℕ} false z 0) == a) + one_if (settled_at (cond {A = ℕ} b z 0) == a) ≡ one_if (settled_at (cond {A = ℕ} b z 0) == a)
+  second_of : (a : ℕ) (b : Bool) (z : ℕ) → 0 < a → one_if (settled_at (cond {A = ℕ} false z 0) == a)
+      + one_if (settled_at (cond {A = ℕ} b z 0) == a) ≡ one_if (settled_at (cond {A = ℕ} b z 0) == a)
   second_of a b z lt = let n = nowhere a 0 lt refl in omega arith
 
   shown_was : (x : Entry) → file_of x ≡ Some n → is_shown m x ≡ true
@@ -44,34 +50,44 @@ module _ (m m' : LogMap) (M M' : Memory) (n : ℕ) (at : M'.at ≡ M.at) (rows :
   shown_now : (x : Entry) → file_of x ≡ Some n → is_shown m' x ≡ false
   shown_now x own = shown_in m' n x own ∙ ap not now
 
-  moved_at : (is : Entry → Bool) (x : Entry) (a : ℕ) → one_if (settled_at (cond {A = ℕ} (is x) (M'.at x) 0) == a) ≡ one_if (settled_at (cond {A = ℕ} (is x) (M.at x) 0) == a)
+  moved_at : (is : Entry → Bool) (x : Entry) (a : ℕ)
+      → one_if (settled_at (cond {A = ℕ} (is x) (M'.at x) 0) == a) ≡ one_if (settled_at (cond {A = ℕ} (is x) (M.at x) 0) == a)
   moved_at is x a = ap (λ (f : Entry → ℕ). one_if (settled_at (cond {A = ℕ} (is x) (f x) 0) == a)) at
 
   pub less_live : (s : ℕ) → live_of m' M' s + count_of (is_of n) M s ≡ live_of m M s
   less_live = counts_sum (is_shown m') (is_of n) (is_shown m) M' M M rows refl (λ x a lt.
       let e = moved_at (is_shown m') x a in
-      let s : one_if (settled_at (cond {A = ℕ} (is_shown m' x) (M.at x) 0) == a) + one_if (settled_at (cond {A = ℕ} (is_of n x) (M.at x) 0) == a) ≡ one_if (settled_at (cond {A = ℕ} (is_shown m x) (M.at x) 0) == a) = ⊎_elim
-      (λ (own : file_of x ≡ Some n). tests false true true x a lt (is_shown m' x) (is_of n x) (is_shown m x) (shown_now x own) (is_of_yes n x own) (shown_was x own) (λ z lt. second_of a true z lt))
+      let s : one_if (settled_at (cond {A = ℕ} (is_shown m' x) (M.at x) 0) == a) + one_if (settled_at (cond {A = ℕ} (is_of n x) (M.at x) 0)
+      == a) ≡ one_if (settled_at (cond {A = ℕ} (is_shown m x) (M.at x) 0) == a) = ⊎_elim
+      (λ (own : file_of x ≡ Some n). tests false true true x a lt (is_shown m' x) (is_of n x) (is_shown m x) (shown_now x own)
+      (is_of_yes n x own) (shown_was x own) (λ z lt. second_of a true z lt))
       (λ (out : file_of x ≡ Some n → ⊥).
-      tests (is_shown m x) false (is_shown m x) x a lt (is_shown m' x) (is_of n x) (is_shown m x) (shown_outside m m' n headers x out) (is_of_no n x out) refl (λ z lt. first_of a (is_shown m x) z lt))
+      tests (is_shown m x) false (is_shown m x) x a lt (is_shown m' x) (is_of n x) (is_shown m x) (shown_outside m m' n headers x out)
+      (is_of_no n x out) refl (λ z lt. first_of a (is_shown m x) z lt))
       (of_file_or_not n x) in
       omega arith)
 
   pub more_held : (s : ℕ) → count_of (is_of n) M s + held_of m M s ≡ held_of m' M' s
   more_held = counts_sum (is_of n) (is_held m) (is_held m') M M M' (sym rows) (sym rows) (λ x a lt.
       let e = moved_at (is_held m') x a in
-      let s : one_if (settled_at (cond {A = ℕ} (is_of n x) (M.at x) 0) == a) + one_if (settled_at (cond {A = ℕ} (is_held m x) (M.at x) 0) == a) ≡ one_if (settled_at (cond {A = ℕ} (is_held m' x) (M.at x) 0) == a) = ⊎_elim
-      (λ (own : file_of x ≡ Some n). tests true false true x a lt (is_of n x) (is_held m x) (is_held m' x) (is_of_yes n x own) (ap not (shown_was x own)) (ap not (shown_now x own)) (λ z lt. first_of a true z lt))
+      let s : one_if (settled_at (cond {A = ℕ} (is_of n x) (M.at x) 0) == a) + one_if (settled_at (cond {A = ℕ} (is_held m x) (M.at x) 0)
+      == a) ≡ one_if (settled_at (cond {A = ℕ} (is_held m' x) (M.at x) 0) == a) = ⊎_elim
+      (λ (own : file_of x ≡ Some n). tests true false true x a lt (is_of n x) (is_held m x) (is_held m' x) (is_of_yes n x own)
+      (ap not (shown_was x own)) (ap not (shown_now x own)) (λ z lt. first_of a true z lt))
       (λ (out : file_of x ≡ Some n → ⊥).
-      tests false (is_held m x) (is_held m x) x a lt (is_of n x) (is_held m x) (is_held m' x) (is_of_no n x out) refl (ap not (shown_outside m m' n headers x out)) (λ z lt. second_of a (is_held m x) z lt))
+      tests false (is_held m x) (is_held m x) x a lt (is_of n x) (is_held m x) (is_held m' x) (is_of_no n x out) refl
+      (ap not (shown_outside m m' n headers x out)) (λ z lt. second_of a (is_held m x) z lt))
       (of_file_or_not n x) in
       omega arith)
 
 -- ---- the inode in memory has another header
-module _ (d : DeviceState) (dirty dirty' : Dirty) (t t' : Tables) (k : CheckpointValue) (m0 m m' : LogMap) (seg : ℕ) (chunk : Option (List Entry)) (n : ℕ) (old bytes : List ℕ) (counts : ℕ → ℕ)
-    (w : Running d dirty t k m0 m seg chunk) (held : dirty (Inode n) ≡ Some old) (formed : HoldsInode n bytes) (words : (i : ℕ) → 8 ≤ i → i < 122 → word bytes i ≡ word old i)
+module _ (d : DeviceState) (dirty dirty' : Dirty) (t t' : Tables) (k : CheckpointValue) (m0 m m' : LogMap) (seg : ℕ)
+    (chunk : Option (List Entry)) (n : ℕ) (old bytes : List ℕ) (counts : ℕ → ℕ)
+    (w : Running d dirty t k m0 m seg chunk) (held : dirty (Inode n) ≡ Some old) (formed : HoldsInode n bytes)
+    (words : (i : ℕ) → 8 ≤ i → i < 122 → word bytes i ≡ word old i)
     (map : IsWithHeader m n (Some (header bytes)) m') (was : is_nameless m n ≡ false) (now : is_nameless m' n ≡ true)
-    (counted : (s : ℕ) → counts s ≡ count_of (is_of n) w.memory s) (go : ChangesTo dirty dirty' (Inode n) (Some bytes)) (less : IsHeldFrom t t' counts) where
+    (counted : (s : ℕ) → counts s ≡ count_of (is_of n) w.memory s) (go : ChangesTo dirty dirty' (Inode n) (Some bytes))
+    (less : IsHeldFrom t t' counts) where
   bytes_next : Entry → List ℕ
   bytes_next y = pick (same_entry y (Inode n)) bytes (w.memory.bytes y)
 
@@ -152,7 +168,8 @@ module _ (d : DeviceState) (dirty dirty' : Dirty) (t t' : Tables) (k : Checkpoin
       held = held_now;
     };
     fresh = λ j off low. subst (SpellsUsage t' j) (sym (kept (Usage j) (λ h. let bad : Usage j ≡ Inode n = h in absurd (cc))))
-        (counts_fresh t t' counts (λ s z. let l = less.live s in omega arith) less.used less.age less.changed j off (w.memory.bytes (Usage j)) (w.fresh j (less.stale j off) low));
+        (counts_fresh t t' counts (λ s z. let l = less.live s in omega arith) less.used less.age less.changed j off
+        (w.memory.bytes (Usage j)) (w.fresh j (less.stale j off) low));
     part = part_same t t' less.used less.kept w.part;
     kept = kept_same d.content k t t' less.kept w.kept;
     opened = open_same d.content w.memory next t t' seg chunk refl refl less.kept w.opened;

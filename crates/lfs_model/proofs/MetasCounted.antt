@@ -1,5 +1,6 @@
 -- Inodes and blocks of pointers, in memory and on the device: no more than the totals of the log map say.
-use Rattle.std.proofs.Common.{◌≡◌, ◌<◌, ◌≤◌, ◌⊎◌, ⊎_elim, ◌+◌, ◌*◌, ℕ, zero, suc, List, [], ◌∷◌, ◌++◌, length, refl, sym, ◌∙◌, subst, arith, inl, inr, Some, None}
+use Rattle.std.proofs.Common.{◌≡◌, ◌<◌, ◌≤◌, ◌⊎◌, ⊎_elim, ◌+◌, ◌*◌, ℕ, zero, suc, List, [], ◌∷◌, ◌++◌, length, refl, sym, ◌∙◌, subst, arith}
+use Rattle.std.proofs.Common.{inl, inr, Some, None}
 use Rattle.std.specs.Prelude.{Option}
 use Rattle.std.proofs.lemmas.Bool.{cases_eq}
 use Rattle.std.proofs.lemmas.List.{length-append}
@@ -13,7 +14,8 @@ use Rattle.lfs_model.specs.Objects.{has_leaf, has_double}
 use Rattle.lfs_model.specs.Stands.{LogMap}
 use Rattle.lfs_model.specs.Totals.{meta_of_file, sum_upto, meta_in}
 use Rattle.lfs_model.proofs.Entries.{same_entry}
-use Rattle.lfs_model.proofs.FileEntries.{in_picks, in_rest, in_first, in_left, in_right, below, tops, meta_by, length_below, length_tops, meta_is}
+use Rattle.lfs_model.proofs.FileEntries.{in_picks, in_rest, in_first, in_left, in_right, below, tops, meta_by, length_below, length_tops}
+use Rattle.lfs_model.proofs.FileEntries.{meta_is}
 use Rattle.lfs_model.proofs.ObjectMaps.{laid_headers}
 use Rattle.lfs_model.proofs.ObjectPointers.{leaf_tests, pointer_count}
 
@@ -25,14 +27,17 @@ less_one (x ∷ xs) y = ⊎_elim (λ (here : x ≡ y). xs) (λ (away : x ≡ y �
 less_by : (x y : Entry) (xs : List Entry) (d : (x ≡ y) ⊎ (x ≡ y → ⊥)) → (length (less_one xs y) + 1 ≡ length xs) ⊎ (x ≡ y)
     → length (⊎_elim (λ (here : x ≡ y). xs) (λ (away : x ≡ y → ⊥). x ∷ less_one xs y) d) + 1 ≡ suc (length xs)
 less_by x y xs (inl here) or = omega arith
-less_by x y xs (inr away) or = ⊎_elim (λ (is : length (less_one xs y) + 1 ≡ length xs). omega (arith, is)) (λ (here : x ≡ y). absurd (away here)) or
+less_by x y xs (inr away) or =
+    ⊎_elim (λ (is : length (less_one xs y) + 1 ≡ length xs). omega (arith, is)) (λ (here : x ≡ y). absurd (away here)) or
 
 length_less : (xs : List Entry) (y : Entry) → IsIn xs y → length (less_one xs y) + 1 ≡ length xs
 unfolding less_one
 length_less [] y is = absurd is
-length_less (x ∷ xs) y is = less_by x y xs (same_entry x y) (⊎_elim (λ (here : y ≡ x). inr (sym here)) (λ (later : IsIn xs y). inl (length_less xs y later)) is)
+length_less (x ∷ xs) y is =
+    less_by x y xs (same_entry x y) (⊎_elim (λ (here : y ≡ x). inr (sym here)) (λ (later : IsIn xs y). inl (length_less xs y later)) is)
 
-in_by : (x y z : Entry) (xs : List Entry) (d : (x ≡ y) ⊎ (x ≡ y → ⊥)) → (z ≡ y → ⊥) → (z ≡ x) ⊎ IsIn xs z → (IsIn xs z → IsIn (less_one xs y) z)
+in_by : (x y z : Entry) (xs : List Entry) (d : (x ≡ y) ⊎ (x ≡ y → ⊥)) → (z ≡ y → ⊥) → (z ≡ x) ⊎ IsIn xs z
+    → (IsIn xs z → IsIn (less_one xs y) z)
     → IsIn (⊎_elim (λ (here : x ≡ y). xs) (λ (away : x ≡ y → ⊥). x ∷ less_one xs y) d) z
 in_by x y z xs (inl here) ne is rest = ⊎_elim (λ (first : z ≡ x). absurd (ne (first ∙ here))) (λ (later : IsIn xs z). later) is
 in_by x y z xs (inr away) ne is rest = ⊎_elim (λ (first : z ≡ x). inl first) (λ (later : IsIn xs z). inr (rest later)) is
@@ -45,7 +50,8 @@ in_less (x ∷ xs) y z ne is = in_by x y z xs (same_entry x y) ne is (λ later. 
 fewer_entries : (ys xs : List Entry) → AreApart ys → ((y : Entry) → IsIn ys y → IsIn xs y) → length ys ≤ length xs
 fewer_entries [] xs distinct among = omega arith
 fewer_entries (y ∷ ys) xs distinct among =
-    let rest = fewer_entries ys (less_one xs y) distinct.1 (λ z is. in_less xs y z (λ e. distinct.0 (subst (IsIn ys) e is)) (among z (inr is))) in
+    let rest =
+    fewer_entries ys (less_one xs y) distinct.1 (λ z is. in_less xs y z (λ e. distinct.0 (subst (IsIn ys) e is)) (among z (inr is))) in
     let l = length_less xs y (among y (inl refl)) in
     omega (arith, rest, l)
 
@@ -96,7 +102,8 @@ module _ (m : LogMap) where
       (λ (before : n ≡ suc k → ⊥). in_left (metas_upto k) _ x (in_metas k n x some (omega (arith, le, before)) is))
       (cases_eq n (suc k))
 
-  module _ (e : Content) (M : Memory) (opened_at : ℕ) (laid : IsLaid e m M opened_at) (map : IsLogMap m) (tight : (x : Entry) → IsPointers x → M.at x ≡ 1 → HasPointer (M.bytes x)) where
+  module _ (e : Content) (M : Memory) (opened_at : ℕ) (laid : IsLaid e m M opened_at) (map : IsLogMap m)
+      (tight : (x : Entry) → IsPointers x → M.at x ≡ 1 → HasPointer (M.bytes x)) where
     meta_of : (n : ℕ) (h : Header) → m.header n ≡ Some h → (x : Entry) → IsIn (below m n ++ tops m n) x → IsIn (metas_upto 4095) x
     unfolding metas_by
     meta_of n h is x there =
@@ -104,7 +111,8 @@ module _ (m : LogMap) where
         in_metas 4095 n x number.0 number.1 (subst (λ (o : Option Header). IsIn (metas_by n o) x) (sym is) there)
 
     points : (x : Entry) → IsPointers x → 0 < M.at x → HasPointer (M.bytes x)
-    points x is some = ⊎_elim (λ (one : M.at x ≡ 1). tight x is one) (λ (other : M.at x ≡ 1 → ⊥). laid.some x is (omega (arith, some, other))) (cases_eq (M.at x) 1)
+    points x is some = ⊎_elim (λ (one : M.at x ≡ 1). tight x is one)
+        (λ (other : M.at x ≡ 1 → ⊥). laid.some x is (omega (arith, some, other))) (cases_eq (M.at x) 1)
 
     leaf_there : (n q : ℕ) → 0 < M.at (Leaf n q) → HasLeaf m n q
     leaf_there n q at =
@@ -126,13 +134,15 @@ module _ (m : LogMap) where
     listed (Leaf n zero) is at =
         let has = leaf_there n 0 at in
         let h = map.within n (112 + 128 * 0 + has.0) has.2 in
-        meta_of n h.0 h.1 (Leaf n 0) (in_right (below m n) (tops m n) (Leaf n 0) (in_first (has_leaf m n 0) (Leaf n 0) _ (((leaf_tests m n).0 0).1 has)))
+        meta_of n h.0 h.1 (Leaf n 0)
+        (in_right (below m n) (tops m n) (Leaf n 0) (in_first (has_leaf m n 0) (Leaf n 0) _ (((leaf_tests m n).0 0).1 has)))
     listed (Leaf n (suc q)) is at =
         let has = leaf_there n (suc q) at in
         let h = map.within n (112 + 128 * suc q + has.0) has.2 in
         let low = laid.low n (suc q) at in
         meta_of n h.0 h.1 (Leaf n (suc q)) (in_left (below m n) (tops m n) (Leaf n (suc q))
-        (in_picks (λ q. Leaf n (suc q)) (λ q. has_leaf m n (suc q)) 0 128 q (omega arith) (omega (arith, low)) (((leaf_tests m n).0 (suc q)).1 has)))
+        (in_picks (λ q. Leaf n (suc q)) (λ q. has_leaf m n (suc q)) 0 128 q (omega arith) (omega (arith, low))
+        (((leaf_tests m n).0 (suc q)).1 has)))
     listed (Double n) is at =
         let has = double_there n at in
         let h = map.within n (112 + 128 * suc has.0 + has.2.0) has.2.2 in
@@ -145,8 +155,10 @@ module _ (m : LogMap) where
     listed (Map j) is at = absurd is
     listed (Usage j) is at = absurd is
 
--- Where no block of pointers in memory is empty, there are no more inodes and blocks of pointers, in memory and on the device, than the log map has.
-pub metas_counted : (e : Content) (m : LogMap) (M : Memory) (opened_at : ℕ) → IsLaid e m M opened_at → IsLogMap m → ((x : Entry) → IsPointers x → M.at x ≡ 1 → HasPointer (M.bytes x))
+-- Where no block of pointers in memory is empty, there are no more inodes
+-- and blocks of pointers, in memory and on the device, than the log map has.
+pub metas_counted : (e : Content) (m : LogMap) (M : Memory) (opened_at : ℕ) → IsLaid e m M opened_at → IsLogMap m
+    → ((x : Entry) → IsPointers x → M.at x ≡ 1 → HasPointer (M.bytes x))
     → (xs : List Entry) → AreApart xs → ((x : Entry) → IsIn xs x → IsMeta x × (0 < M.at x)) → length xs ≤ meta_in m
 metas_counted e m M opened_at laid map tight xs distinct there =
     let f = fewer_entries xs (metas_upto m 4095) distinct (λ x is. let t = there x is in listed m e M opened_at laid map tight x t.0 t.1) in

@@ -1,8 +1,11 @@
 -- How a run of device calls goes on.
-use Rattle.std.proofs.Common.{◌≢◌, inl, inr, ⊎_elim, ℕ, ◌+◌, ◌<◌, ◌≤◌, Some, None, List, refl, sym, ◌∙◌, subst, arith, length-set, get_or-set_other}
+use Rattle.std.proofs.Common.{◌≢◌, inl, inr, ⊎_elim, ℕ, ◌+◌, ◌<◌, ◌≤◌, Some, None, List, refl, sym, ◌∙◌, subst, arith, length-set}
+use Rattle.std.proofs.Common.{get_or-set_other}
 use Rattle.std.specs.Prelude.{◌≡◌, [], ◌∷◌, ◌++◌, slice_set}
 use Rattle.std.proofs.Common.{ap}
-use Rattle.lfs_model.specs.Device.{Cell, DeviceState, put, lose, MayWrite, left_old, left_new, left_bad, Only, AllLeft, Carries, Elapses, IsUntouched, CrashWrites, IsLawful, LeavesOnly, ComesFrom, SameOutside, SameWhere, IsBeginning, Grows, MayTell}
+use Rattle.lfs_model.specs.Device.{Cell, DeviceState, put, lose, MayWrite, left_old, left_new, left_bad, Only, AllLeft, Carries, Elapses}
+use Rattle.lfs_model.specs.Device.{IsUntouched, CrashWrites, IsLawful, LeavesOnly, ComesFrom, SameOutside, SameWhere, IsBeginning, Grows}
+use Rattle.lfs_model.specs.Device.{MayTell}
 use Rattle.lfs_model.specs.declared.Order.{Order}
 
 abbrev Set : Type 1
@@ -17,28 +20,6 @@ grows_none old new is first begins = subst (λ (l : List Order). IsBeginning fir
 
 pub grows_one : (order : Order) (old new : List Order) → new ≡ order ∷ old → Grows old new
 grows_one order old new is first begins = subst (λ (l : List Order). IsBeginning first l) (sym is) (begins_later first order old begins)
-
-pub grows_maybe : (order : Order) (old new : List Order) → MayTell order old new → Grows old new
-grows_maybe order old new (inl is) = grows_one order old new is
-grows_maybe order old new (inr is) = grows_none old new is
-
--- the whole is a beginning
-pub begins_all : (told : List Order) → IsBeginning told told
-unfolding IsBeginning
-begins_all [] = refl
-begins_all (order ∷ told) = inl refl
-
--- behind a beginning come later orders
-pub orders_behind : (first told : List Order) → IsBeginning first told → (later : List Order) × (told ≡ later ++ first)
-unfolding IsBeginning
-orders_behind first [] is = ([], sym is)
-orders_behind first (order ∷ told) (inl is) = ([], sym is)
-orders_behind first (order ∷ told) (inr begins) =
-    let rest = orders_behind first told begins in (order ∷ rest.0, ap (λ (l : List Order). order ∷ l) rest.1)
-
--- so it was told more, and nothing else before
-pub told_later : (old new : List Order) → Grows old new → (later : List Order) × (new ≡ later ++ old)
-told_later old new grows = orders_behind old new (grows old (begins_all old))
 
 pub carries_none : (d : DeviceState) → Carries d d
 carries_none d = record {
@@ -71,7 +52,8 @@ started d P lawful here = record {
 }
 
 -- one call more, after which a stop leaves what has P
-pub goes_on : (old mid new : DeviceState) (P : Set) → LeavesOnly old mid P → Carries mid new → Elapses mid new → AllLeft new P → LeavesOnly old new P
+pub goes_on : (old mid new : DeviceState) (P : Set) → LeavesOnly old mid P → Carries mid new → Elapses mid new → AllLeft new P
+    → LeavesOnly old new P
 goes_on old mid new P so_far carries time here = record {
   later = omega (arith, so_far.later, carries.later);
   each = λ c left. ⊎_elim (so_far.each c) (here c) (time old.moment c so_far.later left);
@@ -79,11 +61,13 @@ goes_on old mid new P so_far carries time here = record {
 }
 
 -- two runs, one after the other
-pub joined : (a b c : DeviceState) (P Q R : Set) → LeavesOnly a b P → LeavesOnly b c Q → ((x : List Cell) → P x → R x) → ((x : List Cell) → Q x → R x) → LeavesOnly a c R
+pub joined : (a b c : DeviceState) (P Q R : Set) → LeavesOnly a b P → LeavesOnly b c Q → ((x : List Cell) → P x → R x)
+    → ((x : List Cell) → Q x → R x) → LeavesOnly a c R
 joined a b c P Q R one two p q = record {
   later = omega (arith, one.later, two.later);
   each = λ x left. ⊎_elim (λ was. p x (one.each x was)) (q x) (two.before a.moment x one.later left);
-  before = λ t x le left. ⊎_elim (λ was. ⊎_elim (λ first. inl first) (λ mid. inr (p x mid)) (one.before t x le was)) (λ now. inr (q x now)) (two.before t x (omega (arith, le, one.later)) left);
+  before = λ t x le left. ⊎_elim (λ was. ⊎_elim (λ first. inl first) (λ mid. inr (p x mid)) (one.before t x le was)) (λ now. inr (q x now))
+      (two.before t x (omega (arith, le, one.later)) left);
 }
 
 pub weaker : (old new : DeviceState) (P Q : Set) → ((x : List Cell) → P x → Q x) → LeavesOnly old new P → LeavesOnly old new Q
@@ -110,7 +94,8 @@ run_call old mid new P run carries time here = record {
 }
 
 -- a read or a sync
-pub run_untouched : (old mid new : DeviceState) (P : Set) → Run old mid P → IsUntouched mid new → Carries mid new → Elapses mid new → Run old new P
+pub run_untouched : (old mid new : DeviceState) (P : Set) → Run old mid P → IsUntouched mid new → Carries mid new → Elapses mid new
+    → Run old new P
 run_untouched old mid new P run same carries time = run_call old mid new P run carries time (λ c left. run.now c (same.crash c left))
 
 -- what a write makes of what a stop may leave
@@ -134,49 +119,31 @@ pub run_write : (old mid new : DeviceState) (P : Set) (sector : ℕ) (bytes : Li
 run_write old mid new P sector bytes run s crash carries time =
     run_call old mid new P run carries time (all_left_write mid new P P sector bytes run.now crash (survives sector bytes P s))
 
--- a write where one content alone might be left
-pub all_left_first_write : (old new : DeviceState) (content : List Cell) (sector : ℕ) (bytes : List ℕ) → Only content old → CrashWrites sector bytes old new
-    → AllLeft new (MayWrite sector bytes content)
-all_left_first_write old new content sector bytes only crash c left =
-    let from = crash c left in subst (λ d. MayWrite sector bytes d c) (only from.0 from.1) from.2
-
--- A run whose writes change contents in a way that goes on: what a stop leaves comes by it from what a stop at the start might have left.
-pub run_from : (d : DeviceState) (R : List Cell → List Cell → Type 0) → IsLawful d → ((c : List Cell) → R c c) → Run d d (ComesFrom d R)
-run_from d R lawful same = run_none d (ComesFrom d R) lawful (λ c left. (c, left, same c))
-
-pub run_from_write : (old mid new : DeviceState) (R : List Cell → List Cell → Type 0) (sector : ℕ) (bytes : List ℕ) → Run old mid (ComesFrom old R)
-    → ((d c e : List Cell) → R d c → MayWrite sector bytes c e → R d e) → CrashWrites sector bytes mid new → Carries mid new → Elapses mid new → Run old new (ComesFrom old R)
+pub run_from_write : (old mid new : DeviceState) (R : List Cell → List Cell → Type 0) (sector : ℕ) (bytes : List ℕ)
+    → Run old mid (ComesFrom old R)
+    → ((d c e : List Cell) → R d c → MayWrite sector bytes c e → R d e) → CrashWrites sector bytes mid new → Carries mid new
+    → Elapses mid new → Run old new (ComesFrom old R)
 run_from_write old mid new R sector bytes run goes crash carries time =
     run_call old mid new (ComesFrom old R) run carries time
-    (all_left_write mid new (ComesFrom old R) (ComesFrom old R) sector bytes run.now crash (λ c e from write. (from.0, from.1, goes from.0 c e from.2 write)))
+    (all_left_write mid new (ComesFrom old R) (ComesFrom old R) sector bytes run.now crash
+    (λ c e from write. (from.0, from.1, goes from.0 c e from.2 write)))
 
 -- a write inside the range
 pub same_outside_none : (first n : ℕ) (c : List Cell) → SameOutside first n c c
 same_outside_none first n c = record { size = refl; before = λ k le. refl; after = λ k le. refl }
 
-set_outside : (first n s : ℕ) (d c : List Cell) (x : Cell) → first ≤ s → s < first + n → SameOutside first n d c → SameOutside first n d (slice_set c s x)
+set_outside : (first n s : ℕ) (d c : List Cell) (x : Cell) → first ≤ s → s < first + n → SameOutside first n d c
+    → SameOutside first n d (slice_set c s x)
 set_outside first n s d c x low high same = record {
   size = length-set c s x ∙ same.size;
   before = λ k lt. let other : k ≢ s = omega arith in get_or-set_other c s k x None other ∙ same.before k lt;
   after = λ k le. let other : k ≢ s = omega arith in get_or-set_other c s k x None other ∙ same.after k le;
 }
 
-pub write_outside : (first n s : ℕ) (bytes : List ℕ) → first ≤ s → s < first + n → (d c e : List Cell) → SameOutside first n d c → MayWrite s bytes c e → SameOutside first n d e
+pub write_outside : (first n s : ℕ) (bytes : List ℕ) → first ≤ s → s < first + n → (d c e : List Cell) → SameOutside first n d c
+    → MayWrite s bytes c e → SameOutside first n d e
 write_outside first n s bytes low high d c e same (left_old is) = subst (SameOutside first n d) (sym is) same
-write_outside first n s bytes low high d c e same (left_new is) = subst (SameOutside first n d) (sym is) (set_outside first n s d c (Some bytes) low high same)
-write_outside first n s bytes low high d c e same (left_bad is) = subst (SameOutside first n d) (sym is) (set_outside first n s d c None low high same)
-
--- a write to a sector that isn't among those
-pub same_where_none : (Keeps : ℕ → Type 0) (c : List Cell) → SameWhere Keeps c c
-same_where_none Keeps c = record { size = refl; cells = λ k keeps. refl }
-
-set_where : (Keeps : ℕ → Type 0) (s : ℕ) (d c : List Cell) (x : Cell) → ¬ (Keeps s) → SameWhere Keeps d c → SameWhere Keeps d (slice_set c s x)
-set_where Keeps s d c x free same = record {
-  size = length-set c s x ∙ same.size;
-  cells = λ k keeps. let other : k ≢ s = λ is. free (subst Keeps is keeps) in get_or-set_other c s k x None other ∙ same.cells k keeps;
-}
-
-pub write_where : (Keeps : ℕ → Type 0) (s : ℕ) (bytes : List ℕ) → ¬ (Keeps s) → (d c e : List Cell) → SameWhere Keeps d c → MayWrite s bytes c e → SameWhere Keeps d e
-write_where Keeps s bytes free d c e same (left_old is) = subst (SameWhere Keeps d) (sym is) same
-write_where Keeps s bytes free d c e same (left_new is) = subst (SameWhere Keeps d) (sym is) (set_where Keeps s d c (Some bytes) free same)
-write_where Keeps s bytes free d c e same (left_bad is) = subst (SameWhere Keeps d) (sym is) (set_where Keeps s d c None free same)
+write_outside first n s bytes low high d c e same (left_new is) =
+    subst (SameOutside first n d) (sym is) (set_outside first n s d c (Some bytes) low high same)
+write_outside first n s bytes low high d c e same (left_bad is) =
+    subst (SameOutside first n d) (sym is) (set_outside first n s d c None low high same)

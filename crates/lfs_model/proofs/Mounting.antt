@@ -1,5 +1,7 @@
 -- What a mount begins with.
-use Rattle.std.proofs.Common.{◌≡◌, ◌<◌, ◌≤◌, ◌↔◌, ⊎_elim, ◌+◌, ◌*◌, ◌-◌, ◌/◌, ◌%◌, ◌==◌, nat_lt, not, ℕ, zero, suc, true, false, List, [], ◌∷◌, length, get_or, take, drop, Option, Some, None, refl, sym, ◌∙◌, ap, subst, arith, length-take, length-drop, eq-eqb, eqb-true}
+use Rattle.std.proofs.Common.{◌≡◌, ◌<◌, ◌≤◌, ◌↔◌, ⊎_elim, ◌+◌, ◌*◌, ◌-◌, ◌/◌, ◌%◌, ◌==◌, nat_lt, not, ℕ, zero, suc, true, false, List, []}
+use Rattle.std.proofs.Common.{◌∷◌, length, get_or, take, drop, Option, Some, None, refl, sym, ◌∙◌, ap, subst, arith, length-take}
+use Rattle.std.proofs.Common.{length-drop, eq-eqb, eqb-true}
 use Rattle.std.proofs.lemmas.Bool.{cases_eq, cases_lt, lt-ltb, le-ltb, leb-true, and_parts, cond-true, cond-false, false_from_ne_true}
 use Rattle.lfs_model.specs.Entry.{Entry, Data, Leaf, Double, Inode, Map, Usage, Header, IsInode, header, word, entries_in}
 use Rattle.lfs_model.specs.Inode.{inode_in, inode_of, inode_sector, may_be_inode}
@@ -10,7 +12,8 @@ use Rattle.lfs_model.specs.Stands.{LogMap, StandsAt, used_in, live_in, IsHeld}
 use Rattle.lfs_model.specs.Encodes.{Encodes, IsLogMap}
 use Rattle.lfs_model.specs.Decodes.{IsSized}
 use Rattle.lfs_model.specs.Live.{live_count}
-use Rattle.lfs_model.specs.Memory.{parent, IsPointers, HasPointer, is_unlinked, is_nameless, is_shown, shown, those, settled_at, memory_view, live_of, used_of}
+use Rattle.lfs_model.specs.Memory.{parent, IsPointers, HasPointer, is_unlinked, is_nameless, is_shown, shown, those, settled_at}
+use Rattle.lfs_model.specs.Memory.{memory_view, live_of, used_of}
 use Rattle.lfs_model.specs.Laid.{IsLaid, IsMapped, SpellsBlock}
 use Rattle.lfs_model.specs.Finishing.{row_or_none, mounted_memory, IsDone, Mounting}
 use Rattle.lfs_model.specs.Reach
@@ -64,7 +67,8 @@ module _ (c : Content) (k : CheckpointValue) (m : LogMap) (few : k.segments ≤ 
       let b = length-take (used c k s) (drop (2 + 64 * s) c) in
       let d = length-drop (2 + 64 * s) c in
       let l = ap length same in
-      ⊎_elim (λ (low : s < k.segments). omega arith) (λ (high : k.segments ≤ s). let z = used_past s high in omega arith) (cases_lt s k.segments)
+      ⊎_elim (λ (low : s < k.segments). omega arith) (λ (high : k.segments ≤ s). let z = used_past s high in omega arith)
+      (cases_lt s k.segments)
 
   first_none : (ss : List (Option (List ℕ))) (r : Row) → chunks [] ss ≡ Some r → get_or r 0 None ≡ None
   first_none [] r h = let e : [] ≡ r = cc in ap (λ (r : Row). get_or r 0 None) (sym e)
@@ -72,7 +76,8 @@ module _ (c : Content) (k : CheckpointValue) (m : LogMap) (few : k.segments ≤ 
 
   rows_first : (s : ℕ) → get_or (row_or_none (row c k s)) 0 None ≡ None
   unfolding row_by
-  rows_first s = let r = row_there s in ap (λ (o : Option Row). get_or (row_or_none o) 0 None) r.1 ∙ first_none (take (used c k s) (drop (2 + 64 * s) c)) r.0 r.1
+  rows_first s = let r = row_there s in ap (λ (o : Option Row). get_or (row_or_none o) 0 None) r.1
+      ∙ first_none (take (used c k s) (drop (2 + 64 * s) c)) r.0 r.1
 
   place_is : (o : Option Row) (at : ℕ) → place_in o at ≡ get_or (row_or_none o) at None
   place_is None at = refl
@@ -99,11 +104,13 @@ module _ (c : Content) (k : CheckpointValue) (m : LogMap) (few : k.segments ≤ 
       (λ (low : i < 112).
       subst (λ (p : Entry). 0 < address c k p) (sym (data_parent_low n i low))
       (below (Data n i) (Inode n) (8 + i)
-      (address_linked c k (Data n i) ∙ cond-true (nat_lt i 112) (word (block c (address c k (Inode n))) (8 + i)) (word (block c (address c k (Leaf n ((i - 112) / 128)))) ((i - 112) % 128)) (lt-ltb i 112 low)) lt))
+      (address_linked c k (Data n i) ∙ cond-true (nat_lt i 112) (word (block c (address c k (Inode n))) (8 + i))
+      (word (block c (address c k (Leaf n ((i - 112) / 128)))) ((i - 112) % 128)) (lt-ltb i 112 low)) lt))
       (λ (high : 112 ≤ i).
       subst (λ (p : Entry). 0 < address c k p) (sym (data_parent_high n i high))
       (below (Data n i) (Leaf n ((i - 112) / 128)) ((i - 112) % 128)
-      (address_linked c k (Data n i) ∙ cond-false (nat_lt i 112) (word (block c (address c k (Inode n))) (8 + i)) (word (block c (address c k (Leaf n ((i - 112) / 128)))) ((i - 112) % 128)) (le-ltb i 112 high)) lt))
+      (address_linked c k (Data n i) ∙ cond-false (nat_lt i 112) (word (block c (address c k (Inode n))) (8 + i))
+      (word (block c (address c k (Leaf n ((i - 112) / 128)))) ((i - 112) % 128)) (le-ltb i 112 high)) lt))
       (cases_lt i 112)
   down (Leaf n zero) lt = below (Leaf n zero) (Inode n) 120 (address_linked c k (Leaf n zero)) lt
   down (Leaf n (suc q)) lt = below (Leaf n (suc q)) (Double n) q (address_linked c k (Leaf n (suc q))) lt
@@ -161,7 +168,13 @@ module _ (c : Content) (k : CheckpointValue) (m : LogMap) (few : k.segments ≤ 
   spells (Double n) lt = en.spells (Double n) lt
   spells (Inode n) lt =
       let s = en.spells (Inode n) lt in
-      record { formed = holds_inode (layout_version k) n (block c (address c k (Inode n))) s.formed; header = s.header; direct = s.direct; single = s.single; double = s.double }
+      record {
+        formed = holds_inode (layout_version k) n (block c (address c k (Inode n))) s.formed;
+        header = s.header;
+        direct = s.direct;
+        single = s.single;
+        double = s.double;
+      }
   spells (Map j) lt = tt
   spells (Usage j) lt = tt
 
@@ -219,15 +232,18 @@ module _ (c : Content) (k : CheckpointValue) (m : LogMap) (few : k.segments ≤ 
       (λ (ne : address c k x ≡ 0 → ⊥). settled_above (address c k x) (en.within x (omega arith)).0)
       (cases_eq (address c k x) 0)
 
-  held_same : (s at : ℕ) → at < 64 → IsHeld (view c k) (2 + 64 * s + at) ↔ IsHeld (memory_view (is_shown m) (mounted_memory c k)) (2 + 64 * s + at)
+  held_same : (s at : ℕ) → at < 64
+      → IsHeld (view c k) (2 + 64 * s + at) ↔ IsHeld (memory_view (is_shown m) (mounted_memory c k)) (2 + 64 * s + at)
   held_same s at low = (λ h. (h.0, view_address h.0 ∙ h.1), λ h. (h.0, sym (view_address h.0) ∙ h.1))
 
   live_is : (s : ℕ) → live_of m (mounted_memory c k) s ≡ live_count (view c k) s
-  live_is s = same_live (view c k) (memory_view (is_shown m) (mounted_memory c k)) en.named (view_named (is_shown m) (mounted_memory c k) row_named) s (held_same s)
+  live_is s = same_live (view c k) (memory_view (is_shown m) (mounted_memory c k)) en.named
+      (view_named (is_shown m) (mounted_memory c k) row_named) s (held_same s)
 
   live_counted : (s : ℕ) → live_in (view c k) s ≡ live_of m (mounted_memory c k) s
   live_counted s = ⊎_elim
-      (λ (low : s < k.segments). (named_counts (view c k) en.named s (live_in (view c k) s)).0 (st.holds.stages.counted s low) ∙ sym (live_is s))
+      (λ (low : s < k.segments). (named_counts (view c k) en.named s (live_in (view c k) s)).0 (st.holds.stages.counted s low)
+      ∙ sym (live_is s))
       (λ (high : k.segments ≤ s).
       st.holds.stages.usages.both s (st.holds.stages.usages.past s high).0
       ∙ sym (no_row_live (memory_view (is_shown m) (mounted_memory c k)) s (ap Some (rows_past s high))))
@@ -240,9 +256,11 @@ module _ (c : Content) (k : CheckpointValue) (m : LogMap) (few : k.segments ≤ 
       let row = row_length s in
       ⊎_elim
       (λ (z : live_of m (mounted_memory c k) s ≡ 0).
-      none s (omega arith) ∙ sym (cond-true (live_of m (mounted_memory c k) s == 0) 0 (length (row_or_none (Reach.row c k s))) (eq-eqb (live_of m (mounted_memory c k) s) 0 z)))
+      none s (omega arith) ∙ sym (cond-true (live_of m (mounted_memory c k) s == 0) 0 (length (row_or_none (Reach.row c k s)))
+      (eq-eqb (live_of m (mounted_memory c k) s) 0 z)))
       (λ (ne : live_of m (mounted_memory c k) s ≡ 0 → ⊥).
-      sym row ∙ sym (cond-false (live_of m (mounted_memory c k) s == 0) 0 (length (row_or_none (Reach.row c k s))) (false_from_ne_true _ (λ h. ne (eqb-true (live_of m (mounted_memory c k) s) 0 h)))))
+      sym row ∙ sym (cond-false (live_of m (mounted_memory c k) s == 0) 0 (length (row_or_none (Reach.row c k s)))
+      (false_from_ne_true _ (λ h. ne (eqb-true (live_of m (mounted_memory c k) s) 0 h)))))
       (cases_eq (live_of m (mounted_memory c k) s) 0)
     where
       none : (s : ℕ) → live_in (view c k) s ≡ 0 → used_in (view c k) s ≡ 0

@@ -1,5 +1,6 @@
 -- A name that goes, and a name that gives way to another: the state after it is sound.
-use Rattle.std.proofs.Common.{◌≡◌, ◌≢◌, refl, sym, ap, subst, ◌∙◌, ℕ, ◌+◌, ◌*◌, ◌<◌, ◌≤◌, true, false, ◌&&◌, List, [], Option, Some, None, arith, cond, inl, inr, eqb, ◌⊎◌, length}
+use Rattle.std.proofs.Common.{◌≡◌, ◌≢◌, refl, sym, ap, subst, ◌∙◌, ℕ, ◌+◌, ◌*◌, ◌<◌, ◌≤◌, true, false, ◌&&◌, List, [], Option, Some, None}
+use Rattle.std.proofs.Common.{arith, cond, inl, inr, eqb, ◌⊎◌, length}
 use Rattle.std.specs.Prelude.{unwrap_or, if◌then◌else◌, ◌==◌, is_some}
 use Rattle.std.proofs.lemmas.Bool.{eq-eqb}
 use Rattle.std.proofs.lemmas.Bool.Decides.{nat_tests}
@@ -7,7 +8,8 @@ use Rattle.std.specs.Ordering.{nat_cmp}
 use Rattle.std.specs.Cmp.Lexicographic.{nat_list_cmp_total}
 use Rattle.std.specs.FinMap.{find}
 use Rattle.std.specs.FinMap.Entries.{length_without}
-use Rattle.lfs_model.specs.Tree.{Tree, Names, Node, File, Dir, State, node, without, names_in, names_of, form_of, name_len, name_limit, is_dir, entry, byte_cmp, names, links, opened, with_name, without_name}
+use Rattle.lfs_model.specs.Tree.{Tree, Names, Node, File, Dir, State, node, without, names_in, names_of, form_of, name_len, name_limit}
+use Rattle.lfs_model.specs.Tree.{is_dir, entry, byte_cmp, names, links, opened, with_name, without_name}
 use Rattle.lfs_model.specs.Need.{need}
 use Rattle.lfs_model.specs.Sound.{Sound, IsReachable, IsGoodName, IsWithinLimits}
 use Rattle.lfs_model.specs.Step.{let_go, with_tree}
@@ -26,7 +28,8 @@ IsLight o = (is_dir o ≡ false) ⊎ ((form : ℕ) × (o ≡ Some (Dir form []))
 
 -- ---- a name goes
 
-module _ (N : ℕ) (s : State) (sound : Sound N s) (d n : ℕ) (nm : List ℕ) (is_d : is_dir (node s.tree d) ≡ true) (found : entry s.tree d nm ≡ Some n) where
+module _ (N : ℕ) (s : State) (sound : Sound N s) (d n : ℕ) (nm : List ℕ) (is_d : is_dir (node s.tree d) ≡ true)
+    (found : entry s.tree d nm ≡ Some n) where
   abbrev pub form : ℕ
   form = form_of (node s.tree d)
 
@@ -62,19 +65,23 @@ module _ (N : ℕ) (s : State) (sound : Sound N s) (d n : ℕ) (nm : List ℕ) (
     ]
 
     goes : (names t1 n == 0 && opened s.handles n == 0) ≡ true
-    goes = let one : (names t1 n == 0) ≡ true = eq-eqb (names t1 n) 0 free.unnamed in let two : (opened s.handles n == 0) ≡ true = eq-eqb (opened s.handles n) 0 shut in rw (one, two) refl
+    goes = let one : (names t1 n == 0) ≡ true = eq-eqb (names t1 n) 0 free.unnamed in
+        let two : (opened s.handles n == 0) ≡ true = eq-eqb (opened s.handles n) 0 shut in rw (one, two) refl
 
     -- no directory has a link more for it
     pub empty_links : (q : ℕ) → q ≢ n → links (let_go t1 s.handles n) q ≤ links t1 q
-    empty_links q ne = subst (λ b. links (if b then without nat_cmp n t1 else t1) q ≤ links t1 q) (sym goes) (links2 N (with_tree s t1) n empty_form free still_empty q ne)
+    empty_links q ne = subst (λ b. links (if b then without nat_cmp n t1 else t1) q ≤ links t1 q) (sym goes)
+        (links2 N (with_tree s t1) n empty_form free still_empty q ne)
 
     empty_gone : Sound N (with_tree s (let_go t1 s.handles n))
     empty_gone = subst (λ b. Sound N (with_tree s (if b then without nat_cmp n t1 else t1))) (sym goes)
-        (removed_sound N (with_tree s t1) n empty_form free still_empty (let less = out.less_need N s sound d n form m nm is found in let fits = sound.room in omega arith))
+        (removed_sound N (with_tree s t1) n empty_form free still_empty
+        (let less = out.less_need N s sound d n form m nm is found in let fits = sound.room in omega arith))
 
   -- an unlink, or an rmdir
   pub gone_sound : IsLight (node s.tree n) → Sound N (with_tree s (let_go t1 s.handles n))
-  gone_sound (inl plain) = let_go_sound N (with_tree s t1) n (out.lost_sound N s sound d n form m nm is found plain) (out.still_plain N s sound d n form m nm is found plain)
+  gone_sound (inl plain) = let_go_sound N (with_tree s t1) n (out.lost_sound N s sound d n form m nm is found plain)
+      (out.still_plain N s sound d n form m nm is found plain)
   gone_sound (inr empty) = empty_gone empty.0 empty.1
 
 -- ---- a node that is there is given by a free name in place of one that goes
@@ -83,7 +90,8 @@ pub none_if : {A B : Type 0} (o : Option A) (p : Option B) → ((k : A) → o �
 none_if None p h e = refl
 none_if (Some k) p h e = let is = (h k refl).1 in cc
 
-module _ (N : ℕ) (s : State) (sound : Sound N s) (da db n : ℕ) (na nb : List ℕ) (is_a : is_dir (node s.tree da) ≡ true) (found : entry s.tree da na ≡ Some n) (is_b : is_dir (node s.tree db) ≡ true)
+module _ (N : ℕ) (s : State) (sound : Sound N s) (da db n : ℕ) (na nb : List ℕ) (is_a : is_dir (node s.tree da) ≡ true)
+    (found : entry s.tree da na ≡ Some n) (is_b : is_dir (node s.tree db) ≡ true)
     (absent : entry s.tree db nb ≡ None) (good : IsGoodName (name_limit s.tree db) nb) (few : da ≢ db → length (names_in s.tree db) < 1024)
     (fits : need (with_name (without_name s.tree da na) db nb n) ≤ 47 * N) where
   abbrev t : Tree
@@ -128,7 +136,8 @@ module _ (N : ℕ) (s : State) (sound : Sound N s) (da db n : ℕ) (na nb : List
   good_b = subst (λ f. IsGoodName (name_len f) nb) (sym form_kept) good
 
   absent_b : find byte_cmp nb names_b ≡ None
-  absent_b = none_if (entry u db nb) (entry t db nb) (λ k e. (k, out.was_entry N s sound da n form_a names_a na at_a found db nb k e)) absent
+  absent_b =
+      none_if (entry u db nb) (entry t db nb) (λ k e. (k, out.was_entry N s sound da n form_a names_a na at_a found db nb k e)) absent
 
   limits_a : IsWithinLimits (Dir form_a names_a)
   limits_a = sound.limits da (Dir form_a names_a) at_a
@@ -147,13 +156,15 @@ module _ (N : ℕ) (s : State) (sound : Sound N s) (da db n : ℕ) (na nb : List
       let less = one_less in
       let most = limits_a.1 in
       omega arith))
-      (λ ne. let same : length names_b ≡ length (names_in t db) = ap (λ o. length (names_at o)) (out.kept N s sound da n form_a names_a na at_a found db (λ e. ne (sym e))) in let old = few ne in omega arith)
+      (λ ne. let same : length names_b ≡ length (names_in t db) = ap (λ o. length (names_at o))
+      (out.kept N s sound da n form_a names_a na at_a found db (λ e. ne (sym e))) in let old = few ne in omega arith)
 
   there : node u n ≢ None
   there = out.here N s sound da n form_a names_a na at_a found n (sound.named da na n found)
 
   pub leaf_moved : is_dir (node t n) ≡ false → Sound N (with_tree s (with_name u db nb n))
-  leaf_moved plain = named_sound N (with_tree s u) db n form_b names_b nb (out.lost_sound N s sound da n form_a names_a na at_a found plain) at_b there
+  leaf_moved plain =
+      named_sound N (with_tree s u) db n form_b names_b nb (out.lost_sound N s sound da n form_a names_a na at_a found plain) at_b there
       (out.still_plain N s sound da n form_a names_a na at_a found plain) absent_b good_b few_b room fits
     where
       room : names u n < 1000
@@ -165,7 +176,8 @@ module _ (N : ℕ) (s : State) (sound : Sound N s) (da db n : ℕ) (na nb : List
           let are = leaf_names_are t n (node t n) plain in
           omega arith
 
-  pub dir_moved : is_dir (node t n) ≡ true → (da ≢ db → links t db < 1000) → (Under u n db → ⊥) → Sound N (with_tree s (with_name u db nb n))
+  pub dir_moved : is_dir (node t n) ≡ true → (da ≢ db → links t db < 1000) → (Under u n db → ⊥)
+      → Sound N (with_tree s (with_name u db nb n))
   dir_moved dir more away = attached_sound N (with_tree s u) db n form_b names_b nb free at_b
       (elim (free.reached db is_b') as (λ _. IsReachable u db) [ inl r ↦ r | inr v ↦ absurd (away v) ]) absent_b good_b few_b room fits
     where
@@ -181,4 +193,5 @@ module _ (N : ℕ) (s : State) (sound : Sound N s) (da db n : ℕ) (na nb : List
           let less = shrinks.links_lost t da n form_a names_a na sound.in_order at_a limits_a.0 found dir in
           let most = sound.few_links da (λ none. let plain : is_dir (node t da) ≡ false = ap is_dir none in cc) in
           omega arith))
-          (λ ne. let less = shrinks.links_less t da n form_a names_a na sound.in_order at_a limits_a.0 found db in let old = more ne in omega arith)
+          (λ ne. let less = shrinks.links_less t da n form_a names_a na sound.in_order at_a limits_a.0 found db in let old = more ne in
+          omega arith)

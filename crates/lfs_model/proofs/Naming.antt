@@ -1,12 +1,14 @@
 -- A further name for a file or a link keeps a state sound.
-use Rattle.std.proofs.Common.{◌≡◌, ◌≢◌, refl, sym, ap, subst, ◌∙◌, ℕ, ◌+◌, ◌*◌, ◌<◌, ◌≤◌, Bool, true, false, List, Option, Some, None, arith, cond, inl, inr, length, add-zero}
+use Rattle.std.proofs.Common.{◌≡◌, ◌≢◌, refl, sym, ap, subst, ◌∙◌, ℕ, ◌+◌, ◌*◌, ◌<◌, ◌≤◌, Bool, true, false, List, Option, Some, None}
+use Rattle.std.proofs.Common.{arith, cond, inl, inr, length, add-zero}
 use Rattle.std.specs.Prelude.{if◌then◌else◌, is_some}
 use Rattle.std.specs.Ordering.{nat_cmp}
 use Rattle.std.specs.Cmp.Lexicographic.{nat_list_cmp_total}
 use Rattle.std.proofs.lemmas.Cmp.{nat_cmp_total}
 use Rattle.std.specs.FinMap.{find, put}
 use Rattle.std.specs.FinMap.Entries.{is_sorted-put, length-put}
-use Rattle.lfs_model.specs.Tree.{Tree, Names, Node, File, Dir, Link, State, node, with_node, is_dir, name_len, byte_cmp, names, links, links_at}
+use Rattle.lfs_model.specs.Tree.{Tree, Names, Node, File, Dir, Link, State, node, with_node, is_dir, name_len, byte_cmp, names, links}
+use Rattle.lfs_model.specs.Tree.{links_at}
 use Rattle.lfs_model.specs.Need.{need}
 use Rattle.lfs_model.specs.Sound.{Sound, IsGoodName, IsWithinLimits, IsOfVersion, IsFile}
 use Rattle.lfs_model.specs.Step.{with_tree}
@@ -42,8 +44,10 @@ leaf_names_are t n (Some (File b)) h = refl
 leaf_names_are t n (Some (Dir form m)) h = cc
 leaf_names_are t n (Some (Link text)) h = refl
 
-module _ (N : ℕ) (s : State) (d n form : ℕ) (m : Names) (nm : List ℕ) (but : SoundBut N s n) (is : node s.tree d ≡ Some (Dir form m)) (is_there : node s.tree n ≢ None) (leaf : is_dir (node s.tree n) ≡ false)
-    (absent : find byte_cmp nm m ≡ None) (good : IsGoodName (name_len form) nm) (few : length m < 1024) (room : names s.tree n < 1000) (fits : need (with_node s.tree d (Dir form (put byte_cmp nm n m))) ≤ 47 * N) where
+module _ (N : ℕ) (s : State) (d n form : ℕ) (m : Names) (nm : List ℕ) (but : SoundBut N s n) (is : node s.tree d ≡ Some (Dir form m))
+    (is_there : node s.tree n ≢ None) (leaf : is_dir (node s.tree n) ≡ false)
+    (absent : find byte_cmp nm m ≡ None) (good : IsGoodName (name_len form) nm) (few : length m < 1024) (room : names s.tree n < 1000)
+    (fits : need (with_node s.tree d (Dir form (put byte_cmp nm n m))) ≤ 47 * N) where
   abbrev t : Tree
   t = s.tree
 
@@ -97,19 +101,24 @@ module _ (N : ℕ) (s : State) (d n form : ℕ) (m : Names) (nm : List ℕ) (but
   links_same : (q : ℕ) → q ≢ n → links t' q ≡ links t q
   links_same q ne = same_or_not q d
       (λ e. subst (λ x. links t' x ≡ links t x) (sym e) (
-      gains.links_dir t d n form m nm but.in_order is limits_dir.0 absent ∙ ap (λ (b : Bool). links t d + (if b then 1 else 0)) leaf ∙ add-zero _))
+      gains.links_dir t d n form m nm but.in_order is limits_dir.0 absent ∙ ap (λ (b : Bool). links t d + (if b then 1 else 0)) leaf
+      ∙ add-zero _))
       (λ b. gains.links_other t d n form m nm but.in_order is limits_dir.0 absent q b (inl ne))
 
   links_few : (q : ℕ) → node t' q ≢ None → links t' q ≤ 1000
   links_few q some = same_or_not q n
-      (λ e. subst (λ x. links t' x ≤ 1000) (sym e) (let are = leaf_names_are t' n (node t' n) (dirs n ∙ leaf) in let more = one_more in omega arith))
+      (λ e. subst (λ x. links t' x ≤ 1000) (sym e)
+      (let are = leaf_names_are t' n (node t' n) (dirs n ∙ leaf) in let more = one_more in omega arith))
       (λ a. let same = links_same q a in let old = but.few_links q (there q some) in omega arith)
 
   grown_limits : IsWithinLimits grown
   grown_limits =
       let len = length-put byte_cmp nat_list_cmp_total nm n m limits_dir.0 in
-      let now : length (put byte_cmp nm n m) ≡ length m + 1 = len ∙ ap (λ o. cond (is_some o) (length m) (length m + 1)) absent in
-      (is_sorted-put byte_cmp nat_list_cmp_total nm n m limits_dir.0, omega arith, all_put byte_cmp (IsGoodName (name_len form)) nm n m good limits_dir.2)
+      let now : length (put byte_cmp nm n m) ≡ length m + 1 = len ∙ ap (λ o. cond (is_some o) (length m) (length m + 1)) absent in (
+        is_sorted-put byte_cmp nat_list_cmp_total nm n m limits_dir.0,
+        omega arith,
+        all_put byte_cmp (IsGoodName (name_len form)) nm n m good limits_dir.2,
+      )
 
   pub named_sound : Sound N (with_tree s t')
   named_sound = record {
@@ -130,7 +139,8 @@ module _ (N : ℕ) (s : State) (d n form : ℕ) (m : Names) (nm : List ℕ) (but
     reached = λ q dir. gains.reached_kept t d n form m nm but.in_order is limits_dir.0 absent (but.reached q (sym (dirs q) ∙ dir));
     held = λ q ne some none. same_or_not q n
         (λ e. absurd (let more = one_more in let zero_is : names t' n ≡ 0 = subst (λ x. names t' x ≡ 0) e none in omega arith))
-        (λ a. let was = but.held q a ne (there q some) (sym (same_names q a) ∙ none) in record { file = file_kept q was.file; handle = was.handle });
+        (λ a. let was = but.held q a ne (there q some) (sym (same_names q a) ∙ none) in
+        record { file = file_kept q was.file; handle = was.handle });
     handles = λ h q e. ((but.handles h q e).0, file_kept q (but.handles h q e).1);
     room = fits;
   }

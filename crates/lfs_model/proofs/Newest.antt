@@ -1,8 +1,11 @@
 -- The newest checkpoint of a content: what the two slots hold, and what a write to one of them makes of it.
-use Rattle.std.proofs.Common.{◌≡◌, ◌<◌, ◌≤◌, ◌⊎◌, inl, inr, ⊎_elim, ◌+◌, ◌%◌, ◌==◌, ◌&&◌, nat_le, nat_lt, Bool, true, false, cond, ℕ, zero, suc, List, [], set, Option, Some, None, refl, sym, ◌∙◌, ap, ap₂, arith, get_or-set_other}
-use Rattle.std.proofs.lemmas.Bool.{and_parts, leb-true, cases_eq, cases_lt, cases_Bool, eqb-true, eq-eqb, cond-true, cond-false, lt-ltb, le-ltb}
+use Rattle.std.proofs.Common.{◌≡◌, ◌<◌, ◌≤◌, ◌⊎◌, inl, inr, ⊎_elim, ◌+◌, ◌%◌, ◌==◌, ◌&&◌, nat_le, nat_lt, Bool, true, false, cond, ℕ, zero}
+use Rattle.std.proofs.Common.{suc, List, [], set, Option, Some, None, refl, sym, ◌∙◌, ap, ap₂, arith, get_or-set_other}
+use Rattle.std.proofs.lemmas.Bool.{and_parts, leb-true, cases_eq, cases_lt, cases_Bool, eqb-true, eq-eqb, cond-true, cond-false, lt-ltb}
+use Rattle.std.proofs.lemmas.Bool.{le-ltb}
 use Rattle.std.specs.List.{AllByRecursion}
-use Rattle.lfs_model.specs.Checkpoint.{CheckpointValue, IsVersion, checkpoint_in, checkpoint_of, checkpoint_sector, is_segment_count, is_version, layout_version, may_be_checkpoint}
+use Rattle.lfs_model.specs.Checkpoint.{CheckpointValue, IsVersion, checkpoint_in, checkpoint_of, checkpoint_sector, is_segment_count}
+use Rattle.lfs_model.specs.Checkpoint.{is_version, layout_version, may_be_checkpoint}
 use Rattle.lfs_model.specs.Fields.{part, read32, read64}
 use Rattle.lfs_model.specs.Content.{Content, NewestFits, bytes_of, slot, newer, newest, with_parity}
 use Rattle.lfs_model.specs.Device.{Cell, cell_at, IsSector, AreSectorBytes}
@@ -17,7 +20,8 @@ unfolding checkpoint_in read32 read64 part
 none_spelt = refl
 
 -- What the two slots hold, and the newest of it.
-pub with_parity_inv : (p : ℕ) (o : Option CheckpointValue) (k : CheckpointValue) → with_parity p o ≡ Some k → (o ≡ Some k) × (k.number % 2 ≡ p)
+pub with_parity_inv : (p : ℕ) (o : Option CheckpointValue) (k : CheckpointValue) → with_parity p o ≡ Some k
+    → (o ≡ Some k) × (k.number % 2 ≡ p)
 with_parity_inv p None k h = absurd (cc)
 with_parity_inv p (Some c) k h =
     ⊎_elim
@@ -52,7 +56,8 @@ pub newer_ge : (k n : CheckpointValue) → k.number < n.number → newer (Some n
 newer_ge k n lt = cond-false (nat_lt n.number k.number) (Some k) (Some n) (le-ltb n.number k.number (omega arith))
 
 -- the other slot, at the next number
-pub newest_alone : (d : Content) (k : CheckpointValue) (p : ℕ) → p ≡ (k.number + 1) % 2 → slot d (k.number % 2) ≡ Some k → slot d p ≡ None → newest d ≡ Some k
+pub newest_alone : (d : Content) (k : CheckpointValue) (p : ℕ) → p ≡ (k.number + 1) % 2 → slot d (k.number % 2) ≡ Some k → slot d p ≡ None
+    → newest d ≡ Some k
 newest_alone d k p is here there =
     ⊎_elim
     (λ (z : k.number % 2 ≡ 0).
@@ -64,7 +69,8 @@ newest_alone d k p is here there =
     ap₂ newer (ap (slot d) (sym z) ∙ there) (ap (slot d) (sym o) ∙ here))
     (cases_eq (k.number % 2) 0)
 
-pub newest_next : (d : Content) (k n : CheckpointValue) → n.number ≡ k.number + 1 → slot d (k.number % 2) ≡ Some k → slot d (n.number % 2) ≡ Some n → newest d ≡ Some n
+pub newest_next : (d : Content) (k n : CheckpointValue) → n.number ≡ k.number + 1 → slot d (k.number % 2) ≡ Some k
+    → slot d (n.number % 2) ≡ Some n → newest d ≡ Some n
 newest_next d k n is here there =
     ⊎_elim
     (λ (z : k.number % 2 ≡ 0).
@@ -97,7 +103,8 @@ slot_from c p k held =
     ∙ ap (with_parity p) (checkpoint_some (checkpoint_sector k) k held.fits refl)
     ∙ cond-true (k.number % 2 == p) (Some k) None (eq-eqb (k.number % 2) p held.parity)
 
-held_by : (c : Content) (p : ℕ) (k : CheckpointValue) (x : Cell) → IsSector x → cell_at c p ≡ x → checkpoint_in (bytes_of x) ≡ Some k → k.number % 2 ≡ p → HoldsCheckpoint c p k
+held_by : (c : Content) (p : ℕ) (k : CheckpointValue) (x : Cell) → IsSector x → cell_at c p ≡ x → checkpoint_in (bytes_of x) ≡ Some k
+    → k.number % 2 ≡ p → HoldsCheckpoint c p k
 held_by c p k None is there spelt parity = let e : None ≡ Some k = sym none_spelt ∙ spelt in absurd (cc)
 held_by c p k (Some bytes) is there spelt parity =
     let found = checkpoint_found bytes k (is_bytes bytes is) is.size spelt in
@@ -109,21 +116,26 @@ slot_to c all p k e =
     held_by c p k (cell_at c p) (sector_at c p all) refl i.0 i.1
 
 -- the newest of two has the greater number
-newer_least : (x y : Option CheckpointValue) (k d : CheckpointValue) → newer x y ≡ Some k → (x ≡ Some d) ⊎ (y ≡ Some d) → d.number ≤ k.number
+newer_least : (x y : Option CheckpointValue) (k d : CheckpointValue) → newer x y ≡ Some k → (x ≡ Some d) ⊎ (y ≡ Some d)
+    → d.number ≤ k.number
 newer_least None y k d h (inl e) = absurd (cc)
-newer_least None y k d h (inr e) = let s : Some k ≡ Some d = sym h ∙ e in let is : k ≡ d = cc in let n = ap (λ (z : CheckpointValue). z.number) is in omega arith
-newer_least (Some x) None k d h (inl e) = let s : Some k ≡ Some d = sym h ∙ e in let is : k ≡ d = cc in let n = ap (λ (z : CheckpointValue). z.number) is in omega arith
+newer_least None y k d h (inr e) = let s : Some k ≡ Some d = sym h ∙ e in let is : k ≡ d = cc in
+    let n = ap (λ (z : CheckpointValue). z.number) is in omega arith
+newer_least (Some x) None k d h (inl e) = let s : Some k ≡ Some d = sym h ∙ e in let is : k ≡ d = cc in
+    let n = ap (λ (z : CheckpointValue). z.number) is in omega arith
 newer_least (Some x) None k d h (inr e) = absurd (cc)
 newer_least (Some x) (Some y) k d h which =
     ⊎_elim
     (λ (lt : x.number < y.number).
     let e : Some y ≡ Some k = sym (newer_lt x y lt) ∙ h in
     let is : y ≡ k = cc in
-    go (let n = ap (λ (z : CheckpointValue). z.number) is in omega arith) (let n = ap (λ (z : CheckpointValue). z.number) is in omega arith) which)
+    go (let n = ap (λ (z : CheckpointValue). z.number) is in omega arith) (let n = ap (λ (z : CheckpointValue). z.number) is in omega arith)
+    which)
     (λ (le : y.number ≤ x.number).
     let e : Some x ≡ Some k = sym (cond-false (nat_lt x.number y.number) (Some y) (Some x) (le-ltb x.number y.number le)) ∙ h in
     let is : x ≡ k = cc in
-    go (let n = ap (λ (z : CheckpointValue). z.number) is in omega arith) (let n = ap (λ (z : CheckpointValue). z.number) is in omega arith) which)
+    go (let n = ap (λ (z : CheckpointValue). z.number) is in omega arith) (let n = ap (λ (z : CheckpointValue). z.number) is in omega arith)
+    which)
     (cases_lt x.number y.number)
   where
     go : x.number ≤ k.number → y.number ≤ k.number → (Some x ≡ Some d) ⊎ (Some y ≡ Some d) → d.number ≤ k.number
@@ -159,7 +171,8 @@ no_checkpoint_to c h p k lt held =
       | inr e ↦ let z : None ≡ Some k = sym both.1 ∙ e in absurd (cc)
     ]
 
-same_number : (c : Content) (j k : CheckpointValue) → newest c ≡ Some j → slot c (k.number % 2) ≡ Some k → j.number ≡ k.number → newest c ≡ Some k
+same_number : (c : Content) (j k : CheckpointValue) → newest c ≡ Some j → slot c (k.number % 2) ≡ Some k → j.number ≡ k.number
+    → newest c ≡ Some k
 same_number c j k h held same =
     let there = slot_newest c j h in
     let e : Some j ≡ Some k = sym there ∙ ap (λ (n : ℕ). slot c (n % 2)) same ∙ held in
@@ -188,8 +201,10 @@ newest_fits c all = ((λ k. (newest_to c all k, newest_from c all k)), (no_check
 
 -- its sector spells it
 pub newest_spelt : (c : Content) (k : CheckpointValue) → newest c ≡ Some k → (bytes : List ℕ) × (checkpoint_in bytes ≡ Some k)
-newest_spelt c k h =
-    (bytes_of (cell_at c (k.number % 2)), (with_parity_inv (k.number % 2) (checkpoint_in (bytes_of (cell_at c (k.number % 2)))) k (slot_newest c k h)).0)
+newest_spelt c k h = (
+  bytes_of (cell_at c (k.number % 2)),
+  (with_parity_inv (k.number % 2) (checkpoint_in (bytes_of (cell_at c (k.number % 2)))) k (slot_newest c k h)).0,
+)
 
 -- a volume has at least 64 segments
 pub least_segments : (c : Content) (k : CheckpointValue) → newest c ≡ Some k → 64 ≤ k.segments

@@ -1,5 +1,6 @@
 -- Numbers and their bytes.
-use Rattle.std.proofs.Common.{◌≡◌, ◌<◌, ◌^◌, ◌+◌, ◌*◌, ◌/◌, ◌%◌, ℕ, zero, suc, List, [], ◌∷◌, ◌++◌, length, take, drop, get_or, refl, sym, ap, ◌∙◌, arith, inl, inr, length-append}
+use Rattle.std.proofs.Common.{◌≡◌, ◌<◌, ◌^◌, ◌+◌, ◌*◌, ◌/◌, ◌%◌, ℕ, zero, suc, List, [], ◌∷◌, ◌++◌, length, take, drop, get_or, refl, sym}
+use Rattle.std.proofs.Common.{ap, ◌∙◌, arith, inl, inr, length-append}
 use Rattle.std.proofs.Math.Nat.{div-div-eq-div-mul, pow-suc}
 use Rattle.std.proofs.lemmas.List.{take_at, drop_at, get_or-drop, get_or-take, get_or_past, length-take, nil_from_length, length-replicate}
 use Rattle.std.proofs.lemmas.Bool.{cases_lt}
@@ -64,10 +65,6 @@ length-le32 n = refl
 pub length-le64 : (n : ℕ) → length (le64 n) ≡ 8
 unfolding le64
 length-le64 n = refl
-
-pub le16_inj : (x y : ℕ) → x < 2 ^ 16 → y < 2 ^ 16 → le16 x ≡ le16 y → x ≡ y
-unfolding le16
-le16_inj x y p q e = bytes_inj 2 x y p q e
 
 pub le32_inj : (x y : ℕ) → x < 2 ^ 32 → y < 2 ^ 32 → le32 x ≡ le32 y → x ≡ y
 unfolding le32

@@ -1,9 +1,11 @@
 -- The bytes of objects, and what writes and cuts of their blocks make of them.
-use Rattle.std.proofs.Common.{◌≡◌, ◌<◌, ◌≤◌, ⊎_elim, ◌+◌, ◌*◌, ◌-◌, ◌/◌, ◌%◌, ℕ, zero, suc, List, [], ◌∷◌, ◌++◌, length, take, drop, get_or, Some, refl, sym, ◌∙◌, ap, subst, arith, slice_index, length-append}
+use Rattle.std.proofs.Common.{◌≡◌, ◌<◌, ◌≤◌, ⊎_elim, ◌+◌, ◌*◌, ◌-◌, ◌/◌, ◌%◌, ℕ, zero, suc, List, [], ◌∷◌, ◌++◌, length, take, drop, get_or}
+use Rattle.std.proofs.Common.{Some, refl, sym, ◌∙◌, ap, subst, arith, slice_index, length-append}
 use Rattle.std.specs.Prelude.{max, min, replicate}
 use Rattle.std.proofs.lemmas.Bool.{cases_eq, cases_lt}
 use Rattle.std.proofs.lemmas.Grind.{same_number_lists}
-use Rattle.std.proofs.lemmas.List.{length-take, length-drop, get_or-take, get_or-drop, get_or_append_left, get_or-append_right, get_or_past, nil_from_length}
+use Rattle.std.proofs.lemmas.List.{length-take, length-drop, get_or-take, get_or-drop, get_or_append_left, get_or-append_right, get_or_past}
+use Rattle.std.proofs.lemmas.List.{nil_from_length}
 use Rattle.std.proofs.lemmas.List.FromFn.{get_or-map-range_with_len}
 use Rattle.lfs_model.specs.Bytes.{cut, part, put}
 use Rattle.lfs_model.specs.Changing.{IsWithBlock}
@@ -11,7 +13,8 @@ use Rattle.lfs_model.specs.Encodes.{IsLogMap}
 use Rattle.lfs_model.specs.Entry.{Header, Data}
 use Rattle.lfs_model.specs.Stands.{LogMap}
 use Rattle.lfs_model.specs.TreeOf.{object}
-use Rattle.lfs_model.specs.Objects.{byte_in, ObjectBytes, ObjectPart, SameObjects, Overlays, BlockOverlaid, OverlaidByBlocks, Lengthened, OverlaysJoin, ObjectWritten, WriteEnds, CutsBytes, ObjectCut, CutEnds}
+use Rattle.lfs_model.specs.Objects.{byte_in, ObjectBytes, ObjectPart, SameObjects, Overlays, BlockOverlaid, OverlaidByBlocks, Lengthened}
+use Rattle.lfs_model.specs.Objects.{OverlaysJoin, ObjectWritten, WriteEnds, CutsBytes, ObjectCut, CutEnds}
 use Rattle.lfs_model.proofs.FileBytes.{length-cut}
 use Rattle.lfs_model.proofs.Standing.{object_length}
 
@@ -25,7 +28,8 @@ pub object_bytes : ObjectBytes
 object_bytes m n h = (object_length m n h, object_byte m n h)
 
 -- a list of the object's length with the object's bytes is the object
-pub object_is : (m : LogMap) (n : ℕ) (h : Header) (b : List ℕ) → length b ≡ h.size → ((p : ℕ) → p < h.size → byte_in m n p ≡ get_or b p 0) → object m n h ≡ b
+pub object_is : (m : LogMap) (n : ℕ) (h : Header) (b : List ℕ) → length b ≡ h.size → ((p : ℕ) → p < h.size → byte_in m n p ≡ get_or b p 0)
+    → object m n h ≡ b
 object_is m n h b long each =
     let l = object_length m n h in
     same_number_lists (object m n h) b (l ∙ sym long) (λ p lt. object_byte m n h p (omega arith) ∙ each p (omega arith))
@@ -78,7 +82,8 @@ module _ (b : List ℕ) (o x : ℕ) (w : List ℕ) where
   head_length = let l = length-append (cut b o) (x ∷ w) in let c = length-cut b o in omega arith
 
   put_length_cons : length (put b o (x ∷ w)) ≡ max (length b) (o + length (x ∷ w))
-  put_length_cons = let l = length-append head (drop (o + length (x ∷ w)) b) in let h = head_length in let d = length-drop (o + length (x ∷ w)) b in omega arith
+  put_length_cons = let l = length-append head (drop (o + length (x ∷ w)) b) in let h = head_length in
+      let d = length-drop (o + length (x ∷ w)) b in omega arith
 
   put_before : (p : ℕ) → p < o → get_or (put b o (x ∷ w)) p 0 ≡ get_or b p 0
   put_before p lt =
@@ -101,16 +106,6 @@ module _ (b : List ℕ) (o x : ℕ) (w : List ℕ) where
 
 -- ---- overlays
 
-pub overlays_same : (o : ℕ) (w : List ℕ) (old new other : ℕ → ℕ) → ((p : ℕ) → other p ≡ new p) → Overlays o w old new → Overlays o w old other
-overlays_same o w old new other same over = record {
-  before = λ p lt. same p ∙ over.before p lt;
-  inside = λ j lt. same (o + j) ∙ over.inside j lt;
-  behind = λ p le. same p ∙ over.behind p le;
-}
-
-pub overlays_none : (o : ℕ) (old : ℕ → ℕ) → Overlays o [] old old
-overlays_none o old = record { before = λ p lt. refl; inside = λ j lt. absurd (omega arith); behind = λ p le. refl }
-
 pub overlays_join : OverlaysJoin
 overlays_join o u w old mid new first next = record {
   before = λ p lt. next.before p (omega arith) ∙ first.before p lt;
@@ -126,10 +121,6 @@ overlays_join o u w old mid new first next = record {
   where
     at : (j : ℕ) → length u ≤ j → o + j ≡ o + length u + (j - length u)
     at j high = omega arith
-
--- a block that is none is one of zeros
-pub overlays_blank : (o : ℕ) (w : List ℕ) (old : ℕ → ℕ) (bytes : List ℕ) → ((k : ℕ) → slice_index bytes k ≡ 0) → Overlays o w old (slice_index bytes) → Overlays o w old (slice_index [])
-overlays_blank o w old bytes zeros over = overlays_same o w old (slice_index bytes) (slice_index []) (λ k. sym (zeros k)) over
 
 -- the same, said of each block
 pub overlays_by_blocks : OverlaidByBlocks
@@ -192,7 +183,8 @@ byte_is m n h ends p = ⊎_elim
     (λ (high : h.size ≤ p). let l = object_length m n h in ends p high ∙ sym (get_or_past (object m n h) p 0 (omega arith)))
     (cases_lt p h.size)
 
-pub written : (m m' : LogMap) (n : ℕ) (h h' : Header) → EndsAt h.size (byte_in m n) → (o x : ℕ) (w : List ℕ) → h'.size ≡ max h.size (o + length (x ∷ w)) → Overlays o (x ∷ w) (byte_in m n) (byte_in m' n)
+pub written : (m m' : LogMap) (n : ℕ) (h h' : Header) → EndsAt h.size (byte_in m n) → (o x : ℕ) (w : List ℕ)
+    → h'.size ≡ max h.size (o + length (x ∷ w)) → Overlays o (x ∷ w) (byte_in m n) (byte_in m' n)
     → object m' n h' ≡ put (object m n h) o (x ∷ w)
 written m m' n h h' ends o x w size over =
     let l = object_length m n h in
@@ -211,7 +203,8 @@ written m m' n h h' ends o x w size over =
 pub object_written : ObjectWritten
 object_written m m' n h h' is at o w writes = by w writes.some writes.size writes.bytes
   where
-    by : (w : List ℕ) → 0 < length w → h'.size ≡ max h.size (o + length w) → Overlays o w (byte_in m n) (byte_in m' n) → object m' n h' ≡ put (object m n h) o w
+    by : (w : List ℕ) → 0 < length w → h'.size ≡ max h.size (o + length w) → Overlays o w (byte_in m n) (byte_in m' n)
+        → object m' n h' ≡ put (object m n h) o w
     by [] some size over = absurd (omega arith)
     by (x ∷ w) some size over = written m m' n h h' (map_ends m n h is at) o x w size over
 
@@ -248,10 +241,12 @@ cut_ends m m' n h h' len cuts p le = ⊎_elim
     (λ (ne : p / 512 ≡ len / 512 → ⊥). ap (λ (b : List ℕ). slice_index b (p % 512)) (cuts.gone (p / 512) (omega arith)))
     (cases_eq (p / 512) (len / 512))
 
-cut_byte : (m m' : LogMap) (n : ℕ) (h h' : Header) (len : ℕ) → CutsBytes m m' n h h' len → (p : ℕ) → p < len → byte_in m' n p ≡ byte_in m n p
+cut_byte : (m m' : LogMap) (n : ℕ) (h h' : Header) (len : ℕ) → CutsBytes m m' n h h' len → (p : ℕ) → p < len
+    → byte_in m' n p ≡ byte_in m n p
 cut_byte m m' n h h' len cuts p lt = ⊎_elim
     (λ (at : p / 512 ≡ len / 512).
-    ap (λ (q : ℕ). slice_index (m'.block n q) (p % 512)) at ∙ cuts.last (p % 512) (omega arith) ∙ ap (λ (q : ℕ). slice_index (m.block n q) (p % 512)) (sym at))
+    ap (λ (q : ℕ). slice_index (m'.block n q) (p % 512)) at ∙ cuts.last (p % 512) (omega arith)
+    ∙ ap (λ (q : ℕ). slice_index (m.block n q) (p % 512)) (sym at))
     (λ (ne : p / 512 ≡ len / 512 → ⊥). ap (λ (b : List ℕ). slice_index b (p % 512)) (cuts.whole (p / 512) (omega arith)))
     (cases_eq (p / 512) (len / 512))
 
@@ -259,4 +254,5 @@ pub object_cut : ObjectCut
 object_cut m m' n h h' is at len cuts =
     let size = cuts.size in
     object_is m' n h' (cut (object m n h) len) (length-cut (object m n h) len ∙ sym size)
-    (λ p lt. cut_byte m m' n h h' len cuts p (omega arith) ∙ byte_is m n h (map_ends m n h is at) p ∙ sym (get_or-cut (object m n h) len p (omega arith)))
+    (λ p lt. cut_byte m m' n h h' len cuts p (omega arith) ∙ byte_is m n h (map_ends m n h is at) p
+    ∙ sym (get_or-cut (object m n h) len p (omega arith)))

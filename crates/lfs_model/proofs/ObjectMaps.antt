@@ -1,5 +1,6 @@
 -- What a volume's log map keeps, when one object is another.
-use Rattle.std.proofs.Common.{◌≡◌, ◌≢◌, ◌<◌, ◌≤◌, ⊎_elim, ◌+◌, ◌*◌, ◌%◌, ℕ, List, [], length, Some, None, refl, sym, ◌∙◌, ap, subst, arith, slice_index}
+use Rattle.std.proofs.Common.{◌≡◌, ◌≢◌, ◌<◌, ◌≤◌, ⊎_elim, ◌+◌, ◌*◌, ◌%◌, ℕ, List, [], length, Some, None, refl, sym, ◌∙◌, ap, subst, arith}
+use Rattle.std.proofs.Common.{slice_index}
 use Rattle.std.proofs.lemmas.Bool.{cases_eq, cases_lt}
 use Rattle.std.proofs.lemmas.List.{get_or_past}
 use Rattle.lfs_model.specs.declared.Kind.{Kind}
@@ -70,10 +71,12 @@ module _ (m m' : LogMap) (n : ℕ) (is : IsLogMap m) (changed : IsChangedAt m n 
   kept_within k i ne has = let was = is.within k i (data_was k i ne has) in (was.0, changed.headers k ne ∙ was.1, was.2)
 
   kept_nonzero : (k i : ℕ) → (k ≡ n → ⊥) → HasData m' k i → (o : ℕ) × (0 < slice_index (m'.block k i) o)
-  kept_nonzero k i ne has = subst (λ (b : List ℕ). (o : ℕ) × (0 < slice_index b o)) (sym (changed.blocks k i ne)) (is.nonzero k i (data_was k i ne has))
+  kept_nonzero k i ne has =
+      subst (λ (b : List ℕ). (o : ℕ) × (0 < slice_index b o)) (sym (changed.blocks k i ne)) (is.nonzero k i (data_was k i ne has))
 
   kept_past : (k i o : ℕ) (h : Header) → (k ≡ n → ⊥) → m'.header k ≡ Some h → h.size ≤ 512 * i + o → slice_index (m'.block k i) o ≡ 0
-  kept_past k i o h ne at le = ap (λ (b : List ℕ). slice_index b o) (changed.blocks k i ne) ∙ is.past k i o h (sym (changed.headers k ne) ∙ at) le
+  kept_past k i o h ne at le = ap (λ (b : List ℕ). slice_index b o) (changed.blocks k i ne)
+      ∙ is.past k i o h (sym (changed.headers k ne) ∙ at) le
 
   by_number : (P : ℕ → Type 0) → P n → ((k : ℕ) → (k ≡ n → ⊥) → P k) → (k : ℕ) → P k
   by_number P own others k = ⊎_elim (λ (here : k ≡ n). subst P (sym here) own) (others k) (cases_eq k n)
@@ -90,7 +93,8 @@ module _ (m m' : LogMap) (n : ℕ) (is : IsLogMap m) (changed : IsChangedAt m n 
         (λ e. (h, at, fits.root e))
         (λ k ne e. let root = is.root in (root.0, changed.headers k ne ∙ ap m.header e ∙ root.1, root.2)) 1 refl;
     forms = by_number (λ k. (g : Header) → m'.header k ≡ Some g → IsForm m'.version g.kind g.form)
-        (λ g there. (let same : h ≡ g = (let both : Some h ≡ Some g = sym at ∙ there in cc) in subst (λ (x : Header). IsForm m'.version x.kind x.form) same fits.form))
+        (λ g there. (let same : h ≡ g = (let both : Some h ≡ Some g = sym at ∙ there in cc) in
+        subst (λ (x : Header). IsForm m'.version x.kind x.form) same fits.form))
         (λ k ne g there. kept_form k g ne there);
     within = by_number (λ k. (i : ℕ) → HasData m' k i → (g : Header) × (m'.header k ≡ Some g) × (512 * i < g.size))
         (λ i has. (h, at, own_within m' n h fits i has))
@@ -102,7 +106,8 @@ module _ (m m' : LogMap) (n : ℕ) (is : IsLogMap m) (changed : IsChangedAt m n 
         fits.whole.nonzero
         (λ k ne i. kept_nonzero k i ne);
     past = by_number (λ k. (i o : ℕ) (g : Header) → m'.header k ≡ Some g → g.size ≤ 512 * i + o → slice_index (m'.block k i) o ≡ 0)
-        (λ i o g there le. (let same : h ≡ g = (let both : Some h ≡ Some g = sym at ∙ there in cc) in own_past m' n h fits i o (subst (λ (x : Header). x.size ≤ 512 * i + o) (sym same) le)))
+        (λ i o g there le. (let same : h ≡ g = (let both : Some h ≡ Some g = sym at ∙ there in cc) in
+        own_past m' n h fits i o (subst (λ (x : Header). x.size ≤ 512 * i + o) (sym same) le)))
         (λ k ne i o g. kept_past k i o g ne);
   }
 
@@ -150,7 +155,8 @@ block_whole m m' n i bytes with_it was fresh = record {
     at l has = ⊎_elim
         (λ (here : l ≡ i).
         let own : m'.block n l ≡ bytes = ap (m'.block n) here ∙ with_it.own in
-        subst (λ (b : List ℕ). (length b ≡ 512) × ((k : ℕ) × (0 < slice_index b k))) (sym own) (fresh (subst (λ (b : List ℕ). 0 < length b) own has)))
+        subst (λ (b : List ℕ). (length b ≡ 512) × ((k : ℕ) × (0 < slice_index b k))) (sym own)
+        (fresh (subst (λ (b : List ℕ). 0 < length b) own has)))
         (λ (ne : l ≡ i → ⊥).
         let same : m'.block n l ≡ m.block n l = with_it.others n l (λ e. let one : l ≡ i = cc in ne one) in
         let there : HasData m n l = subst (λ (b : List ℕ). 0 < length b) same has in

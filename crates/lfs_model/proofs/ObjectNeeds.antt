@@ -1,5 +1,7 @@
 -- What an object costs, by the indices of its stored blocks.
-use Rattle.std.proofs.Common.{◌≡◌, ◌≢◌, ◌<◌, ◌≤◌, ⊎_elim, ◌+◌, ◌*◌, ◌/◌, ◌%◌, ◌==◌, ◌&&◌, cond, Bool, true, false, nat_le, nat_lt, ℕ, zero, suc, List, [], ◌∷◌, length, map, take, drop, get_or, Option, Some, None, refl, sym, ◌∙◌, ap, ap₂, subst, arith, slice_index, ne_eqb}
+use Rattle.std.proofs.Common.{◌≡◌, ◌≢◌, ◌<◌, ◌≤◌, ⊎_elim, ◌+◌, ◌*◌, ◌/◌, ◌%◌, ◌==◌, ◌&&◌, cond, Bool, true, false, nat_le, nat_lt, ℕ, zero}
+use Rattle.std.proofs.Common.{suc, List, [], ◌∷◌, length, map, take, drop, get_or, Option, Some, None, refl, sym, ◌∙◌, ap, ap₂, subst}
+use Rattle.std.proofs.Common.{arith, slice_index, ne_eqb}
 use Rattle.std.specs.Prelude.{count_by, filter, not}
 use Rattle.std.specs.List.{AllByRecursion, list_any, range_with_len}
 use Rattle.std.proofs.lemmas.Bool.{and_parts, cases_eq, cases_lt, false_from_ne_true, leb-true, lt-ltb, ltb-true}
@@ -17,7 +19,8 @@ use Rattle.lfs_model.specs.Slot.{SlotValue, slot_in, slot_of, may_be_slot, slot_
 use Rattle.lfs_model.specs.Stands.{LogMap}
 use Rattle.lfs_model.specs.Tree.{Node, File, Dir, Link, slot_len}
 use Rattle.lfs_model.specs.TreeOf.{map_of, node_by, object, slots}
-use Rattle.lfs_model.specs.Objects.{AreLong, LaidLong, HasCosts, ObjectCosts, DirectoryBlocks, IsDirectory, byte_in, is_stored, one_if, stored_below, stored_blocks, StoredChanged}
+use Rattle.lfs_model.specs.Objects.{AreLong, LaidLong, HasCosts, ObjectCosts, DirectoryBlocks, IsDirectory, byte_in, is_stored, one_if}
+use Rattle.lfs_model.specs.Objects.{stored_below, stored_blocks, StoredChanged}
 use Rattle.lfs_model.proofs.Decoding.{value_found}
 use Rattle.lfs_model.proofs.Live.{count_same, count_one_more}
 use Rattle.lfs_model.proofs.ObjectBytes.{object_byte}
@@ -30,31 +33,38 @@ same_tests true b to from = sym (to refl)
 same_tests false true to from = from refl
 same_tests false false to from = refl
 
-pub filter_same : (p q : ℕ → Bool) (a n : ℕ) → ((x : ℕ) → a ≤ x → x < a + n → p x ≡ q x) → filter p (range_with_len a n) ≡ filter q (range_with_len a n)
+pub filter_same : (p q : ℕ → Bool) (a n : ℕ) → ((x : ℕ) → a ≤ x → x < a + n → p x ≡ q x)
+    → filter p (range_with_len a n) ≡ filter q (range_with_len a n)
 filter_same p q a zero same = refl
 filter_same p q a (suc n) same =
-    ap₂ (λ (b : Bool) (rest : List ℕ). cond b (a ∷ rest) rest) (same a (omega arith) (omega arith)) (filter_same p q (a + 1) n (λ x le lt. same x (omega arith) (omega arith)))
+    ap₂ (λ (b : Bool) (rest : List ℕ). cond b (a ∷ rest) rest) (same a (omega arith) (omega arith))
+    (filter_same p q (a + 1) n (λ x le lt. same x (omega arith) (omega arith)))
 
 pub filter_none : (p : ℕ → Bool) (a n : ℕ) → ((x : ℕ) → a ≤ x → p x ≡ false) → filter p (range_with_len a n) ≡ []
 filter_none p a zero none = refl
 filter_none p a (suc n) none =
-    ap (λ (b : Bool). cond b (a ∷ filter p (range_with_len (a + 1) n)) (filter p (range_with_len (a + 1) n))) (none a (omega arith)) ∙ filter_none p (a + 1) n (λ x le. none x (omega arith))
+    ap (λ (b : Bool). cond b (a ∷ filter p (range_with_len (a + 1) n)) (filter p (range_with_len (a + 1) n))) (none a (omega arith))
+    ∙ filter_none p (a + 1) n (λ x le. none x (omega arith))
 
 -- what fails from the end of both ranges on, and so between them, isn't missed
-pub filter_ends : (p : ℕ → Bool) (a n k : ℕ) → ((x : ℕ) → a + n ≤ x → p x ≡ false) → ((x : ℕ) → a + k ≤ x → p x ≡ false) → filter p (range_with_len a n) ≡ filter p (range_with_len a k)
+pub filter_ends : (p : ℕ → Bool) (a n k : ℕ) → ((x : ℕ) → a + n ≤ x → p x ≡ false) → ((x : ℕ) → a + k ≤ x → p x ≡ false)
+    → filter p (range_with_len a n) ≡ filter p (range_with_len a k)
 filter_ends p a zero k none other = sym (filter_none p a k (λ x le. none x (omega arith)))
 filter_ends p a (suc n) zero none other = filter_none p a (suc n) (λ x le. other x (omega arith))
 filter_ends p a (suc n) (suc k) none other =
-    ap (λ (rest : List ℕ). cond (p a) (a ∷ rest) rest) (filter_ends p (a + 1) n k (λ x le. none x (omega arith)) (λ x le. other x (omega arith)))
+    ap (λ (rest : List ℕ). cond (p a) (a ∷ rest) rest)
+    (filter_ends p (a + 1) n k (λ x le. none x (omega arith)) (λ x le. other x (omega arith)))
 
 filter_all : (p : ℕ → Bool) (a n : ℕ) → ((x : ℕ) → a ≤ x → x < a + n → p x ≡ true) → filter p (range_with_len a n) ≡ range_with_len a n
 filter_all p a zero all = refl
 filter_all p a (suc n) all =
-    ap₂ (λ (b : Bool) (rest : List ℕ). cond b (a ∷ rest) rest) (all a (omega arith) (omega arith)) (filter_all p (a + 1) n (λ x le lt. all x (omega arith) (omega arith)))
+    ap₂ (λ (b : Bool) (rest : List ℕ). cond b (a ∷ rest) rest) (all a (omega arith) (omega arith))
+    (filter_all p (a + 1) n (λ x le lt. all x (omega arith) (omega arith)))
 
 -- ---- pieces with a byte that isn't zero
 
-pub nonzero_piece : (s at : ℕ) (b : List ℕ) (k : ℕ) → k < s → 0 < get_or b (at + k) 0 → list_any (λ c. not (c == 0)) (take s (drop at b)) ≡ true
+pub nonzero_piece : (s at : ℕ) (b : List ℕ) (k : ℕ) → k < s → 0 < get_or b (at + k) 0
+    → list_any (λ c. not (c == 0)) (take s (drop at b)) ≡ true
 nonzero_piece s at b k lt some =
     let d = length-drop at b in
     let t = length-take s (drop at b) in
@@ -63,13 +73,15 @@ nonzero_piece s at b k lt some =
     (λ (high : length b ≤ at + k). let none = get_or_past b (at + k) 0 high in absurd (omega arith))
     (cases_lt (at + k) (length b)) in
     list_any_at (λ c. not (c == 0)) (take s (drop at b)) k 0 (omega arith)
-    (ap (λ (x : ℕ). not (x == 0)) (get_or-take s (drop at b) k 0 lt ∙ get_or-drop at b k 0) ∙ ap not (ne_eqb (get_or b (at + k) 0) 0 (λ e. omega arith)))
+    (ap (λ (x : ℕ). not (x == 0)) (get_or-take s (drop at b) k 0 lt ∙ get_or-drop at b k 0)
+    ∙ ap not (ne_eqb (get_or b (at + k) 0) 0 (λ e. omega arith)))
 
 byte_some : (x : ℕ) → not (x == 0) ≡ true → 0 < x
 byte_some zero e = cc
 byte_some (suc x) e = omega arith
 
-pub piece_nonzero : (s at : ℕ) (b : List ℕ) → list_any (λ c. not (c == 0)) (take s (drop at b)) ≡ true → (k : ℕ) × (k < s) × (0 < get_or b (at + k) 0)
+pub piece_nonzero : (s at : ℕ) (b : List ℕ) → list_any (λ c. not (c == 0)) (take s (drop at b)) ≡ true
+    → (k : ℕ) × (k < s) × (0 < get_or b (at + k) 0)
 piece_nonzero s at b any =
     let found = Any-from_list_any (λ c. not (c == 0)) (take s (drop at b)) any in
     let t = length-take s (drop at b) in
@@ -77,7 +89,8 @@ piece_nonzero s at b any =
     let low : found.0 < s = omega arith in
     let some = byte_some found.1 found.4 in
     let is : get_or b (at + found.0) 0 ≡ found.1 =
-    sym (get_or-drop at b found.0 0) ∙ sym (get_or-take s (drop at b) found.0 0 low) ∙ get_or_default (take s (drop at b)) found.0 0 found.1 lt ∙ found.3 in
+    sym (get_or-drop at b found.0 0) ∙ sym (get_or-take s (drop at b) found.0 0 low)
+    ∙ get_or_default (take s (drop at b)) found.0 0 found.1 lt ∙ found.3 in
     (found.0, low, omega arith)
 
 pub nonempty : (xs : List ℕ) (k : ℕ) → 0 < get_or xs k 0 → k < length xs
@@ -150,7 +163,8 @@ module _ (m : LogMap) (n : ℕ) (h : Header) (is : IsLogMap m) (at : m.header n 
 
     file_pieces : filter (is_data (object m n h)) (pieces (length (object m n h))) ≡ stored_blocks m n
     file_pieces =
-        filter_same (is_data (object m n h)) (is_stored m n) 0 ((length (object m n h) + 511) / 512) (λ i le lt. same_tests (is_data (object m n h) i) (is_stored m n i) (data_is_stored i) (stored_is_data i))
+        filter_same (is_data (object m n h)) (is_stored m n) 0 ((length (object m n h) + 511) / 512)
+        (λ i le lt. same_tests (is_data (object m n h) i) (is_stored m n i) (data_is_stored i) (stored_is_data i))
         ∙ ap (λ (size : ℕ). filter (is_stored m n) (pieces size)) (object_length m n h) ∙ stored_ends 16624 (λ i has. is.small n i has)
 
 -- ---- directories
@@ -187,7 +201,8 @@ slot_some form b formed = by (slot_in form b) refl
     by None is = absurd (formed is)
     by (Some v) is = read_some b (slot_number form b v is)
 
-all_mapped : {X : Type 0} (P : X → Type 0) (f : ℕ → X) (a n j : ℕ) → AllByRecursion P (map f (range_with_len a n)) → a ≤ j → j < a + n → P (f j)
+all_mapped : {X : Type 0} (P : X → Type 0) (f : ℕ → X) (a n j : ℕ) → AllByRecursion P (map f (range_with_len a n)) → a ≤ j → j < a + n
+    → P (f j)
 all_mapped P f a zero j all le lt = absurd (omega arith)
 all_mapped P f a (suc n) j all le lt = ⊎_elim
     (λ (here : a ≡ j). subst (λ (x : ℕ). P (f x)) here all.0)
@@ -195,7 +210,8 @@ all_mapped P f a (suc n) j all le lt = ⊎_elim
     (cases_eq a j)
 
 -- the slot at the start of a block
-first_slot : (form size i : ℕ) → size % slot_len form ≡ 0 → i < (size + 511) / 512 → (j : ℕ) × (slot_len form * j ≡ 512 * i) × (j < size / slot_len form)
+first_slot : (form size i : ℕ) → size % slot_len form ≡ 0 → i < (size + 511) / 512
+    → (j : ℕ) × (slot_len form * j ≡ 512 * i) × (j < size / slot_len form)
 first_slot zero size i whole lt = (8 * i, omega arith, omega arith)
 first_slot (suc form) size i whole lt = (4 * i, omega arith, omega arith)
 
@@ -212,7 +228,8 @@ module _ (m : LogMap) (n : ℕ) (h : Header) (formed : AllByRecursion (λ b. slo
   unfolding slots
   slot_byte j lt =
       let one = slot_some h.form (take (slot_len h.form) (drop (slot_len h.form * j) (object m n h)))
-      (all_mapped (λ b. slot_in h.form b ≢ None) (λ j. take (slot_len h.form) (drop (slot_len h.form * j) (object m n h))) 0 (h.size / slot_len h.form) j formed (omega arith) (omega arith)) in
+      (all_mapped (λ b. slot_in h.form b ≢ None) (λ j. take (slot_len h.form) (drop (slot_len h.form * j) (object m n h))) 0
+      (h.size / slot_len h.form) j formed (omega arith) (omega arith)) in
       let four = four_bytes h.form in
       let low = one.1 in
       let some = one.2 in
@@ -229,7 +246,8 @@ module _ (m : LogMap) (n : ℕ) (h : Header) (formed : AllByRecursion (λ b. slo
 pub directory_blocks : DirectoryBlocks
 directory_blocks m n h is at dir =
     sym (stored_ends m n h is at 16624 (λ i has. is.small n i has))
-    ∙ filter_all (is_stored m n) 0 ((h.size + 511) / 512) (λ i le lt. lt-ltb 0 (length (m.block n i)) (dir_stored m n h dir.formed i dir.whole (omega arith)))
+    ∙ filter_all (is_stored m n) 0 ((h.size + 511) / 512)
+    (λ i le lt. lt-ltb 0 (length (m.block n i)) (dir_stored m n h dir.formed i dir.whole (omega arith)))
 
 -- ---- costs
 
@@ -244,7 +262,8 @@ module _ (m : LogMap) (n : ℕ) (h : Header) (is : IsLogMap m) (long : AreLong m
   costs_by kind.Directory directory =
       let dir = directory refl in
       costs_of (Dir h.form (map_of h.form (slots m n h))) (stored_blocks m n)
-      (ap pieces (ap (λ (k : ℕ). slot_len h.form * k) (dir.apart ∙ slots_length m n h) ∙ slots_whole h.form h.size dir.whole) ∙ sym (directory_blocks m n h is at dir))
+      (ap pieces (ap (λ (k : ℕ). slot_len h.form * k) (dir.apart ∙ slots_length m n h) ∙ slots_whole h.form h.size dir.whole)
+      ∙ sym (directory_blocks m n h is at dir))
 
 pub object_costs : ObjectCosts
 object_costs m n h is long at directory = costs_by m n h is long at h.kind directory
@@ -256,7 +275,8 @@ laid_long e m M o laid n i has =
 
 -- ---- one block changed
 
-pub count_changed : (p q : ℕ → Bool) (a n o : ℕ) → a ≤ o → o < a + n → ((x : ℕ) → (x ≡ o → ⊥) → p x ≡ q x) → count_by q (range_with_len a n) + one_if (p o) ≡ count_by p (range_with_len a n) + one_if (q o)
+pub count_changed : (p q : ℕ → Bool) (a n o : ℕ) → a ≤ o → o < a + n → ((x : ℕ) → (x ≡ o → ⊥) → p x ≡ q x)
+    → count_by q (range_with_len a n) + one_if (p o) ≡ count_by p (range_with_len a n) + one_if (q o)
 count_changed p q a n o le lt same = by (p o) (q o) refl refl
   where
     all : p o ≡ q o → count_by p (range_with_len a n) ≡ count_by q (range_with_len a n)
@@ -274,12 +294,14 @@ length_stored m n end = length-filter (is_stored m n) (range_with_len 0 end)
 
 stored_same : (m m' : LogMap) (n end : ℕ) → ((i : ℕ) → m'.block n i ≡ m.block n i) → stored_below m' n end ≡ stored_below m n end
 unfolding stored_below
-stored_same m m' n end same = filter_same (is_stored m' n) (is_stored m n) 0 end (λ i le lt. ap (λ (b : List ℕ). nat_lt 0 (length b)) (same i))
+stored_same m m' n end same =
+    filter_same (is_stored m' n) (is_stored m n) 0 end (λ i le lt. ap (λ (b : List ℕ). nat_lt 0 (length b)) (same i))
 
 stored_changed_below : (m m' : LogMap) (n i end : ℕ) (bytes : List ℕ) → IsWithBlock m n i bytes m' → i < end
     → length (stored_below m' n end) + one_if (is_stored m n i) ≡ length (stored_below m n end) + one_if (is_stored m' n i)
 stored_changed_below m m' n i end bytes is lt =
-    let c = count_changed (is_stored m n) (is_stored m' n) 0 end i (omega arith) (omega arith) (λ x ne. ap (λ (b : List ℕ). nat_lt 0 (length b)) (sym (is.others n x (λ e. let same : x ≡ i = cc in ne same)))) in
+    let c = count_changed (is_stored m n) (is_stored m' n) 0 end i (omega arith) (omega arith)
+    (λ x ne. ap (λ (b : List ℕ). nat_lt 0 (length b)) (sym (is.others n x (λ e. let same : x ≡ i = cc in ne same)))) in
     omega (arith, c, length_stored m n end, length_stored m' n end)
 
 pub stored_changed : StoredChanged

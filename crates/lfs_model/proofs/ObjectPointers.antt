@@ -1,5 +1,6 @@
 -- The blocks of pointers of an object, by what a log map stores.
-use Rattle.std.proofs.Common.{◌≡◌, ◌<◌, ◌≤◌, ◌↔◌, ⊎_elim, ◌+◌, ◌*◌, ◌-◌, ◌/◌, ◌&&◌, ◌||◌, cond, Bool, true, false, nat_le, nat_lt, ℕ, zero, suc, List, [], ◌∷◌, length, refl, sym, ◌∙◌, ap, ap₂, subst, arith}
+use Rattle.std.proofs.Common.{◌≡◌, ◌<◌, ◌≤◌, ◌↔◌, ⊎_elim, ◌+◌, ◌*◌, ◌-◌, ◌/◌, ◌&&◌, ◌||◌, cond, Bool, true, false, nat_le, nat_lt, ℕ, zero}
+use Rattle.std.proofs.Common.{suc, List, [], ◌∷◌, length, refl, sym, ◌∙◌, ap, ap₂, subst, arith}
 use Rattle.std.specs.Prelude.{count_by, filter}
 use Rattle.std.specs.List.{list_any, range_with_len}
 use Rattle.std.proofs.lemmas.Bool.{and_from, and_parts, cases_eq, le-leb, leb-true, lt-ltb, ltb-true, or_cases, or_left, or_right}
@@ -17,7 +18,8 @@ any_found : (p : ℕ → Bool) (a n : ℕ) → list_any p (range_with_len a n) �
 any_found p a zero any = absurd (cc)
 any_found p a (suc n) any = ⊎_elim
     (λ (here : p a ≡ true). (a, omega arith, omega arith, here))
-    (λ (later : list_any p (range_with_len (a + 1) n) ≡ true). let one = any_found p (a + 1) n later in (one.0, (let le = one.1 in omega arith), (let lt = one.2 in omega arith), one.3))
+    (λ (later : list_any p (range_with_len (a + 1) n) ≡ true). let one = any_found p (a + 1) n later in
+    (one.0, (let le = one.1 in omega arith), (let lt = one.2 in omega arith), one.3))
     (or_cases (p a) (list_any p (range_with_len (a + 1) n)) any)
 
 any_at : (p : ℕ → Bool) (a n x : ℕ) → a ≤ x → x < a + n → p x ≡ true → list_any p (range_with_len a n) ≡ true
@@ -27,22 +29,26 @@ any_at p a (suc n) x le lt on = ⊎_elim
     (λ (later : a ≡ x → ⊥). or_right (p a) (list_any p (range_with_len (a + 1) n)) (any_at p (a + 1) n x (omega arith) (omega arith) on))
     (cases_eq a x)
 
-any_same : (p q : ℕ → Bool) (a n : ℕ) → ((x : ℕ) → a ≤ x → x < a + n → p x ≡ q x) → list_any p (range_with_len a n) ≡ list_any q (range_with_len a n)
+any_same : (p q : ℕ → Bool) (a n : ℕ) → ((x : ℕ) → a ≤ x → x < a + n → p x ≡ q x)
+    → list_any p (range_with_len a n) ≡ list_any q (range_with_len a n)
 any_same p q a zero same = refl
-any_same p q a (suc n) same = ap₂ (λ (x y : Bool). x || y) (same a (omega arith) (omega arith)) (any_same p q (a + 1) n (λ x le lt. same x (omega arith) (omega arith)))
+any_same p q a (suc n) same = ap₂ (λ (x y : Bool). x || y) (same a (omega arith) (omega arith))
+    (any_same p q (a + 1) n (λ x le lt. same x (omega arith) (omega arith)))
 
 any_filtered : (p s : ℕ → Bool) (xs : List ℕ) → list_any p (filter s xs) ≡ list_any (λ x. s x && p x) xs
 any_filtered p s [] = refl
 any_filtered p s (x ∷ xs) = by (s x) (any_filtered p s xs)
   where
-    by : (b : Bool) → list_any p (filter s xs) ≡ list_any (λ x. s x && p x) xs → list_any p (cond b (x ∷ filter s xs) (filter s xs)) ≡ (b && p x || list_any (λ x. s x && p x) xs)
+    by : (b : Bool) → list_any p (filter s xs) ≡ list_any (λ x. s x && p x) xs
+        → list_any p (cond b (x ∷ filter s xs) (filter s xs)) ≡ (b && p x || list_any (λ x. s x && p x) xs)
     by true rest = ap (λ (r : Bool). p x || r) rest
     by false rest = rest
 
 -- ---- leaves
 
 module _ (m : LogMap) (n : ℕ) where
-  stored_any : (p : ℕ → Bool) (end : ℕ) → list_any p (stored_below m n end) ≡ true → (x : ℕ) × (x < end) × (is_stored m n x ≡ true) × (p x ≡ true)
+  stored_any : (p : ℕ → Bool) (end : ℕ) → list_any p (stored_below m n end) ≡ true
+      → (x : ℕ) × (x < end) × (is_stored m n x ≡ true) × (p x ≡ true)
   unfolding stored_below
   stored_any p end any =
       let one = any_found (λ x. is_stored m n x && p x) 0 end (sym (any_filtered p (is_stored m n) (range_with_len 0 end)) ∙ any) in
@@ -76,9 +82,14 @@ module _ (m : LogMap) (n : ℕ) where
     λ on.
         let one = leaf_found q on in
         let le = one.1 in
-        let at : 112 + 128 * q + (one.0 - (112 + 128 * q)) ≡ one.0 = omega arith in
-        (one.0 - (112 + 128 * q), (let lt = one.2 in omega arith), subst (HasData m n) (sym at) (ltb-true 0 (length (m.block n one.0)) one.3)),
-    λ has. (let lt = has.1 in leaf_at q (112 + 128 * q + has.0) (omega arith) (omega arith) (lt-ltb 0 (length (m.block n (112 + 128 * q + has.0))) has.2)),
+        let at : 112 + 128 * q + (one.0 - (112 + 128 * q)) ≡ one.0 = omega arith in (
+          one.0 - (112 + 128 * q),
+          (let lt = one.2 in
+              omega arith),
+          subst (HasData m n) (sym at) (ltb-true 0 (length (m.block n one.0)) one.3),
+        ),
+    λ has. (let lt = has.1 in
+        leaf_at q (112 + 128 * q + has.0) (omega arith) (omega arith) (lt-ltb 0 (length (m.block n (112 + 128 * q + has.0))) has.2)),
   )
 
   double_test : (has_double m n ≡ true) ↔ HasDouble m n
@@ -88,7 +99,8 @@ module _ (m : LogMap) (n : ℕ) where
   )
 
   -- what the cost asks of the indices of a leaf
-  leaf_asked : (q a b end : ℕ) → a ≡ 112 + 128 * q → b ≡ 240 + 128 * q → b ≤ end → list_any (lies_in a b) (stored_below m n end) ≡ has_leaf m n q
+  leaf_asked : (q a b end : ℕ) → a ≡ 112 + 128 * q → b ≡ 240 + 128 * q → b ≤ end
+      → list_any (lies_in a b) (stored_below m n end) ≡ has_leaf m n q
   leaf_asked q a b end from to room = same_tests (list_any (lies_in a b) (stored_below m n end)) (has_leaf m n q)
       (λ any.
       let one = stored_any (lies_in a b) end any in
@@ -100,7 +112,8 @@ module _ (m : LogMap) (n : ℕ) where
       let one = leaf_found q on in
       let le = one.1 in
       let lt = one.2 in
-      any_stored (lies_in a b) end one.0 (omega arith) one.3 (and_from (nat_le a one.0) (nat_lt one.0 b) (le-leb a one.0 (omega arith)) (lt-ltb one.0 b (omega arith))))
+      any_stored (lies_in a b) end one.0 (omega arith) one.3
+      (and_from (nat_le a one.0) (nat_lt one.0 b) (le-leb a one.0 (omega arith)) (lt-ltb one.0 b (omega arith))))
 
   double_asked : (end : ℕ) → end ≡ 16624 → list_any (nat_le 240) (stored_below m n end) ≡ has_double m n
   double_asked end top = same_tests (list_any (nat_le 240) (stored_below m n end)) (has_double m n)
@@ -118,12 +131,15 @@ module _ (m : LogMap) (n : ℕ) where
       any_stored (nat_le 240) end one.0 (omega arith) one.3 (le-leb 240 one.0 (omega arith)))
 
   leaves_asked : (end many : ℕ) → end ≡ 16624 → many ≤ 128
-      → count_by (λ g. list_any (lies_in (240 + 128 * g) (368 + 128 * g)) (stored_below m n end)) (range_with_len 0 many) ≡ count_up (λ q. has_leaf m n (suc q)) many
+      → count_by (λ g. list_any (lies_in (240 + 128 * g) (368 + 128 * g)) (stored_below m n end)) (range_with_len 0 many)
+      ≡ count_up (λ q. has_leaf m n (suc q)) many
   unfolding count_up
-  leaves_asked end many top few = count_same (λ g. list_any (lies_in (240 + 128 * g) (368 + 128 * g)) (stored_below m n end)) (λ q. has_leaf m n (suc q)) 0 many
+  leaves_asked end many top few =
+      count_same (λ g. list_any (lies_in (240 + 128 * g) (368 + 128 * g)) (stored_below m n end)) (λ q. has_leaf m n (suc q)) 0 many
       (λ g le lt. leaf_asked (suc g) (240 + 128 * g) (368 + 128 * g) end (omega arith) (omega arith) (omega arith))
 
-  pointers_by : (end : ℕ) → end ≡ 16624 → pointers (stored_below m n end) ≡ one_if (has_leaf m n 0) + count_up (λ q. has_leaf m n (suc q)) 128 + one_if (has_double m n)
+  pointers_by : (end : ℕ) → end ≡ 16624
+      → pointers (stored_below m n end) ≡ one_if (has_leaf m n 0) + count_up (λ q. has_leaf m n (suc q)) 128 + one_if (has_double m n)
   pointers_by end top =
       let single = leaf_asked 0 112 240 end refl refl (omega arith) in
       let leaves = leaves_asked end 128 top (omega arith) in
@@ -138,7 +154,8 @@ pointer_count m n = pointers_by m n 16624 refl
 
 -- ---- one block changed
 
-count_up_changed : (p q : ℕ → Bool) (n o : ℕ) → o < n → ((x : ℕ) → (x ≡ o → ⊥) → p x ≡ q x) → count_up q n + one_if (p o) ≡ count_up p n + one_if (q o)
+count_up_changed : (p q : ℕ → Bool) (n o : ℕ) → o < n → ((x : ℕ) → (x ≡ o → ⊥) → p x ≡ q x)
+    → count_up q n + one_if (p o) ≡ count_up p n + one_if (q o)
 unfolding count_up
 count_up_changed p q n o lt same = count_changed p q 0 n o (omega arith) (omega arith) same
 
@@ -157,7 +174,8 @@ module _ (m m' : LogMap) (n i : ℕ) (bytes : List ℕ) (is : IsWithBlock m n i 
   double_same same = any_same (λ q. has_leaf m' n (suc q)) (λ q. has_leaf m n (suc q)) 0 128 (λ q le lt. same q (omega arith))
 
   low_same : (many : ℕ) → i < 240 → count_up (λ q. has_leaf m' n (suc q)) many ≡ count_up (λ q. has_leaf m n (suc q)) many
-  low_same many low = count_up_same (λ q. has_leaf m' n (suc q)) (λ q. has_leaf m n (suc q)) many (λ q lt. leaf_same (suc q) (λ le lt. omega arith))
+  low_same many low =
+      count_up_same (λ q. has_leaf m' n (suc q)) (λ q. has_leaf m n (suc q)) many (λ q lt. leaf_same (suc q) (λ le lt. omega arith))
 
   low_double : i < 240 → has_double m' n ≡ has_double m n
   low_double low = double_same (λ q lt. leaf_same (suc q) (λ le lt. omega arith))
@@ -173,14 +191,16 @@ module _ (m m' : LogMap) (n i : ℕ) (bytes : List ℕ) (is : IsWithBlock m n i 
   under m g = ap (λ (b : Bool). one_if (b && has_double m n)) (lt-ltb 0 (suc g) (omega arith))
 
   below : (many q : ℕ) → many ≡ 128 → q ≤ 128 → 112 + 128 * q ≤ i → i < 240 + 128 * q
-      → blocks_above m' n many + one_if (has_leaf m n q) + one_if (nat_lt 0 q && has_double m n) ≡ blocks_above m n many + one_if (has_leaf m' n q) + one_if (nat_lt 0 q && has_double m' n)
+      → blocks_above m' n many + one_if (has_leaf m n q) + one_if (nat_lt 0 q && has_double m n)
+      ≡ blocks_above m n many + one_if (has_leaf m' n q) + one_if (nat_lt 0 q && has_double m' n)
   below many zero top le from to =
       let leaves = low_same many (omega arith) in
       let double = ap one_if (low_double (omega arith)) in
       omega (arith, leaves, double)
   below many (suc g) top le from to =
       let single = ap one_if (leaf_same 0 (λ le lt. omega arith)) in
-      let leaves = count_up_changed (λ q. has_leaf m n (suc q)) (λ q. has_leaf m' n (suc q)) many g (omega arith) (λ q ne. sym (leaf_same (suc q) (λ le lt. ne (omega arith)))) in
+      let leaves = count_up_changed (λ q. has_leaf m n (suc q)) (λ q. has_leaf m' n (suc q)) many g (omega arith)
+      (λ q ne. sym (leaf_same (suc q) (λ le lt. ne (omega arith)))) in
       let was = under m g in
       let now = under m' g in
       omega (arith, single, leaves, was, now)

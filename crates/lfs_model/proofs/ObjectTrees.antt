@@ -1,5 +1,6 @@
 -- The tree of a log map in which one object is another.
-use Rattle.std.proofs.Common.{◌≡◌, ◌<◌, ◌≤◌, ⊎_elim, ◌+◌, ◌*◌, ◌/◌, ◌%◌, cond, Bool, ℕ, List, [], map, take, drop, Option, Some, None, refl, sym, ◌∙◌, ap, subst, arith, slice_index}
+use Rattle.std.proofs.Common.{◌≡◌, ◌<◌, ◌≤◌, ⊎_elim, ◌+◌, ◌*◌, ◌/◌, ◌%◌, cond, Bool, ℕ, List, [], map, take, drop, Option, Some, None, refl}
+use Rattle.std.proofs.Common.{sym, ◌∙◌, ap, subst, arith, slice_index}
 use Rattle.std.specs.Prelude.{T, not, unwrap_or}
 use Rattle.std.specs.List.{range_with_len}
 use Rattle.std.proofs.lemmas.Bool.{cases_eq, cases_lt}
@@ -18,7 +19,8 @@ use Rattle.lfs_model.specs.Stands.{LogMap}
 use Rattle.lfs_model.specs.Step.{file_bytes, the_node}
 use Rattle.lfs_model.specs.Tree.{Node, File, Dir, Link, Tree, node, slot_len, with_node, without}
 use Rattle.lfs_model.specs.TreeOf.{map_of, node_by, node_of, object, slots, tree_in}
-use Rattle.lfs_model.specs.Objects.{IsChangedAt, NodeOfHeader, ObjectPut, ObjectTaken, LinksApart, BlocksOfChange, CostsInTree, NeedOfObject, FileWritten, FileCut, data_at, meta_at}
+use Rattle.lfs_model.specs.Objects.{IsChangedAt, NodeOfHeader, ObjectPut, ObjectTaken, LinksApart, BlocksOfChange, CostsInTree}
+use Rattle.lfs_model.specs.Objects.{NeedOfObject, FileWritten, FileCut, data_at, meta_at}
 use Rattle.lfs_model.proofs.Committed.{same_node}
 use Rattle.lfs_model.proofs.ObjectBytes.{object_cut, object_written}
 use Rattle.lfs_model.proofs.ObjectNeeds.{object_costs}
@@ -29,28 +31,11 @@ use Rattle.lfs_model.proofs.Volume.{node_in, no_node_0, no_node_past}
 
 -- ---- what changes at one number
 
-pub with_block_at : (m m' : LogMap) (n i : ℕ) (bytes : List ℕ) → IsWithBlock m n i bytes m' → IsChangedAt m n m'
-with_block_at m m' n i bytes is = record {
-  headers = λ k ne. is.header k;
-  blocks = λ k l ne. is.others k l (λ e. let same : k ≡ n = cc in ne same);
-  version = is.version;
-}
-
 pub with_header_at : (m m' : LogMap) (n : ℕ) (h : Option Header) → IsWithHeader m n h m' → IsChangedAt m n m'
 with_header_at m m' n h is = record { headers = is.others; blocks = λ k i ne. is.block k i; version = is.version }
 
 pub without_file_at : (m m' : LogMap) (n : ℕ) → IsWithoutFile m n m' → IsChangedAt m n m'
 without_file_at m m' n is = record { headers = is.headers; blocks = is.blocks; version = is.version }
-
-pub changed_not : (m : LogMap) (n : ℕ) → IsChangedAt m n m
-changed_not m n = record { headers = λ k ne. refl; blocks = λ k i ne. refl; version = refl }
-
-pub changed_again : (m mid m' : LogMap) (n : ℕ) → IsChangedAt m n mid → IsChangedAt mid n m' → IsChangedAt m n m'
-changed_again m mid m' n first next = record {
-  headers = λ k ne. next.headers k ne ∙ first.headers k ne;
-  blocks = λ k i ne. next.blocks k i ne ∙ first.blocks k i ne;
-  version = next.version ∙ first.version;
-}
 
 -- ---- nodes
 
@@ -64,10 +49,12 @@ same_nodes a b n (Some h) same = ap Some (same_node a b h.kind n h same)
 -- another number's node stays
 pub node_elsewhere : (m m' : LogMap) (n q : ℕ) → IsChangedAt m n m' → (q ≡ n → ⊥) → node (tree_in m') q ≡ node (tree_in m) q
 node_elsewhere m m' n q is ne = ⊎_elim
-    (λ (none : q < 1). let zero_is : q ≡ 0 = omega arith in subst (λ (x : ℕ). node (tree_in m') x ≡ node (tree_in m) x) (sym zero_is) (no_node_0 m' ∙ sym (no_node_0 m)))
+    (λ (none : q < 1). let zero_is : q ≡ 0 = omega arith in
+    subst (λ (x : ℕ). node (tree_in m') x ≡ node (tree_in m) x) (sym zero_is) (no_node_0 m' ∙ sym (no_node_0 m)))
     (λ (some : 1 ≤ q). ⊎_elim
     (λ (past : 4095 < q). no_node_past m' q (omega arith) ∙ sym (no_node_past m q (omega arith)))
-    (λ (low : q ≤ 4095). node_in m' q some low ∙ ap (node_of m' q) (is.headers q ne) ∙ same_nodes m' m q (m.header q) (λ i. is.blocks q i ne) ∙ sym (node_in m q some low))
+    (λ (low : q ≤ 4095). node_in m' q some low ∙ ap (node_of m' q) (is.headers q ne)
+    ∙ same_nodes m' m q (m.header q) (λ i. is.blocks q i ne) ∙ sym (node_in m q some low))
     (cases_lt 4095 q))
     (cases_lt q 1)
 
@@ -78,13 +65,16 @@ same_trees s t a b same = same_entries nat_cmp nat_cmp_total nat_cmp-IsAntisymme
 -- ---- the laws
 
 -- where the node itself is as it was, so is the tree
-pub same_tree_at : (m m' : LogMap) (n : ℕ) → IsChangedAt m n m' → node_of m' n (m'.header n) ≡ node_of m n (m.header n) → tree_in m' ≡ tree_in m
+pub same_tree_at : (m m' : LogMap) (n : ℕ) → IsChangedAt m n m' → node_of m' n (m'.header n) ≡ node_of m n (m.header n)
+    → tree_in m' ≡ tree_in m
 same_tree_at m m' n is same = same_trees (tree_in m') (tree_in m) (in_order m') (in_order m)
-    (λ q. ⊎_elim (λ (at : q ≡ n). subst (λ (x : ℕ). node (tree_in m') x ≡ node (tree_in m) x) (sym at) own) (node_elsewhere m m' n q is) (cases_eq q n))
+    (λ q. ⊎_elim (λ (at : q ≡ n). subst (λ (x : ℕ). node (tree_in m') x ≡ node (tree_in m) x) (sym at) own) (node_elsewhere m m' n q is)
+    (cases_eq q n))
   where
     own : node (tree_in m') n ≡ node (tree_in m) n
     own = ⊎_elim
-        (λ (none : n < 1). let zero_is : n ≡ 0 = omega arith in subst (λ (x : ℕ). node (tree_in m') x ≡ node (tree_in m) x) (sym zero_is) (no_node_0 m' ∙ sym (no_node_0 m)))
+        (λ (none : n < 1). let zero_is : n ≡ 0 = omega arith in
+        subst (λ (x : ℕ). node (tree_in m') x ≡ node (tree_in m) x) (sym zero_is) (no_node_0 m' ∙ sym (no_node_0 m)))
         (λ (some : 1 ≤ n). ⊎_elim
         (λ (past : 4095 < n). no_node_past m' n (omega arith) ∙ sym (no_node_past m n (omega arith)))
         (λ (low : n ≤ 4095). node_in m' n some low ∙ same ∙ sym (node_in m n some low))
@@ -92,20 +82,25 @@ same_tree_at m m' n is same = same_trees (tree_in m') (tree_in m) (in_order m') 
         (cases_lt n 1)
 
 -- a node that is there afterwards is put into the tree
-pub tree_with : (m m' : LogMap) (n : ℕ) (x : Node) → IsChangedAt m n m' → node (tree_in m') n ≡ Some x → tree_in m' ≡ with_node (tree_in m) n x
-tree_with m m' n x is at = same_trees (tree_in m') (with_node (tree_in m) n x) (in_order m') (is_sorted-put nat_cmp nat_cmp_total n x (tree_in m) (in_order m))
+pub tree_with : (m m' : LogMap) (n : ℕ) (x : Node) → IsChangedAt m n m' → node (tree_in m') n ≡ Some x
+    → tree_in m' ≡ with_node (tree_in m) n x
+tree_with m m' n x is at =
+    same_trees (tree_in m') (with_node (tree_in m) n x) (in_order m') (is_sorted-put nat_cmp nat_cmp_total n x (tree_in m) (in_order m))
     (λ q. ⊎_elim
-    (λ (here : q ≡ n). subst (λ (k : ℕ). node (tree_in m') k ≡ node (with_node (tree_in m) n x) k) (sym here) (at ∙ sym (find_here (tree_in m) n x)))
+    (λ (here : q ≡ n).
+    subst (λ (k : ℕ). node (tree_in m') k ≡ node (with_node (tree_in m) n x) k) (sym here) (at ∙ sym (find_here (tree_in m) n x)))
     (λ (ne : q ≡ n → ⊥). node_elsewhere m m' n q is ne ∙ sym (find_other (tree_in m) n x q ne))
     (cases_eq q n))
 
 -- and none that isn't
 pub tree_without : (m m' : LogMap) (n : ℕ) → IsChangedAt m n m' → node (tree_in m') n ≡ None → tree_in m' ≡ without nat_cmp n (tree_in m)
-tree_without m m' n is none = same_trees (tree_in m') (without nat_cmp n (tree_in m)) (in_order m') (is_sorted-where_key nat_cmp (λ k. not (eq_by_cmp nat_cmp n k)) (tree_in m) (in_order m))
+tree_without m m' n is none = same_trees (tree_in m') (without nat_cmp n (tree_in m)) (in_order m')
+    (is_sorted-where_key nat_cmp (λ k. not (eq_by_cmp nat_cmp n k)) (tree_in m) (in_order m))
     (λ q. ⊎_elim
     (λ (here : q ≡ n). subst (λ (k : ℕ). node (tree_in m') k ≡ node (without nat_cmp n (tree_in m)) k) (sym here)
     (none ∙ sym (find_without nat_cmp_total n n (tree_in m) ∙ ap (λ (b : Bool). cond b None (node (tree_in m) n)) (cmp_same n))))
-    (λ (ne : q ≡ n → ⊥). node_elsewhere m m' n q is ne ∙ sym (find_without nat_cmp_total n q (tree_in m) ∙ ap (λ (b : Bool). cond b None (node (tree_in m) q)) (cmp_other q n ne)))
+    (λ (ne : q ≡ n → ⊥). node_elsewhere m m' n q is ne
+    ∙ sym (find_without nat_cmp_total n q (tree_in m) ∙ ap (λ (b : Bool). cond b None (node (tree_in m) q)) (cmp_other q n ne)))
     (cases_eq q n))
 
 -- a number without a header has no node
@@ -132,7 +127,8 @@ module _ (m : LogMap) (n : ℕ) (h h' : Header) (form : h'.form ≡ h.form) (siz
 
   slots_by_size : slots m n h' ≡ slots m n h
   unfolding slots
-  slots_by_size = λ i. map (λ j. take (slot_len (form i)) (drop (slot_len (form i) * j) (object_by_size i))) (range_with_len 0 (size i / slot_len (form i)))
+  slots_by_size = λ i.
+      map (λ j. take (slot_len (form i)) (drop (slot_len (form i) * j) (object_by_size i))) (range_with_len 0 (size i / slot_len (form i)))
 
   node_by_size : (k : Kind) → node_by m k n h' ≡ node_by m k n h
   node_by_size kind.File = ap File object_by_size
@@ -146,24 +142,28 @@ links_apart m m' n h h' is at kind form size = same_tree_at m m' n (with_header_
 
 -- ---- files
 
-module _ (m m' : LogMap) (n : ℕ) (h h' : Header) (changed : IsChangedAt m n m') (some : 1 ≤ n) (small : n ≤ 4095) (at : m.header n ≡ Some h) (now : m'.header n ≡ Some h') (file : h.kind ≡ kind.File) (is_file : h'.kind ≡ kind.File) where
+module _ (m m' : LogMap) (n : ℕ) (h h' : Header) (changed : IsChangedAt m n m') (some : 1 ≤ n) (small : n ≤ 4095) (at : m.header n ≡ Some h)
+    (now : m'.header n ≡ Some h') (file : h.kind ≡ kind.File) (is_file : h'.kind ≡ kind.File) where
   bytes_were : file_bytes (the_node (tree_in m) n) ≡ object m n h
   bytes_were =
       ap (λ (o : Option Node). file_bytes (unwrap_or o (File []))) (node_in m n some small ∙ ap (node_of m n) at)
       ∙ ap (λ (k : Kind). file_bytes (node_by m k n h)) file
 
   file_put : (b : List ℕ) → object m' n h' ≡ b → tree_in m' ≡ with_node (tree_in m) n (File b)
-  file_put b is = object_put m m' n h' changed some small now ∙ ap (with_node (tree_in m) n) (ap (λ (k : Kind). node_by m' k n h') is_file ∙ ap File is)
+  file_put b is = object_put m m' n h' changed some small now
+      ∙ ap (with_node (tree_in m) n) (ap (λ (k : Kind). node_by m' k n h') is_file ∙ ap File is)
 
 pub file_written : FileWritten
 file_written m m' n h h' is changed some small at now file is_file o w writes =
     file_put m m' n h h' changed some small at now file is_file _
-    (object_written m m' n h h' is at o w writes ∙ ap (λ (b : List ℕ). put b o w) (sym (bytes_were m m' n h h' changed some small at now file is_file)))
+    (object_written m m' n h h' is at o w writes
+    ∙ ap (λ (b : List ℕ). put b o w) (sym (bytes_were m m' n h h' changed some small at now file is_file)))
 
 pub file_cut : FileCut
 file_cut m m' n h h' is changed some small at now file is_file len cuts =
     file_put m m' n h h' changed some small at now file is_file _
-    (object_cut m m' n h h' is at len cuts ∙ ap (λ (b : List ℕ). cut b len) (sym (bytes_were m m' n h h' changed some small at now file is_file)))
+    (object_cut m m' n h h' is at len cuts
+    ∙ ap (λ (b : List ℕ). cut b len) (sym (bytes_were m m' n h h' changed some small at now file is_file)))
 
 -- ---- the blocks of the tree
 
@@ -175,7 +175,8 @@ module _ (f : Node → ℕ) where
       → total nat_cmp_total f (tree_in m') + weighs (node (tree_in m) n) ≡ total nat_cmp_total f (tree_in m) + weighs (node (tree_in m') n)
   total_of_change m m' n is = by (node (tree_in m') n) refl
     where
-      by : (o : Option Node) → node (tree_in m') n ≡ o → total nat_cmp_total f (tree_in m') + weighs (node (tree_in m) n) ≡ total nat_cmp_total f (tree_in m) + weighs o
+      by : (o : Option Node) → node (tree_in m') n ≡ o
+          → total nat_cmp_total f (tree_in m') + weighs (node (tree_in m) n) ≡ total nat_cmp_total f (tree_in m) + weighs o
       by None none =
           let t = total_without nat_cmp_total f n (tree_in m) (in_order m) in
           let same = ap (total nat_cmp_total f) (tree_without m m' n is none) in

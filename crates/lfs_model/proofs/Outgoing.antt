@@ -1,5 +1,6 @@
 -- The blocks of the tables go out.
-use Rattle.std.proofs.Common.{◌≡◌, ◌<◌, ◌≤◌, ◌↔◌, ⊎_elim, ◌+◌, ◌*◌, ◌-◌, ◌/◌, ◌%◌, ℕ, List, [], ◌∷◌, length, get_or, Some, None, refl, sym, ◌∙◌, ap, ap₂, subst, arith, length-set, length-append, get_or-set_other, get_or-set_same}
+use Rattle.std.proofs.Common.{◌≡◌, ◌<◌, ◌≤◌, ◌↔◌, ⊎_elim, ◌+◌, ◌*◌, ◌-◌, ◌/◌, ◌%◌, ℕ, List, [], ◌∷◌, length, get_or, Some, None, refl, sym}
+use Rattle.std.proofs.Common.{◌∙◌, ap, ap₂, subst, arith, length-set, length-append, get_or-set_other, get_or-set_same}
 use Rattle.std.proofs.lemmas.List.{get_or_past, get_or_append_left}
 use Rattle.std.proofs.lemmas.Bool.{cases_eq}
 use Rattle.lfs_model.specs.Entry.{Entry, Inode, Map, Usage, word}
@@ -32,7 +33,8 @@ module _ (e : Content) (m : LogMap) (M : Memory) (o : ℕ) (laid : IsLaid e m M 
     still_there y above = block_same e d (M.at y) (λ lt. same (M.at y) (apart at none low y above)) ∙ laid.there y above
 
     pub other_rows : (s : ℕ) → (s ≡ o → ⊥) → row_by d (length (M.rows s)) s ≡ Some (M.rows s)
-    other_rows s ne = Tables.row_kept e d s (M.rows s) (laid.short s) size (λ q lt blank. same (2 + 64 * s + q) (λ h. let f = laid.short s in ne (omega arith))) (laid.sealed s ne)
+    other_rows s ne = Tables.row_kept e d s (M.rows s) (laid.short s) size
+        (λ q lt blank. same (2 + 64 * s + q) (λ h. let f = laid.short s in ne (omega arith))) (laid.sealed s ne)
 
   -- an entry gets the next place
   module _ (x : Entry) (M' : Memory) (p : IsMoved M o x M') where
@@ -70,10 +72,13 @@ module _ (e : Content) (m : LogMap) (M : Memory) (o : ℕ) (laid : IsLaid e m M 
         (λ lt. let a = p.at in let w = inside in let n = p.segments in omega arith)
         (λ y ne lt. let s = p.others y ne in let n = p.segments in let w = laid.within y (omega arith) in omega arith)
 
-    pub sealed_now : (d : Content) → length d ≡ length e → ((a : ℕ) → (a ≡ next_place M o → ⊥) → cell_at d a ≡ cell_at e a) → (s : ℕ) → (s ≡ o → ⊥) → row_by d (length (M'.rows s)) s ≡ Some (M'.rows s)
-    sealed_now d size same s ne = subst (λ (r : Row). row_by d (length r) s ≡ Some r) (sym (p.rows s ne)) (other_rows (length (M.rows o)) end p.room d size same s ne)
+    pub sealed_now : (d : Content) → length d ≡ length e → ((a : ℕ) → (a ≡ next_place M o → ⊥) → cell_at d a ≡ cell_at e a) → (s : ℕ)
+        → (s ≡ o → ⊥) → row_by d (length (M'.rows s)) s ≡ Some (M'.rows s)
+    sealed_now d size same s ne =
+        subst (λ (r : Row). row_by d (length r) s ≡ Some r) (sym (p.rows s ne)) (other_rows (length (M.rows o)) end p.room d size same s ne)
 
-    pub there_other : (d : Content) → length d ≡ length e → ((a : ℕ) → (a ≡ next_place M o → ⊥) → cell_at d a ≡ cell_at e a) → (y : Entry) → (y ≡ x → ⊥) → M'.bytes y ≡ M.bytes y → 2 ≤ M'.at y → block d (M'.at y) ≡ M'.bytes y
+    pub there_other : (d : Content) → length d ≡ length e → ((a : ℕ) → (a ≡ next_place M o → ⊥) → cell_at d a ≡ cell_at e a) → (y : Entry)
+        → (y ≡ x → ⊥) → M'.bytes y ≡ M.bytes y → 2 ≤ M'.at y → block d (M'.at y) ≡ M'.bytes y
     there_other d size same y ne bytes lt =
         let s = p.others y ne in
         ap (block d) s ∙ still_there (length (M.rows o)) end p.room d size same y (omega arith) ∙ sym bytes
@@ -105,16 +110,20 @@ map_placing e m M o j bytes M' laid p = record {
   up = Tables.up_now e m M o laid x table M' q.others p.kept;
   long = Tables.long_now e m M o laid x table M' q.others p.kept;
   spells = Tables.spells_now e m M o laid x table M' q.others p.kept;
-  mapped = λ i none. ⊎_elim (λ (here : i ≡ j). subst (IsMapped m M') (sym here) own) (λ (away : i ≡ j → ⊥). Tables.mapped_other e m M o laid x table M' q.others p.kept i (λ h. away (cc)) none) (cases_eq i j);
-  usages = λ i. Tables.usages_other e m M o laid x table M' q.others p.kept i (λ h. let bad : Usage i ≡ Map j = h in absurd (cc)) q.segments;
+  mapped = λ i none. ⊎_elim (λ (here : i ≡ j). subst (IsMapped m M') (sym here) own)
+      (λ (away : i ≡ j → ⊥). Tables.mapped_other e m M o laid x table M' q.others p.kept i (λ h. away (cc)) none) (cases_eq i j);
+  usages = λ i.
+      Tables.usages_other e m M o laid x table M' q.others p.kept i (λ h. let bad : Usage i ≡ Map j = h in absurd (cc)) q.segments;
   there = by_entry x (λ y. 2 ≤ M'.at y → block (put e (next_place M o) bytes) (M'.at y) ≡ M'.bytes y)
       (λ lt. there_own e m M o laid x M' q bytes p.own)
-      (λ y ne. there_other e m M o laid x M' q (put e (next_place M o) bytes) (size_set e m M o laid x M' q bytes) (cells_set e m M o laid x M' q bytes) y ne (p.kept y ne));
+      (λ y ne. there_other e m M o laid x M' q (put e (next_place M o) bytes) (size_set e m M o laid x M' q bytes)
+      (cells_set e m M o laid x M' q bytes) y ne (p.kept y ne));
   within = within_now e m M o laid x M' q;
   named = moved_named M o x M' q laid.named;
   short = short_now e m M o laid x M' q;
   first = first_now e m M o laid x M' q;
-  sealed = sealed_now e m M o laid x M' q (put e (next_place M o) bytes) (size_set e m M o laid x M' q bytes) (cells_set e m M o laid x M' q bytes);
+  sealed = sealed_now e m M o laid x M' q (put e (next_place M o) bytes) (size_set e m M o laid x M' q bytes)
+      (cells_set e m M o laid x M' q bytes);
   past = past_now e m M o laid x M' q;
 }
   where
@@ -140,11 +149,13 @@ map_placing e m M o j bytes M' laid p = record {
     }
 
 -- a block of the tables is taken into memory, or is none any more, and the contents stay
-module _ (e : Content) (m : LogMap) (M : Memory) (o : ℕ) (laid : IsLaid e m M o) (x : Entry) (table : IsOfFile x → ⊥) (v : ℕ) (M' : Memory) (p : IsTaken M x v M') (bytes : M'.bytes ≡ M.bytes) where
+module _ (e : Content) (m : LogMap) (M : Memory) (o : ℕ) (laid : IsLaid e m M o) (x : Entry) (table : IsOfFile x → ⊥) (v : ℕ) (M' : Memory)
+    (p : IsTaken M x v M') (bytes : M'.bytes ≡ M.bytes) where
   kept : (y : Entry) → (y ≡ x → ⊥) → M'.bytes y ≡ M.bytes y
   kept y ne = ap (λ (b : Entry → List ℕ). b y) bytes
 
-  taken_laid : ((j : ℕ) → (M'.at (Map j) ≡ 1 → ⊥) → IsMapped m M' j) → ((j : ℕ) → (j < (M'.segments + 63) / 64) ↔ 0 < M'.at (Usage j)) → IsLaid e m M' o
+  taken_laid : ((j : ℕ) → (M'.at (Map j) ≡ 1 → ⊥) → IsMapped m M' j) → ((j : ℕ) → (j < (M'.segments + 63) / 64) ↔ 0 < M'.at (Usage j))
+      → IsLaid e m M' o
   taken_laid maps usages = record {
     size = let s = laid.size in let n = p.segments in omega arith;
     few = let n = p.segments in let f = laid.few in omega arith;
@@ -176,11 +187,13 @@ module _ (e : Content) (m : LogMap) (M : Memory) (o : ℕ) (laid : IsLaid e m M 
   maps_but : (j : ℕ) → x ≡ Map j → ((M'.at (Map j) ≡ 1 → ⊥) → IsMapped m M' j) → (i : ℕ) → (M'.at (Map i) ≡ 1 → ⊥) → IsMapped m M' i
   maps_but j is own i none = ⊎_elim
       (λ (here : i ≡ j). subst (λ (i : ℕ). (M'.at (Map i) ≡ 1 → ⊥) → IsMapped m M' i) (sym here) own none)
-      (λ (away : i ≡ j → ⊥). Tables.mapped_other e m M o laid x table M' p.others kept i (λ h. let bad : Map i ≡ Map j = h ∙ is in away (cc)) none)
+      (λ (away : i ≡ j → ⊥).
+      Tables.mapped_other e m M o laid x table M' p.others kept i (λ h. let bad : Map i ≡ Map j = h ∙ is in away (cc)) none)
       (cases_eq i j)
 
   usages_all : (j : ℕ) → x ≡ Map j → (i : ℕ) → (i < (M'.segments + 63) / 64) ↔ 0 < M'.at (Usage i)
-  usages_all j is i = Tables.usages_other e m M o laid x table M' p.others kept i (λ h. let bad : Usage i ≡ Map j = h ∙ is in absurd (cc)) p.segments
+  usages_all j is i =
+      Tables.usages_other e m M o laid x table M' p.others kept i (λ h. let bad : Usage i ≡ Map j = h ∙ is in absurd (cc)) p.segments
 
 pub map_lifting : MapLifting
 map_lifting e m M o j M' laid p = taken_laid e m M o laid (Map j) (Tables.map_table j) 1 M' p.taken p.bytes
@@ -189,13 +202,16 @@ map_lifting e m M o j M' laid p = taken_laid e m M o laid (Map j) (Tables.map_ta
 
 pub usage_lifting : UsageLifting
 usage_lifting e m M o j M' laid p = taken_laid e m M o laid (Usage j) (Tables.usage_table j) 1 M' p.taken p.bytes
-    (λ i none. Tables.mapped_other e m M o laid (Usage j) (Tables.usage_table j) M' p.taken.others (λ y ne. ap (λ (b : Entry → List ℕ). b y) p.bytes) i (λ h. let bad : Map i ≡ Usage j = h in absurd (cc)) none)
+    (λ i none. Tables.mapped_other e m M o laid (Usage j) (Tables.usage_table j) M' p.taken.others
+    (λ y ne. ap (λ (b : Entry → List ℕ). b y) p.bytes) i (λ h. let bad : Map i ≡ Usage j = h in absurd (cc)) none)
     (λ i. ⊎_elim (λ (here : i ≡ j). subst (λ (i : ℕ). (i < (M'.segments + 63) / 64) ↔ 0 < M'.at (Usage i)) (sym here) own)
-    (λ (away : i ≡ j → ⊥). Tables.usages_other e m M o laid (Usage j) (Tables.usage_table j) M' p.taken.others (λ y ne. ap (λ (b : Entry → List ℕ). b y) p.bytes) i (λ h. let same : Usage i ≡ Usage j = h in away (cc)) p.taken.segments)
+    (λ (away : i ≡ j → ⊥). Tables.usages_other e m M o laid (Usage j) (Tables.usage_table j) M' p.taken.others
+    (λ y ne. ap (λ (b : Entry → List ℕ). b y) p.bytes) i (λ h. let same : Usage i ≡ Usage j = h in away (cc)) p.taken.segments)
     (cases_eq i j))
   where
     own : (j < (M'.segments + 63) / 64) ↔ 0 < M'.at (Usage j)
-    own = let a = p.taken.at in let w = p.was in (λ lt. omega arith, λ lt. subst (λ (n : ℕ). j < (n + 63) / 64) (sym p.taken.segments) ((laid.usages j).1 (omega arith)))
+    own = let a = p.taken.at in let w = p.was in
+        (λ lt. omega arith, λ lt. subst (λ (n : ℕ). j < (n + 63) / 64) (sym p.taken.segments) ((laid.usages j).1 (omega arith)))
 
 pub map_leaving : MapLeaving
 map_leaving e m M o j M' laid p = taken_laid e m M o laid (Map j) (Tables.map_table j) 0 M' taken p.bytes
@@ -232,7 +248,8 @@ settling e m M o j M' laid p = record {
   mapped = λ i none. Tables.mapped_other e m M o laid x table M' q.others p.kept i (λ h. let bad : Map i ≡ Usage j = h in absurd (cc)) none;
   usages = λ i. ⊎_elim
       (λ (here : i ≡ j). subst (λ (i : ℕ). (i < (M'.segments + 63) / 64) ↔ 0 < M'.at (Usage i)) (sym here) own)
-      (λ (away : i ≡ j → ⊥). Tables.usages_other e m M o laid x table M' q.others p.kept i (λ h. let same : Usage i ≡ Usage j = h in away (cc)) q.segments)
+      (λ (away : i ≡ j → ⊥).
+      Tables.usages_other e m M o laid x table M' q.others p.kept i (λ h. let same : Usage i ≡ Usage j = h in away (cc)) q.segments)
       (cases_eq i j);
   there = by_entry x (λ y. 2 ≤ M'.at y → block e (M'.at y) ≡ M'.bytes y)
       (λ lt. ap (block e) q.at ∙ sym p.own)
@@ -261,7 +278,8 @@ settling e m M o j M' laid p = record {
         (λ lt. omega arith, λ lt. subst (λ (n : ℕ). j < (n + 63) / 64) (sym p.moved.segments) ((laid.usages j).1 (omega arith)))
 
 -- a usage block is written where it has its place
-module _ (e : Content) (m : LogMap) (M : Memory) (o : ℕ) (laid : IsLaid e m M o) (j : ℕ) (bytes : List ℕ) (M' : Memory) (p : IsFilling M j bytes M') where
+module _ (e : Content) (m : LogMap) (M : Memory) (o : ℕ) (laid : IsLaid e m M o) (j : ℕ) (bytes : List ℕ) (M' : Memory)
+    (p : IsFilling M j bytes M') where
   a : ℕ
   a = M.at (Usage j)
 
@@ -274,7 +292,8 @@ module _ (e : Content) (m : LogMap) (M : Memory) (o : ℕ) (laid : IsLaid e m M 
 
   other_place : (y : Entry) → (y ≡ Usage j → ⊥) → 2 ≤ M.at y → M.at y ≡ M.at (Usage j) → ⊥
   other_place y ne le same =
-      let both : Some y ≡ Some (Usage j) = sym (laid.named y le) ∙ ap (λ (a : ℕ). get_or (M.rows ((a - 2) / 64)) ((a - 2) % 64) None) same ∙ laid.named (Usage j) p.was in
+      let both : Some y ≡ Some (Usage j) = sym (laid.named y le) ∙ ap (λ (a : ℕ). get_or (M.rows ((a - 2) / 64)) ((a - 2) % 64) None) same
+      ∙ laid.named (Usage j) p.was in
       ne (cc)
 
   cells : (b : ℕ) → (b ≡ M.at (Usage j) → ⊥) → cell_at (put e (M.at (Usage j)) bytes) b ≡ cell_at e b
@@ -298,7 +317,8 @@ module _ (e : Content) (m : LogMap) (M : Memory) (o : ℕ) (laid : IsLaid e m M 
     up = Tables.up_now e m M o laid (Usage j) (Tables.usage_table j) M' others p.kept;
     long = Tables.long_now e m M o laid (Usage j) (Tables.usage_table j) M' others p.kept;
     spells = Tables.spells_now e m M o laid (Usage j) (Tables.usage_table j) M' others p.kept;
-    mapped = λ i none. Tables.mapped_other e m M o laid (Usage j) (Tables.usage_table j) M' others p.kept i (λ h. let bad : Map i ≡ Usage j = h in absurd (cc)) none;
+    mapped = λ i none. Tables.mapped_other e m M o laid (Usage j) (Tables.usage_table j) M' others p.kept i
+        (λ h. let bad : Map i ≡ Usage j = h in absurd (cc)) none;
     usages = λ i. let s = now (Usage i) in (
       λ lt. let b = (laid.usages i).0 (subst (λ (n : ℕ). i < (n + 63) / 64) p.segments lt) in omega arith,
       λ lt. subst (λ (n : ℕ). i < (n + 63) / 64) (sym p.segments) ((laid.usages i).1 (omega arith)),
@@ -307,7 +327,8 @@ module _ (e : Content) (m : LogMap) (M : Memory) (o : ℕ) (laid : IsLaid e m M 
         (λ lt.
         ap (block (put e (M.at (Usage j)) bytes)) (now (Usage j))
         ∙ Tables.block_at (put e (M.at (Usage j)) bytes) (M.at (Usage j)) (let w = p.was in omega arith)
-        ∙ ap bytes_of (get_or-set_same e (M.at (Usage j)) (Some bytes) None (let s = laid.size in let w = laid.within (Usage j) p.was in omega arith))
+        ∙ ap bytes_of
+        (get_or-set_same e (M.at (Usage j)) (Some bytes) None (let s = laid.size in let w = laid.within (Usage j) p.was in omega arith))
         ∙ sym p.own)
         (λ y ne lt.
         let s = now y in
@@ -323,7 +344,8 @@ module _ (e : Content) (m : LogMap) (M : Memory) (o : ℕ) (laid : IsLaid e m M 
     first = λ s. ap (λ (r : ℕ → Row). get_or (r s) 0 None) p.rows ∙ laid.first s;
     sealed = λ s ne. subst (λ (r : ℕ → Row). row_by (put e (M.at (Usage j)) bytes) (length (r s)) s ≡ Some (r s)) (sym p.rows)
         (Tables.row_kept e (put e (M.at (Usage j)) bytes) s (M.rows s) (laid.short s) (length-set e (M.at (Usage j)) (Some bytes))
-        (λ q lt blank. cells (2 + 64 * s + q) (λ is. let k = laid.short s in let bad : None ≡ Some (Usage j) = sym blank ∙ named_there s q (omega arith) is in absurd (cc)))
+        (λ q lt blank. cells (2 + 64 * s + q)
+        (λ is. let k = laid.short s in let bad : None ≡ Some (Usage j) = sym blank ∙ named_there s q (omega arith) is in absurd (cc)))
         (laid.sealed s ne));
     past = λ s le. ap (λ (r : ℕ → Row). r s) p.rows ∙ laid.past s (let n = p.segments in omega arith);
   }
@@ -332,7 +354,8 @@ pub filling : Filling
 filling e m M o j bytes M' laid p = filled e m M o laid j bytes M' p
 
 -- which number past the segments stands for none doesn't matter
-pub closed_at : (e : Content) (m : LogMap) (M : Memory) (none other : ℕ) → IsLaid e m M none → M.segments ≤ none → M.segments ≤ other → IsLaid e m M other
+pub closed_at : (e : Content) (m : LogMap) (M : Memory) (none other : ℕ) → IsLaid e m M none → M.segments ≤ none → M.segments ≤ other
+    → IsLaid e m M other
 closed_at e m M none other laid past after = record {
   size = laid.size;
   few = laid.few;

@@ -1,9 +1,12 @@
 -- Parts of a sector, and the numbers that are read there.
-use Rattle.std.proofs.Common.{◌≡◌, ◌≤◌, ◌<◌, ◌+◌, ◌^◌, ℕ, List, [], ◌∷◌, ◌++◌, length, take, drop, get_or, refl, sym, ap, ◌∙◌, arith, take-add}
-use Rattle.std.proofs.lemmas.List.{length-drop, length-take-le, same_lists, get_or_default, get_or-replicate, get_or-take, get_or-drop, length-replicate, drop-drop, take_all}
+use Rattle.std.proofs.Common.{◌≡◌, ◌≤◌, ◌<◌, ◌+◌, ◌^◌, ℕ, List, [], ◌∷◌, ◌++◌, length, take, drop, get_or, refl, sym, ap, ◌∙◌, arith}
+use Rattle.std.proofs.Common.{take-add}
+use Rattle.std.proofs.lemmas.List.{length-drop, length-take-le, same_lists, get_or_default, get_or-replicate, get_or-take, get_or-drop}
+use Rattle.std.proofs.lemmas.List.{length-replicate, drop-drop, take_all}
 use Rattle.std.specs.Prelude.{replicate}
 use Rattle.lfs_model.specs.Fields.{le16, le32, le64, zeros, part, number_of, read16, read32, read64}
-use Rattle.lfs_model.proofs.Numbers.{IsBytes, taken_fits, dropped_fits, number_of-lt, le16_of_number, le32_of_number, le64_of_number, number_of-le16, number_of-le32, number_of-le64}
+use Rattle.lfs_model.proofs.Numbers.{IsBytes, taken_fits, dropped_fits, number_of-lt, le16_of_number, le32_of_number, le64_of_number}
+use Rattle.lfs_model.proofs.Numbers.{number_of-le16, number_of-le32, number_of-le64}
 
 pub length-part : (at n : ℕ) (s : List ℕ) → at + n ≤ length s → length (part at n s) ≡ n
 unfolding part
@@ -49,10 +52,6 @@ pub le64_of_read : (at : ℕ) (s : List ℕ) → IsBytes s → at + 8 ≤ length
 unfolding read64
 le64_of_read at s fits room = le64_of_number (part at 8 s) (length-part at 8 s room) (part_fits at 8 s fits)
 
-pub read16-lt : (at : ℕ) (s : List ℕ) → IsBytes s → at + 2 ≤ length s → read16 at s < 2 ^ 16
-unfolding read16
-read16-lt at s fits room = number_of-lt 2 (part at 2 s) (length-part at 2 s room) (part_fits at 2 s fits)
-
 pub read32-lt : (at : ℕ) (s : List ℕ) → IsBytes s → at + 4 ≤ length s → read32 at s < 2 ^ 32
 unfolding read32
 read32-lt at s fits room = number_of-lt 4 (part at 4 s) (length-part at 4 s room) (part_fits at 4 s fits)
@@ -78,7 +77,8 @@ read64_is at s n small e = ap number_of e ∙ number_of-le64 n small
 pub zeros_from_each : (bs : List ℕ) (n : ℕ) → length bs ≡ n → ((i : ℕ) → i < length bs → get_or bs i 0 ≡ 0) → bs ≡ zeros n
 unfolding zeros
 zeros_from_each bs n long each =
-    same_lists bs (replicate n 0) (long ∙ sym (length-replicate n 0)) (λ k d lt. get_or_default bs k d 0 lt ∙ each k lt ∙ sym (get_or-replicate n k 0 d (omega arith)))
+    same_lists bs (replicate n 0) (long ∙ sym (length-replicate n 0))
+    (λ k d lt. get_or_default bs k d 0 lt ∙ each k lt ∙ sym (get_or-replicate n k 0 d (omega arith)))
 
 pub each_of_zeros : (bs : List ℕ) (n : ℕ) → bs ≡ zeros n → (i : ℕ) → i < length bs → get_or bs i 0 ≡ 0
 unfolding zeros

@@ -1,5 +1,7 @@
 -- A block with a number at one of its words, and an inode that is patched so.
-use Rattle.std.proofs.Common.{◌≡◌, ◌<◌, ◌≤◌, ⊎_elim, ◌+◌, ◌*◌, ◌-◌, ◌^◌, ℕ, zero, suc, List, [], ◌∷◌, ◌++◌, length, get_or, set, take, drop, refl, sym, ◌∙◌, ap, subst, arith, length-append, length-take, length-drop, length-set, get_or-take, get_or-drop, get_or-set_other, get_or-set_same}
+use Rattle.std.proofs.Common.{◌≡◌, ◌<◌, ◌≤◌, ⊎_elim, ◌+◌, ◌*◌, ◌-◌, ◌^◌, ℕ, zero, suc, List, [], ◌∷◌, ◌++◌, length, get_or, set, take, drop}
+use Rattle.std.proofs.Common.{refl, sym, ◌∙◌, ap, subst, arith, length-append, length-take, length-drop, length-set, get_or-take}
+use Rattle.std.proofs.Common.{get_or-drop, get_or-set_other, get_or-set_same}
 use Rattle.std.proofs.lemmas.List.{append_assoc, same_lists, get_or_append_left, get_or-append_right, get_or_past, get_or_default}
 use Rattle.std.proofs.lemmas.Bool.{and_parts, cases_eq, cases_lt}
 use Rattle.lfs_model.specs.declared.Kind.{Kind}
@@ -29,7 +31,13 @@ module _ (w v : ℕ) (b : List ℕ) (room : 4 * w + 4 ≤ length b) where
   length-patched =
       let f = front in
       let s = ap length split in
-      omega (arith, length-append (take (4 * w) b) (le32 v ++ drop (4 * w + 4) b), length-append (le32 v) (drop (4 * w + 4) b), length-le32 v, length-drop (4 * w + 4) b)
+      omega (
+        arith,
+        length-append (take (4 * w) b) (le32 v ++ drop (4 * w + 4) b),
+        length-append (le32 v) (drop (4 * w + 4) b),
+        length-le32 v,
+        length-drop (4 * w + 4) b,
+      )
 
   pub byte_before : (o : ℕ) → o < 4 * w → get_or (patched w v b) o 0 ≡ get_or b o 0
   byte_before o lt =
@@ -53,7 +61,8 @@ module _ (w v : ℕ) (b : List ℕ) (room : 4 * w + 4 ≤ length b) where
       ∙ get_or-drop (4 * w + 4) b (o - 4 * w - 4) 0
       ∙ ap (λ (i : ℕ). get_or b i 0) e
 
-same_parts : (at n : ℕ) (s t : List ℕ) → at + n ≤ length s → at + n ≤ length t → ((i : ℕ) → i < n → get_or s (at + i) 0 ≡ get_or t (at + i) 0) → part at n s ≡ part at n t
+same_parts : (at n : ℕ) (s t : List ℕ) → at + n ≤ length s → at + n ≤ length t
+    → ((i : ℕ) → i < n → get_or s (at + i) 0 ≡ get_or t (at + i) 0) → part at n s ≡ part at n t
 same_parts at n s t fits fits' each =
     let ls = length-part at n s fits in
     let lt = length-part at n t fits' in
@@ -98,21 +107,46 @@ module _ (w v : ℕ) (b : List ℕ) (long : length b ≡ 512) (low : w < 128) wh
       (cases_lt i w))
 
 -- ---- what an inode says besides its pointers
-pub header_same : (b c : List ℕ) → get_or c 0 0 ≡ get_or b 0 0 → get_or c 1 0 ≡ get_or b 1 0 → word c 2 ≡ word b 2 → word c 3 ≡ word b 3 → header c ≡ header b
+pub header_same : (b c : List ℕ) → get_or c 0 0 ≡ get_or b 0 0 → get_or c 1 0 ≡ get_or b 1 0 → word c 2 ≡ word b 2 → word c 3 ≡ word b 3
+    → header c ≡ header b
 unfolding header word
 header_same b c first form links size = λ i. record { kind = kind_of (first i); form = form i; links = links i; size = size i }
 
 pub header_patched : (w v : ℕ) (b : List ℕ) → length b ≡ 512 → 8 ≤ w → w < 122 → header (patched w v b) ≡ header b
 header_patched w v b long above below =
     header_same b (patched w v b) (byte_before w v b (omega arith) 0 (omega arith)) (byte_before w v b (omega arith) 1 (omega arith))
-    (word_other w v b long (omega arith) 2 (omega arith) (λ e. omega arith)) (word_other w v b long (omega arith) 3 (omega arith) (λ e. omega arith))
+    (word_other w v b long (omega arith) 2 (omega arith) (λ e. omega arith))
+    (word_other w v b long (omega arith) 3 (omega arith) (λ e. omega arith))
 
 -- ---- an inode that may have no link is read as its value
 sized : (i : InodeValue) → length i.direct ≡ 112 → Sized (fields i)
 unfolding fields
 sized i count =
-    let direct : length (words i.direct) ≡ 448 = length-words i.direct ∙ ap (λ (n : ℕ). 4 * n) count in
-    (refl, (refl, (length-zeros 2, (length-le32 i.number, (length-le32 i.links, (length-le32 i.size, (length-zeros 16, (direct, (length-le32 i.single, (length-le32 i.double, (length-zeros 24, tt)))))))))))
+    let direct : length (words i.direct) ≡ 448 = length-words i.direct ∙ ap (λ (n : ℕ). 4 * n) count in (
+      refl,
+      (
+        refl,
+        (
+          length-zeros 2,
+          (
+            length-le32 i.number,
+            (
+              length-le32 i.links,
+              (
+                length-le32 i.size,
+                (
+                  length-zeros 16,
+                  (
+                    direct,
+                    (length-le32 i.single, (length-le32 i.double, (length-zeros 24, tt))),
+                  ),
+                ),
+              ),
+            ),
+          ),
+        ),
+      ),
+    )
 
 long_value : (i : InodeValue) → length i.direct ≡ 112 → length (inode_sector i) ≡ 512
 unfolding fields inode_sector
@@ -179,7 +213,12 @@ module _ (n : ℕ) (b : List ℕ) (holds : HoldsInode n b) where
         single_fits = holds.fits.single_fits;
         double_fits = holds.fits.double_fits;
       } in
-      record { value = holds.value; spelt = inode_some b holds.value fits holds.spelt; form = subst (λ (h : Header). IsForm version h.kind h.form) header_holds formed; own = holds.own }
+      record {
+        value = holds.value;
+        spelt = inode_some b holds.value fits holds.spelt;
+        form = subst (λ (h : Header). IsForm version h.kind h.form) header_holds formed;
+        own = holds.own;
+      }
 
 -- ---- an inode in a sector is one that memory may hold
 le32_bytes : (n : ℕ) → IsBytes (le32 n)
@@ -217,7 +256,8 @@ kind_bytes Link (suc i) = omega arith
 
 -- what follows the kind and the form
 abbrev after_form : InodeValue → List ℕ
-after_form i = join (zeros 2 ∷ le32 i.number ∷ le32 i.links ∷ le32 i.size ∷ zeros 16 ∷ words i.direct ∷ le32 i.single ∷ le32 i.double ∷ zeros 24 ∷ [])
+after_form i =
+    join (zeros 2 ∷ le32 i.number ∷ le32 i.links ∷ le32 i.size ∷ zeros 16 ∷ words i.direct ∷ le32 i.single ∷ le32 i.double ∷ zeros 24 ∷ [])
 
 form_bytes : (form : ℕ) → form ≤ 1 → IsBytes (form ∷ [])
 form_bytes form few zero = omega arith
@@ -266,14 +306,16 @@ holds_inode version n b is =
 
 -- ---- an inode with another pointer
 -- numbers that stand one after the other, each at its own place
-pieces : (s ns : List ℕ) (at : ℕ) → ((i : ℕ) → i < length ns → part (at + 4 * i) 4 s ≡ le32 (get_or ns i 0)) → part at (4 * length ns) s ≡ words ns
+pieces : (s ns : List ℕ) (at : ℕ) → ((i : ℕ) → i < length ns → part (at + 4 * i) 4 s ≡ le32 (get_or ns i 0))
+    → part at (4 * length ns) s ≡ words ns
 unfolding words part
 pieces s [] at each = refl
 pieces s (n ∷ ns) at each =
     let more : 4 * suc (length ns) ≡ 4 + 4 * length ns = omega arith in
     let here : at + 4 * 0 ≡ at = omega arith in
     let first : part at 4 s ≡ le32 n = ap (λ (k : ℕ). part k 4 s) (sym here) ∙ each 0 (omega arith) in
-    let rest = pieces s ns (at + 4) (λ i lt. let e : at + 4 + 4 * i ≡ at + 4 * suc i = omega arith in ap (λ (k : ℕ). part k 4 s) e ∙ each (suc i) (omega arith)) in
+    let rest = pieces s ns (at + 4)
+    (λ i lt. let e : at + 4 + 4 * i ≡ at + 4 * suc i = omega arith in ap (λ (k : ℕ). part k 4 s) e ∙ each (suc i) (omega arith)) in
     ap (λ (m : ℕ). part at m s) more ∙ sym (part_add at 4 (4 * length ns) s)
     ∙ ap (λ (r : List ℕ). r ++ part (at + 4) (4 * length ns) s) first ∙ ap (λ (r : List ℕ). le32 n ++ r) rest
 
@@ -289,7 +331,8 @@ module _ (n w v : ℕ) (b : List ℕ) (holds : HoldsInode n b) (above : 8 ≤ w)
   other_value ns s d = record holds.value { direct = ns; single = s; double = d }
 
   other_fits : (ns : List ℕ) (s d : ℕ) → length ns ≡ 112 → Are32 ns → s < 2 ^ 32 → d < 2 ^ 32
-      → part 32 448 (patched w v b) ≡ words ns → part 480 4 (patched w v b) ≡ le32 s → part 484 4 (patched w v b) ≡ le32 d → HoldsInode n (patched w v b)
+      → part 32 448 (patched w v b) ≡ words ns → part 480 4 (patched w v b) ≡ le32 s → part 484 4 (patched w v b) ≡ le32 d
+      → HoldsInode n (patched w v b)
   unfolding other_value
   other_fits ns s d count fits fits_s fits_d is_direct is_single is_double =
       let r = reads_inode n b holds in
@@ -329,7 +372,8 @@ module _ (n w v : ℕ) (b : List ℕ) (holds : HoldsInode n b) (above : 8 ≤ w)
       ⊎_elim
       (λ (here : i ≡ k).
       ⊎_elim
-      (λ (inside : k < length ns). subst (λ (x : ℕ). x < 2 ^ 32) (sym (ap (λ (j : ℕ). get_or (set ns k v) j 0) here ∙ get_or-set_same ns k v 0 inside)) small)
+      (λ (inside : k < length ns).
+      subst (λ (x : ℕ). x < 2 ^ 32) (sym (ap (λ (j : ℕ). get_or (set ns k v) j 0) here ∙ get_or-set_same ns k v 0 inside)) small)
       (λ (outside : length ns ≤ k).
       let z : get_or (set ns k v) i 0 ≡ 0 = get_or_past (set ns k v) i 0 (omega (arith, length-set ns k v)) in
       subst (λ (x : ℕ). x < 2 ^ 32) (sym z) (omega arith))
@@ -344,13 +388,16 @@ module _ (n w v : ℕ) (b : List ℕ) (holds : HoldsInode n b) (above : 8 ≤ w)
       let count = holds.fits.direct_length in
       let l = length-set holds.value.direct (w - 8) v in
       let long = long_inode n b holds in
-      let whole : part 32 (4 * length holds.value.direct) b ≡ words holds.value.direct = ap (λ (m : ℕ). part 32 (4 * m) b) count ∙ (reads_inode n b holds).direct in
-      let each : (i : ℕ) → i < length (set holds.value.direct (w - 8) v) → part (32 + 4 * i) 4 (patched w v b) ≡ le32 (get_or (set holds.value.direct (w - 8) v) i 0) = λ i lt.
+      let whole : part 32 (4 * length holds.value.direct) b ≡ words holds.value.direct = ap (λ (m : ℕ). part 32 (4 * m) b) count
+      ∙ (reads_inode n b holds).direct in
+      let each : (i : ℕ) → i < length (set holds.value.direct (w - 8) v)
+      → part (32 + 4 * i) 4 (patched w v b) ≡ le32 (get_or (set holds.value.direct (w - 8) v) i 0) = λ i lt.
       ⊎_elim
       (λ (here : i ≡ w - 8).
       let e : 32 + 4 * i ≡ 4 * w = omega arith in
       ap (λ (k : ℕ). part k 4 (patched w v b)) e ∙ part_at w v b long (omega arith)
-      ∙ ap le32 (sym (ap (λ (j : ℕ). get_or (set holds.value.direct (w - 8) v) j 0) here ∙ get_or-set_same holds.value.direct (w - 8) v 0 (omega arith))))
+      ∙ ap le32 (sym (ap (λ (j : ℕ). get_or (set holds.value.direct (w - 8) v) j 0) here
+      ∙ get_or-set_same holds.value.direct (w - 8) v 0 (omega arith))))
       (λ (ne : i ≡ w - 8 → ⊥).
       ⊎_elim
       (λ (low : i < w - 8). before (32 + 4 * i) 4 (omega arith))
@@ -371,7 +418,8 @@ module _ (n w v : ℕ) (b : List ℕ) (holds : HoldsInode n b) (above : 8 ≤ w)
       let i = holds.value in
       ⊎_elim
       (λ (direct : w < 120).
-      other_fits (set holds.value.direct (w - 8) v) holds.value.single holds.value.double (length-set holds.value.direct (w - 8) v ∙ holds.fits.direct_length)
+      other_fits (set holds.value.direct (w - 8) v) holds.value.single holds.value.double
+      (length-set holds.value.direct (w - 8) v ∙ holds.fits.direct_length)
       (all_set holds.value.direct (w - 8) holds.fits.direct_fits) holds.fits.single_fits holds.fits.double_fits
       (direct_words direct) (past 480 4 (omega arith) (omega arith) ∙ r.single) (past 484 4 (omega arith) (omega arith) ∙ r.double))
       (λ (not_direct : 120 ≤ w).

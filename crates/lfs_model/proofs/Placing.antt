@@ -9,9 +9,11 @@ use Rattle.lfs_model.specs.Memory.{Memory, parent, HasPointer}
 use Rattle.lfs_model.specs.Laid.{IsLaid, SpellsBlock}
 use Rattle.lfs_model.specs.Placing.{IsMoved, IsPlacing, Placing, next_place}
 use Rattle.lfs_model.proofs.Counting.{by_entry, moved_named}
-use Rattle.lfs_model.proofs.Outgoing.{above, inside, short_now, first_now, past_now, within_now, sealed_now, there_other, there_own, size_set, cells_set}
+use Rattle.lfs_model.proofs.Outgoing.{above, inside, short_now, first_now, past_now, within_now, sealed_now, there_other, there_own}
+use Rattle.lfs_model.proofs.Outgoing.{size_set, cells_set}
 use Rattle.lfs_model.proofs.Spelling.{same_at, spells_other}
-use Rattle.lfs_model.proofs.BlockMoves.{IsStep, bytes_kept, down_now, low_now, some_now, up_now, long_now, spells_now, usages_now, above_long, above_spells, mapped_step, hidden, unshown}
+use Rattle.lfs_model.proofs.BlockMoves.{IsStep, bytes_kept, down_now, low_now, some_now, up_now, long_now, spells_now, usages_now}
+use Rattle.lfs_model.proofs.BlockMoves.{above_long, above_spells, mapped_step, hidden, unshown}
 
 -- where each block stays a block, each has one as before
 module _ (e : Content) (m : LogMap) (M : Memory) (o : ℕ) (laid : IsLaid e m M o) (x : Entry) (M' : Memory)
@@ -56,13 +58,15 @@ module _ (e : Content) (m : LogMap) (M : Memory) (o : ℕ) (laid : IsLaid e m M 
     inodes = inodes_stay e m M o laid x M' p.moved.others was (let a = out in omega arith);
     above = λ ne. laid.up x p.moved.was;
     above_long = λ ne. above_long e m M o laid x M' p.moved.others small low ne (laid.up x p.moved.was) (p.patched ne);
-    above_spells = λ ne. above_spells e m M o laid x M' p.moved.others small low ne (laid.up x p.moved.was) (p.patched ne) m (same_at m (parent x));
+    above_spells = λ ne.
+        above_spells e m M o laid x M' p.moved.others small low ne (laid.up x p.moved.was) (p.patched ne) m (same_at m (parent x));
     lowest = λ y ne here one. absurd (ne (p.lowest y here one));
     children = λ y ne here lt. let a = out in omega arith;
     low = λ n q is lt. low n q is;
     some = λ is le. subst HasPointer (sym p.own) (p.some is);
     long = λ lt. ap length p.own ∙ laid.long x p.of_file was;
-    spells = λ lt. subst (λ (b : List ℕ). SpellsBlock m M'.at b x) (sym p.own) (spells_other m M.at M'.at x p.moved.others (M.bytes x) x (λ h. refl) (laid.spells x was));
+    spells = λ lt. subst (λ (b : List ℕ). SpellsBlock m M'.at b x) (sym p.own)
+        (spells_other m M.at M'.at x p.moved.others (M.bytes x) x (λ h. refl) (laid.spells x was));
     mapped = mapped_step m m M M' x p.of_file p.moved.others p.kept (λ k ne. refl)
         (λ n is none.
         let nameless = hidden m M n (laid.mapped (n / 128) none) (ap M.at is ∙ p.moved.was) in
@@ -88,13 +92,15 @@ module _ (e : Content) (m : LogMap) (M : Memory) (o : ℕ) (laid : IsLaid e m M 
         (λ le. there_own e m M o laid x M' q (M.bytes x) p.own)
         (λ y ne le.
         let s = p.moved.others y ne in
-        there_other e m M o laid x M' q (put e (next_place M o) (M.bytes x)) (size_set e m M o laid x M' q (M.bytes x)) (cells_set e m M o laid x M' q (M.bytes x)) y ne
+        there_other e m M o laid x M' q (put e (next_place M o) (M.bytes x)) (size_set e m M o laid x M' q (M.bytes x))
+        (cells_set e m M o laid x M' q (M.bytes x)) y ne
         (bytes_kept e m m M o laid x M' step y ne (omega arith)) le);
     within = within_now e m M o laid x M' q;
     named = moved_named M o x M' q laid.named;
     short = short_now e m M o laid x M' q;
     first = first_now e m M o laid x M' q;
-    sealed = sealed_now e m M o laid x M' q (put e (next_place M o) (M.bytes x)) (size_set e m M o laid x M' q (M.bytes x)) (cells_set e m M o laid x M' q (M.bytes x));
+    sealed = sealed_now e m M o laid x M' q (put e (next_place M o) (M.bytes x)) (size_set e m M o laid x M' q (M.bytes x))
+        (cells_set e m M o laid x M' q (M.bytes x));
     past = past_now e m M o laid x M' q;
   }
 

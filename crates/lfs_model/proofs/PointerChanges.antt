@@ -15,15 +15,18 @@ use Rattle.lfs_model.proofs.BlockMoves.{IsStep, above_long, above_spells, mapped
 use Rattle.lfs_model.proofs.BlockChanges.{inodes_same}
 
 -- an empty block of pointers is right where nothing stands below it
-spells_empty : (m : LogMap) (A : Entry → ℕ) (b : List ℕ) (x : Entry) → IsPointers x → ((i : ℕ) → i < 128 → word b i ≡ 0) → ((y : Entry) → (y ≡ x → ⊥) → parent y ≡ x → A y ≡ 0) → SpellsBlock m A b x
+spells_empty : (m : LogMap) (A : Entry → ℕ) (b : List ℕ) (x : Entry) → IsPointers x → ((i : ℕ) → i < 128 → word b i ≡ 0)
+    → ((y : Entry) → (y ≡ x → ⊥) → parent y ≡ x → A y ≡ 0) → SpellsBlock m A b x
 spells_empty m A b (Data n i) is empty none = absurd is
-spells_empty m A b (Leaf n q) is empty none = λ i low. empty i low ∙ sym (none (Data n (112 + 128 * q + i)) (λ e. absurd (cc)) (leaf_parent n q i low))
+spells_empty m A b (Leaf n q) is empty none = λ i low. empty i low
+    ∙ sym (none (Data n (112 + 128 * q + i)) (λ e. absurd (cc)) (leaf_parent n q i low))
 spells_empty m A b (Double n) is empty none = λ q low. empty q low ∙ sym (none (Leaf n (suc q)) (λ e. absurd (cc)) refl)
 spells_empty m A b (Inode n) is empty none = absurd is
 spells_empty m A b (Map j) is empty none = absurd is
 spells_empty m A b (Usage j) is empty none = absurd is
 
-module _ (e : Content) (m : LogMap) (M : Memory) (o : ℕ) (laid : IsLaid e m M o) (x : Entry) (M' : Memory) (is : IsPointers x) (v : ℕ) (t : IsTaken M x v M') (p : IsPointed M x v M')
+module _ (e : Content) (m : LogMap) (M : Memory) (o : ℕ) (laid : IsLaid e m M o) (x : Entry) (M' : Memory) (is : IsPointers x) (v : ℕ)
+    (t : IsTaken M x v M') (p : IsPointed M x v M')
     (low : (n q : ℕ) → x ≡ Leaf n q → q ≤ 128) where
   no_data : (n i : ℕ) → Data n i ≡ x → ⊥
   no_data n i h = subst IsPointers (sym h) is
@@ -68,7 +71,8 @@ module _ (e : Content) (m : LogMap) (M : Memory) (o : ℕ) (laid : IsLaid e m M 
       some = λ h le. let a = t.at in let l = t.least in absurd (omega arith);
       long = λ lt. long (positive lt);
       spells = λ lt. spells (positive lt);
-      mapped = mapped_step m m M M' x (below_of_file x below) t.others p.kept (λ k ne. refl) (λ k h none. absurd (no_inode k h)) laid.mapped;
+      mapped = mapped_step m m M M' x (below_of_file x below) t.others p.kept (λ k ne. refl)
+          (λ k h none. absurd (no_inode k h)) laid.mapped;
     }
 
     pub changed : IsLaid e m M' o
@@ -87,7 +91,8 @@ growing e m M o x M' laid p =
 
 pub shrinking : Shrinking
 shrinking e m M o x M' laid p =
-    changed e m M o laid x M' p.pointers 0 p.taken p.pointed (λ n q h. laid.low n q (subst (λ (z : Entry). 0 < M.at z) h (omega (arith, p.was)))) no_child (λ lt. absurd (omega arith)) (λ lt. absurd (omega arith))
+    changed e m M o laid x M' p.pointers 0 p.taken p.pointed (λ n q h. laid.low n q
+    (subst (λ (z : Entry). 0 < M.at z) h (omega (arith, p.was)))) no_child (λ lt. absurd (omega arith)) (λ lt. absurd (omega arith))
   where
     -- what stood below it would have its pointer there
     no_child : (y : Entry) → (y ≡ x → ⊥) → parent y ≡ x → 0 < M.at y → 0 < 0
@@ -96,5 +101,6 @@ shrinking e m M o x M' laid p =
         let own : parent y ≡ y → ⊥ = λ top. ne (sym top ∙ here) in
         let above = laid.down y some in
         let spelt = pointer_spelled m M.at M.bytes y own low (laid.spells (parent y) above) in
-        let empty : word (M.bytes (parent y)) (pointer y) ≡ 0 = ap (λ (z : Entry). word (M.bytes z) (pointer y)) here ∙ p.empty (pointer y) (pointer_low y low) in
+        let empty : word (M.bytes (parent y)) (pointer y) ≡ 0 = ap (λ (z : Entry). word (M.bytes z) (pointer y)) here
+        ∙ p.empty (pointer y) (pointer_low y low) in
         omega arith

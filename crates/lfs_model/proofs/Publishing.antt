@@ -1,5 +1,6 @@
 -- The end of a commit: the checkpoint that leads to what is out, and the log that runs on from it.
-use Rattle.std.proofs.Common.{◌≡◌, ◌<◌, ◌≤◌, ◌⊎◌, inl, inr, ⊎_elim, ◌+◌, ◌*◌, ◌/◌, ◌%◌, ◌==◌, cond, eq-eqb, Bool, true, false, ℕ, zero, suc, List, [], length, take, Some, None, refl, sym, ◌∙◌, ap, ap₂, subst, arith, length-set, get_or-set_other}
+use Rattle.std.proofs.Common.{◌≡◌, ◌<◌, ◌≤◌, ◌⊎◌, inl, inr, ⊎_elim, ◌+◌, ◌*◌, ◌/◌, ◌%◌, ◌==◌, cond, eq-eqb, Bool, true, false, ℕ, zero, suc}
+use Rattle.std.proofs.Common.{List, [], length, take, Some, None, refl, sym, ◌∙◌, ap, ap₂, subst, arith, length-set, get_or-set_other}
 use Rattle.std.proofs.lemmas.Bool.{cases_eq, cases_lt, cond-true}
 use Rattle.std.proofs.lemmas.List.{drop_all}
 use Rattle.lfs_model.specs.Entry.{Entry, Data, Leaf, Double, Inode, Map, Usage, half, word}
@@ -28,7 +29,8 @@ unfolding half read16 part
 half_nil k = ap (λ (b : List ℕ). number_of (take 2 b)) (drop_all (2 * k) [] (omega arith))
 
 -- the checkpoint slots are no part of the log
-pub laid_beside : (e : Content) (m : LogMap) (M : Memory) (o slot : ℕ) (bytes : List ℕ) → slot < 2 → IsLaid e m M o → IsLaid (put e slot bytes) m M o
+pub laid_beside : (e : Content) (m : LogMap) (M : Memory) (o slot : ℕ) (bytes : List ℕ) → slot < 2 → IsLaid e m M o
+    → IsLaid (put e slot bytes) m M o
 laid_beside e m M o slot bytes low laid = record {
   size = let l = length-set e slot (Some bytes) in let s = laid.size in omega arith;
   few = laid.few;
@@ -47,24 +49,30 @@ laid_beside e m M o slot bytes low laid = record {
   named = laid.named;
   short = laid.short;
   first = laid.first;
-  sealed = λ s ne. row_kept e (put e slot bytes) s (M.rows s) (laid.short s) (length-set e slot (Some bytes)) (λ q lt blank. cells (2 + 64 * s + q) (omega arith)) (laid.sealed s ne);
+  sealed = λ s ne. row_kept e (put e slot bytes) s (M.rows s) (laid.short s) (length-set e slot (Some bytes))
+      (λ q lt blank. cells (2 + 64 * s + q) (omega arith)) (laid.sealed s ne);
   past = laid.past;
 }
   where
     cells : (a : ℕ) → 2 ≤ a → cell_at (put e slot bytes) a ≡ cell_at e a
     cells a le = get_or-set_other e slot a (Some bytes) None (λ h. omega arith)
 
-module _ (e : Content) (m : LogMap) (M : Memory) (o : ℕ) (dirty : Dirty) (t : Tables) (k next : CheckpointValue) (laid : IsLaid e m M o) (closed : M.segments ≤ o) (same : M.segments ≡ k.segments)
-    (cached : IsCached dirty M) (tables : IsTables t m M) (fresh : (j : ℕ) → t.stale j ≡ false → j < (k.segments + 63) / 64 → SpellsUsage t j (M.bytes (Usage j)))
+module _ (e : Content) (m : LogMap) (M : Memory) (o : ℕ) (dirty : Dirty) (t : Tables) (k next : CheckpointValue) (laid : IsLaid e m M o)
+    (closed : M.segments ≤ o) (same : M.segments ≡ k.segments)
+    (cached : IsCached dirty M) (tables : IsTables t m M)
+    (fresh : (j : ℕ) → t.stale j ≡ false → j < (k.segments + 63) / 64 → SpellsUsage t j (M.bytes (Usage j)))
     (out : IsOut dirty t k.segments) (many : ManyClean t k.segments) (leads : LeadsTo t m.version k next) where
   none_left : (x : Entry) → M.at x ≡ 1 → ⊥
   none_left (Data n i) one = of_file (Data n i) (n, refl) one
     where
       of_file : (x : Entry) → IsOfFile x → M.at x ≡ 1 → ⊥
       of_file x f one = let b = cached.found x f one in let bad : None ≡ Some b.0 = sym (out.empty x) ∙ b.1 in absurd (cc)
-  none_left (Leaf n q) one = let b = cached.found (Leaf n q) (n, refl) one in let bad : None ≡ Some b.0 = sym (out.empty (Leaf n q)) ∙ b.1 in absurd (cc)
-  none_left (Double n) one = let b = cached.found (Double n) (n, refl) one in let bad : None ≡ Some b.0 = sym (out.empty (Double n)) ∙ b.1 in absurd (cc)
-  none_left (Inode n) one = let b = cached.found (Inode n) (n, refl) one in let bad : None ≡ Some b.0 = sym (out.empty (Inode n)) ∙ b.1 in absurd (cc)
+  none_left (Leaf n q) one = let b = cached.found (Leaf n q) (n, refl) one in
+      let bad : None ≡ Some b.0 = sym (out.empty (Leaf n q)) ∙ b.1 in absurd (cc)
+  none_left (Double n) one = let b = cached.found (Double n) (n, refl) one in
+      let bad : None ≡ Some b.0 = sym (out.empty (Double n)) ∙ b.1 in absurd (cc)
+  none_left (Inode n) one = let b = cached.found (Inode n) (n, refl) one in let bad : None ≡ Some b.0 = sym (out.empty (Inode n)) ∙ b.1 in
+      absurd (cc)
   none_left (Map j) one = out.maps j (sym (tables.at (Map j) refl) ∙ one)
   none_left (Usage j) one = out.usages j (sym (tables.at (Usage j) refl) ∙ one)
 
@@ -101,19 +109,22 @@ module _ (e : Content) (m : LogMap) (M : Memory) (o : ℕ) (dirty : Dirty) (t : 
   used_said : (s : ℕ) → used_in (shown_view e m M next) s ≡ used_saved t s
   used_said s = ⊎_elim
       (λ (low : s / 64 < (k.segments + 63) / 64). (usage_there (s / 64) low).used (s % 64) (omega arith) ∙ ap (used_saved t) (split s))
-      (λ (high : (k.segments + 63) / 64 ≤ s / 64). ap (λ (b : List ℕ). half b (4 * (s % 64))) (usage_none (s / 64) high) ∙ half_nil (4 * (s % 64)) ∙ sym (saved_past t.used s (omega arith)))
+      (λ (high : (k.segments + 63) / 64 ≤ s / 64). ap (λ (b : List ℕ). half b (4 * (s % 64))) (usage_none (s / 64) high)
+      ∙ half_nil (4 * (s % 64)) ∙ sym (saved_past t.used s (omega arith)))
       (cases_lt (s / 64) ((k.segments + 63) / 64))
 
   live_said : (s : ℕ) → live_in (shown_view e m M next) s ≡ t.live s
   live_said s = ⊎_elim
       (λ (low : s / 64 < (k.segments + 63) / 64). (usage_there (s / 64) low).live (s % 64) (omega arith) ∙ ap t.live (split s))
-      (λ (high : (k.segments + 63) / 64 ≤ s / 64). ap (λ (b : List ℕ). half b (4 * (s % 64) + 1)) (usage_none (s / 64) high) ∙ half_nil (4 * (s % 64) + 1) ∙ sym (lives_past s (omega arith)))
+      (λ (high : (k.segments + 63) / 64 ≤ s / 64). ap (λ (b : List ℕ). half b (4 * (s % 64) + 1)) (usage_none (s / 64) high)
+      ∙ half_nil (4 * (s % 64) + 1) ∙ sym (lives_past s (omega arith)))
       (cases_lt (s / 64) ((k.segments + 63) / 64))
 
   age_said : (s : ℕ) → age_in (shown_view e m M next) s ≡ age_saved t s
   age_said s = ⊎_elim
       (λ (low : s / 64 < (k.segments + 63) / 64). (usage_there (s / 64) low).age (s % 64) (omega arith) ∙ ap (age_saved t) (split s))
-      (λ (high : (k.segments + 63) / 64 ≤ s / 64). ap (λ (b : List ℕ). word b (2 * (s % 64) + 1)) (usage_none (s / 64) high) ∙ word_nil (2 * (s % 64) + 1) ∙ sym (saved_past t.age s (omega arith)))
+      (λ (high : (k.segments + 63) / 64 ≤ s / 64). ap (λ (b : List ℕ). word b (2 * (s % 64) + 1)) (usage_none (s / 64) high)
+      ∙ word_nil (2 * (s % 64) + 1) ∙ sym (saved_past t.age s (omega arith)))
       (cases_lt (s / 64) ((k.segments + 63) / 64))
 
   used_tables : (s : ℕ) → used_saved t s ≡ used_of m M s
@@ -121,8 +132,10 @@ module _ (e : Content) (m : LogMap) (M : Memory) (o : ℕ) (dirty : Dirty) (t : 
 
   enough : EnoughClean (shown_view e m M next)
   enough =
-      let counts = count_up_same (is_clean (shown_view e m M next)) (λ s. used_saved t s == 0) k.segments (λ s lt. ap (λ (n : ℕ). n == 0) (used_said s)) in
-      subst (λ (n : ℕ). n ≤ 8 * count_up (is_clean (shown_view e m M next)) n) (sym leads.segments) (let c = counts in let y = many in omega arith)
+      let counts = count_up_same (is_clean (shown_view e m M next)) (λ s. used_saved t s == 0) k.segments
+      (λ s lt. ap (λ (n : ℕ). n == 0) (used_said s)) in
+      subst (λ (n : ℕ). n ≤ 8 * count_up (is_clean (shown_view e m M next)) n) (sym leads.segments)
+      (let c = counts in let y = many in omega arith)
 
   pub out_done : IsDone e m M o next
   out_done = record {
@@ -155,7 +168,8 @@ planning d dirty t k next m0 m none slot bytes w formed out many leads spelt pla
 }
 
 module _ (d d' : DeviceState) (dirty : Dirty) (t t' : Tables) (k next : CheckpointValue) (m0 m : LogMap) (none slot : ℕ) (bytes : List ℕ)
-    (w : Running d dirty t k m0 m none None) (out : IsOut dirty t k.segments) (many : ManyClean t k.segments) (leads : LeadsTo t m.version k next) (low : slot < 2) (is : d'.content ≡ put d.content slot bytes)
+    (w : Running d dirty t k m0 m none None) (out : IsOut dirty t k.segments) (many : ManyClean t k.segments)
+    (leads : LeadsTo t m.version k next) (low : slot < 2) (is : d'.content ≡ put d.content slot bytes)
     (settled : IsSettled d' next (dropped m)) (go : IsReleased t t') where
   laid_now : IsLaid d'.content m w.memory none
   laid_now = subst (λ (c : Content). IsLaid c m w.memory none) (sym is) (laid_beside d.content m w.memory none slot bytes low w.laid)
@@ -169,7 +183,12 @@ module _ (d d' : DeviceState) (dirty : Dirty) (t t' : Tables) (k next : Checkpoi
   by_count (suc l) h r = r
 
   released : Memory
-  released = record { segments = w.memory.segments; at = w.memory.at; bytes = w.memory.bytes; rows = λ s. by_count (live_of m w.memory s) (held_of m w.memory s) (w.memory.rows s) }
+  released = record {
+    segments = w.memory.segments;
+    at = w.memory.at;
+    bytes = w.memory.bytes;
+    rows = λ s. by_count (live_of m w.memory s) (held_of m w.memory s) (w.memory.rows s);
+  }
 
   is_gone : (l h : ℕ) (r : Row) → l ≡ 0 → h ≡ 0 → by_count l h r ≡ []
   unfolding by_count
@@ -193,17 +212,20 @@ module _ (d d' : DeviceState) (dirty : Dirty) (t t' : Tables) (k next : Checkpoi
     kept = λ s some. is_kept (live_of m w.memory s) (held_of m w.memory s) (w.memory.rows s) some;
   }
 
-  laid_released : IsLaid d'.content m released none × ((s : ℕ) → live_of m released s ≡ live_of m w.memory s) × ((s : ℕ) → held_of m released s ≡ held_of m w.memory s)
+  laid_released : IsLaid d'.content m released none × ((s : ℕ) → live_of m released s ≡ live_of m w.memory s)
+      × ((s : ℕ) → held_of m released s ≡ held_of m w.memory s)
   laid_released = releasing d'.content m w.memory released none laid_now w.opened is_releasing
 
   by_case : (s : ℕ) (P : Type 0) → (t.live s ≡ 0 → t.held s ≡ 0 → P) → ((0 < t.live s) ⊎ (0 < t.held s) → P) → P
   by_case s P gone some = ⊎_elim
-      (λ (l : t.live s ≡ 0). ⊎_elim (λ (h : t.held s ≡ 0). gone l h) (λ (h : t.held s ≡ 0 → ⊥). some (inr (omega arith))) (cases_eq (t.held s) 0))
+      (λ (l : t.live s ≡ 0).
+      ⊎_elim (λ (h : t.held s ≡ 0). gone l h) (λ (h : t.held s ≡ 0 → ⊥). some (inr (omega arith))) (cases_eq (t.held s) 0))
       (λ (l : t.live s ≡ 0 → ⊥). some (inl (omega arith)))
       (cases_eq (t.live s) 0)
 
   some_there : (s : ℕ) → (0 < t.live s) ⊎ (0 < t.held s) → (0 < live_of m w.memory s) ⊎ (0 < held_of m w.memory s)
-  some_there s some = ⊎_elim (λ lt. inl (subst (λ (n : ℕ). 0 < n) (w.tables.live s) lt)) (λ lt. inr (subst (λ (n : ℕ). 0 < n) (w.tables.held s) lt)) some
+  some_there s some =
+      ⊎_elim (λ lt. inl (subst (λ (n : ℕ). 0 < n) (w.tables.live s) lt)) (λ lt. inr (subst (λ (n : ℕ). 0 < n) (w.tables.held s) lt)) some
 
   used_now : (s : ℕ) → t'.used s ≡ length (released.rows s)
   used_now s = by_case s (t'.used s ≡ length (released.rows s))
@@ -213,7 +235,8 @@ module _ (d d' : DeviceState) (dirty : Dirty) (t t' : Tables) (k next : Checkpoi
   -- what the usage table says stays right
   saved_same : (f g : ℕ → ℕ) → ((s : ℕ) → 0 < t.live s → f s ≡ g s) → (s : ℕ) → cond (t.live s == 0) 0 (f s) ≡ cond (t'.live s == 0) 0 (g s)
   saved_same f g same s = ⊎_elim
-      (λ (z : t.live s ≡ 0). cond-true (t.live s == 0) 0 (f s) (eq-eqb (t.live s) 0 z) ∙ sym (cond-true (t'.live s == 0) 0 (g s) (eq-eqb (t'.live s) 0 (go.live s ∙ z))))
+      (λ (z : t.live s ≡ 0). cond-true (t.live s == 0) 0 (f s) (eq-eqb (t.live s) 0 z)
+      ∙ sym (cond-true (t'.live s == 0) 0 (g s) (eq-eqb (t'.live s) 0 (go.live s ∙ z))))
       (λ (ne : t.live s ≡ 0 → ⊥). ap₂ (λ (l u : ℕ). cond (l == 0) 0 u) (sym (go.live s)) (same s (omega arith)))
       (cases_eq (t.live s) 0)
 
@@ -229,8 +252,10 @@ module _ (d d' : DeviceState) (dirty : Dirty) (t t' : Tables) (k next : Checkpoi
   kept_now : (s : ℕ) → IsFreeFrom d'.content next s (t'.kept s)
   unfolding address
   kept_now s =
-      let said = used_said d'.content m w.memory none dirty t k next laid_now w.opened w.segments w.cached w.tables w.fresh out many leads s in
-      let same : used_in (view d'.content next) s ≡ cond (t'.live s == 0) 0 (t'.used s) = viewed s ∙ said ∙ saved_same t.used t'.used (λ s some. sym (go.used s (inl some))) s in
+      let said =
+      used_said d'.content m w.memory none dirty t k next laid_now w.opened w.segments w.cached w.tables w.fresh out many leads s in
+      let same : used_in (view d'.content next) s ≡ cond (t'.live s == 0) 0 (t'.used s) = viewed s ∙ said
+      ∙ saved_same t.used t'.used (λ s some. sym (go.used s (inl some))) s in
       let most = no_more (t'.live s == 0) (t'.used s) in
       let k = go.kept s in
       omega arith
@@ -256,11 +281,13 @@ module _ (d d' : DeviceState) (dirty : Dirty) (t t' : Tables) (k next : Checkpoi
       live = λ s. go.live s ∙ w.tables.live s ∙ sym (laid_released.1 s);
       held = λ s. go.held s ∙ w.tables.held s ∙ sym (laid_released.2 s);
     };
-    fresh = λ j off lt. usage_now j (w.memory.bytes (Usage j)) (w.fresh j (sym (go.stale j) ∙ off) (subst (λ (n : ℕ). j < (n + 63) / 64) leads.segments lt));
+    fresh = λ j off lt. usage_now j (w.memory.bytes (Usage j))
+        (w.fresh j (sym (go.stale j) ∙ off) (subst (λ (n : ℕ). j < (n + 63) / 64) leads.segments lt));
     part = λ s. let e = go.kept s in omega arith;
     kept = λ s lt. kept_now s;
     opened = w.opened;
   }
 
 pub resting : Resting
-resting d d' dirty t t' k next m0 m none slot bytes w out many leads low is settled go = rested d d' dirty t t' k next m0 m none slot bytes w out many leads low is settled go
+resting d d' dirty t t' k next m0 m none slot bytes w out many leads low is settled go =
+    rested d d' dirty t t' k next m0 m none slot bytes w out many leads low is settled go

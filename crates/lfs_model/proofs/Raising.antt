@@ -12,11 +12,13 @@ use Rattle.lfs_model.specs.Tree.{Tree}
 use Rattle.lfs_model.specs.TreeOf.{node_of, nodes_from, object, slots, tree_in, with_object}
 
 -- ---- what is laid out
-raised_spells : (m : LogMap) (is : Bool) (A : Entry → ℕ) (bytes : List ℕ) (x : Entry) → SpellsBlock m A bytes x → SpellsBlock (raised is m) A bytes x
+raised_spells : (m : LogMap) (is : Bool) (A : Entry → ℕ) (bytes : List ℕ) (x : Entry) → SpellsBlock m A bytes x
+    → SpellsBlock (raised is m) A bytes x
 raised_spells m is A bytes (Data n i) w = w
 raised_spells m is A bytes (Leaf n q) w = w
 raised_spells m is A bytes (Double n) w = w
-raised_spells m is A bytes (Inode n) w = record { formed = w.formed; header = w.header; direct = w.direct; single = w.single; double = w.double }
+raised_spells m is A bytes (Inode n) w =
+    record { formed = w.formed; header = w.header; direct = w.direct; single = w.single; double = w.double }
 raised_spells m is A bytes (Map j) w = w
 raised_spells m is A bytes (Usage j) w = w
 

@@ -1,5 +1,7 @@
 -- An assignment of addresses that the blocks agree with is the one that the checkpoint reaches; and what keeps a view.
-use Rattle.std.proofs.Common.{◌≡◌, ◌<◌, ◌+◌, ◌*◌, ◌-◌, ◌/◌, ◌%◌, nat_lt, cond, ℕ, zero, suc, List, [], ◌∷◌, length, get_or, take, drop, Option, Some, None, refl, sym, ◌∙◌, ap, ap₂, ⊎_elim, arith, length-take, length-drop, get_or-take, get_or-drop}
+use Rattle.std.proofs.Common.{◌≡◌, ◌<◌, ◌+◌, ◌*◌, ◌-◌, ◌/◌, ◌%◌, nat_lt, cond, ℕ, zero, suc, List, [], ◌∷◌, length, get_or, take, drop}
+use Rattle.std.proofs.Common.{Option, Some, None, refl, sym, ◌∙◌, ap, ap₂, ⊎_elim, arith, length-take, length-drop, get_or-take}
+use Rattle.std.proofs.Common.{get_or-drop}
 use Rattle.std.proofs.Math.Path.{fun_ext}
 use Rattle.std.proofs.lemmas.Bool.{cases_eq}
 use Rattle.lfs_model.specs.Entry.{Entry, Data, Leaf, Double, Inode, Map, Usage, word, half, entries_in}
@@ -38,7 +40,8 @@ module _ (c : Content) (k : CheckpointValue) (A : Entry → ℕ) (links : (e : E
   at_data : (n i : ℕ) → A (Data n i) ≡ address c k (Data n i)
   at_data n i =
       links (Data n i)
-      ∙ ap₂ (λ (a b : ℕ). cond (nat_lt i 112) (word (block c a) (8 + i)) (word (block c b) ((i - 112) % 128))) (at_inode n) (at_leaf n ((i - 112) / 128))
+      ∙ ap₂ (λ (a b : ℕ). cond (nat_lt i 112) (word (block c a) (8 + i)) (word (block c b) ((i - 112) % 128))) (at_inode n)
+      (at_leaf n ((i - 112) / 128))
       ∙ sym (address_linked c k (Data n i))
 
   -- the addresses are determined by what the blocks say
@@ -58,7 +61,8 @@ pub after_inv : (x : Option Entry) (y : Option Row) (r : Row) → after x y ≡ 
 after_inv x None r h = absurd (cc)
 after_inv x (Some q) r h = (q, refl, cc)
 
-pub opened_inv : (o : Option (List Entry)) (rest : List Entry → Option Row) (r : Row) → opened o rest ≡ Some r → (es : List Entry) × (q : Row) × (o ≡ Some es) × (rest es ≡ Some q) × (r ≡ None ∷ q)
+pub opened_inv : (o : Option (List Entry)) (rest : List Entry → Option Row) (r : Row) → opened o rest ≡ Some r
+    → (es : List Entry) × (q : Row) × (o ≡ Some es) × (rest es ≡ Some q) × (r ≡ None ∷ q)
 opened_inv None rest r h = absurd (cc)
 opened_inv (Some es) rest r h = let i = after_inv None (rest es) r h in (es, i.0, refl, i.1, i.2)
 
@@ -71,12 +75,14 @@ chunks_same waiting [] (t ∷ ts) r h long same = absurd (omega arith)
 chunks_same waiting (s ∷ ss) [] r h long same = absurd (omega arith)
 chunks_same (e ∷ waiting) (s ∷ ss) (t ∷ ts) r h long same =
     let i = after_inv (Some e) (chunks waiting ss) r h in
-    let rest = chunks_same waiting ss ts i.0 i.1 (omega arith) (λ o lt none. same (suc o) (omega arith) (ap (λ (r : Row). get_or r (suc o) None) i.2 ∙ none)) in
+    let rest = chunks_same waiting ss ts i.0 i.1 (omega arith)
+    (λ o lt none. same (suc o) (omega arith) (ap (λ (r : Row). get_or r (suc o) None) i.2 ∙ none)) in
     ap (after (Some e)) rest ∙ ap Some (sym i.2)
 chunks_same [] (s ∷ ss) (t ∷ ts) r h long same =
     let i = opened_inv (entries_in (bytes_of s)) (λ es. chunks es ss) r h in
     let first : t ≡ s = same 0 (omega arith) (ap (λ (r : Row). get_or r 0 None) i.4) in
-    let rest = chunks_same i.0 ss ts i.1 i.3 (omega arith) (λ o lt none. same (suc o) (omega arith) (ap (λ (r : Row). get_or r (suc o) None) i.4 ∙ none)) in
+    let rest = chunks_same i.0 ss ts i.1 i.3 (omega arith)
+    (λ o lt none. same (suc o) (omega arith) (ap (λ (r : Row). get_or r (suc o) None) i.4 ∙ none)) in
     ap (λ (x : Option (List ℕ)). opened (entries_in (bytes_of x)) (λ es. chunks es ts)) first
     ∙ ap (λ (x : Option (List Entry)). opened x (λ es. chunks es ts)) i.2
     ∙ ap (after None) rest
@@ -96,7 +102,8 @@ module _ (c d : Content) (k : CheckpointValue) (long : length d ≡ length c)
   held e = block_same c d (address c k e) (λ lt. same (address c k e) (reached e lt))
 
   addresses : (e : Entry) → address d k e ≡ address c k e
-  addresses e = sym (address_unique d k (address c k) (λ x. address_linked c k x ∙ ap (λ (b : Entry → List ℕ). linked k b x) (fun_ext (λ y. sym (held y)))) e)
+  addresses e = sym (address_unique d k (address c k)
+      (λ x. address_linked c k x ∙ ap (λ (b : Entry → List ℕ). linked k b x) (fun_ext (λ y. sym (held y)))) e)
 
   blocks : (e : Entry) → block d (address d k e) ≡ block c (address c k e)
   blocks e = ap (block d) (addresses e) ∙ held e
@@ -118,7 +125,8 @@ module _ (c d : Content) (k : CheckpointValue) (long : length d ≡ length c)
       chunks_same [] (take u cs) (take u ds) r is (omega arith)
       (λ o lt none.
       let below : o < u = omega arith in
-      let at : cell_at d (2 + 64 * s + o) ≡ cell_at c (2 + 64 * s + o) = same (2 + 64 * s + o) (summary s o below (ap (λ (x : Option Row). place_in x o) is ∙ none)) in
+      let at : cell_at d (2 + 64 * s + o) ≡ cell_at c (2 + 64 * s + o) =
+      same (2 + 64 * s + o) (summary s o below (ap (λ (x : Option Row). place_in x o) is ∙ none)) in
       get_or-take u ds o None below ∙ get_or-drop (2 + 64 * s) d o None ∙ at
       ∙ sym (get_or-drop (2 + 64 * s) c o None) ∙ sym (get_or-take u cs o None below))
 
@@ -127,7 +135,8 @@ module _ (c d : Content) (k : CheckpointValue) (long : length d ≡ length c)
   row_same rows s =
       ap (λ (u : ℕ). chunks [] (take u (drop (2 + 64 * s) d))) (used_same s)
       ∙ ⊎_elim
-      (λ (none : used c k s ≡ 0). ap (λ (u : ℕ). chunks [] (take u (drop (2 + 64 * s) d))) none ∙ sym (ap (λ (u : ℕ). chunks [] (take u (drop (2 + 64 * s) c))) none))
+      (λ (none : used c k s ≡ 0). ap (λ (u : ℕ). chunks [] (take u (drop (2 + 64 * s) d))) none
+      ∙ sym (ap (λ (u : ℕ). chunks [] (take u (drop (2 + 64 * s) c))) none))
       (λ (some : used c k s ≡ 0 → ⊥). let r = rows s (omega arith) in part_same s r.0 r.1 ∙ sym r.1)
       (cases_eq (used c k s) 0)
 

@@ -6,7 +6,8 @@ use Rattle.std.specs.Cmp.Lexicographic.{nat_list_cmp_total}
 use Rattle.std.proofs.lemmas.Cmp.{nat_cmp_total}
 use Rattle.std.specs.FinMap.{find, put, is_sorted}
 use Rattle.std.specs.FinMap.Entries.{is_sorted-put, is_sorted-where_key, length_without, length-put}
-use Rattle.lfs_model.specs.Tree.{Tree, Names, Node, File, Dir, Handles, State, node, without, names, names_in, names_of, form_of, entry, byte_cmp, opened, with_name, without_name}
+use Rattle.lfs_model.specs.Tree.{Tree, Names, Node, File, Dir, Handles, State, node, without, names, names_in, names_of, form_of, entry}
+use Rattle.lfs_model.specs.Tree.{byte_cmp, opened, with_name, without_name}
 use Rattle.lfs_model.specs.Need.{cost, cost_at, need}
 use Rattle.lfs_model.specs.Sound.{Sound, IsWithinLimits}
 use Rattle.lfs_model.specs.Step.{let_go}
@@ -19,7 +20,8 @@ use Rattle.lfs_model.proofs.DirCosts.{dir_cost}
 let_go_less : (t : Tree) (h : Handles) (n : ℕ) → T (is_sorted nat_cmp t) → need (let_go t h n) ≤ need t
 let_go_less t h n order =
     let less = need-without t n order in
-    elim (names t n == 0 && opened h n == 0) as (λ b. need (if b then without nat_cmp n t else t) ≤ need t) [ true ↦ omega (arith, less) | false ↦ omega arith ]
+    elim (names t n == 0 && opened h n == 0) as (λ b. need (if b then without nat_cmp n t else t) ≤ need t)
+    [ true ↦ omega (arith, less) | false ↦ omega arith ]
 
 at_most_one_more : (b : Bool) (x : ℕ) → cond b x (x + 1) ≤ x + 1
 at_most_one_more true x = omega arith
@@ -72,7 +74,8 @@ module _ (N : ℕ) (s : State) (sound : Sound N s) (d n : ℕ) (na nb : List ℕ
       let one : ◌≡◌ {A = ℕ} (cond (is_some (find byte_cmp na m)) 1 0) 1 = ap (λ o. cond (is_some o) 1 0) found in
       omega (arith, less, one)
 
-  length_moved : length m' ≡ cond (is_some (find byte_cmp nb (without byte_cmp na m))) (length (without byte_cmp na m)) (length (without byte_cmp na m) + 1)
+  length_moved : length m'
+      ≡ cond (is_some (find byte_cmp nb (without byte_cmp na m))) (length (without byte_cmp na m)) (length (without byte_cmp na m) + 1)
   length_moved = length-put byte_cmp nat_list_cmp_total nb n (without byte_cmp na m) less_order
 
   no_longer : length m' ≤ length m
@@ -88,7 +91,8 @@ module _ (N : ℕ) (s : State) (sound : Sound N s) (d n : ℕ) (na nb : List ℕ
       let one = need-with_node t d (Dir form (without byte_cmp na m)) sound.in_order in
       let two = need-with_node (without_name t d na) d grown mid_order in
       let was : cost_at (node t d) ≡ cost (Dir form m) = ap cost_at is in
-      let mid : cost_at (node (without_name t d na) d) ≡ cost (Dir form (without byte_cmp na m)) = ap cost_at (find_here t d (Dir form (without byte_cmp na m))) in
+      let mid : cost_at (node (without_name t d na) d) ≡ cost (Dir form (without byte_cmp na m)) =
+      ap cost_at (find_here t d (Dir form (without byte_cmp na m))) in
       let now : cost grown ≡ cost (Dir form m') = ap cost grown_is in
       omega (arith, one, two, was, mid, now)
 
@@ -110,7 +114,8 @@ module _ (N : ℕ) (s : State) (sound : Sound N s) (d n : ℕ) (na nb : List ℕ
 
     same_length : length m' ≡ length m
     same_length =
-        let grows : length m' ≡ length (without byte_cmp na m) + 1 = length_moved ∙ ap (λ o. cond (is_some o) (length (without byte_cmp na m)) (length (without byte_cmp na m) + 1)) not_there in
+        let grows : length m' ≡ length (without byte_cmp na m) + 1 = length_moved
+        ∙ ap (λ o. cond (is_some o) (length (without byte_cmp na m)) (length (without byte_cmp na m) + 1)) not_there in
         let less = length_less in
         omega (arith, grows, less)
 

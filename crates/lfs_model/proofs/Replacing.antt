@@ -1,5 +1,6 @@
 -- Data blocks on the device are replaced or go without being read.
-use Rattle.std.proofs.Common.{◌≡◌, ◌<◌, ◌≤◌, ⊎_elim, ◌+◌, ◌*◌, ◌-◌, ℕ, List, [], length, get_or, Option, Some, refl, sym, ◌∙◌, ap, subst, arith}
+use Rattle.std.proofs.Common.{◌≡◌, ◌<◌, ◌≤◌, ⊎_elim, ◌+◌, ◌*◌, ◌-◌, ℕ, List, [], length, get_or, Option, Some, refl, sym, ◌∙◌, ap, subst}
+use Rattle.std.proofs.Common.{arith}
 use Rattle.std.proofs.lemmas.Bool.{cases_lt}
 use Rattle.std.proofs.lemmas.List.{same_lists, get_or_default}
 use Rattle.std.specs.Prelude.{option_map}
@@ -27,25 +28,29 @@ pub patched_twice : (w u v : ℕ) (b : List ℕ) → 4 * w + 4 ≤ length b → 
 patched_twice w u v b room =
     let once = length-patched w v b room in
     let more : 4 * w + 4 ≤ length (patched w v b) = omega (arith, length-patched w v b room) in
-    same_lists (patched w u (patched w v b)) (patched w u b) (length-patched w u (patched w v b) more ∙ once ∙ sym (length-patched w u b room)) (λ o d lt.
+    same_lists (patched w u (patched w v b)) (patched w u b)
+    (length-patched w u (patched w v b) more ∙ once ∙ sym (length-patched w u b room)) (λ o d lt.
     let l = length-patched w u (patched w v b) more in
     get_or_default (patched w u (patched w v b)) o d 0 lt ∙ each o more
     ∙ sym (get_or_default (patched w u b) o d 0 (omega (arith, lt, l, once, length-patched w u b room))))
   where
     each : (o : ℕ) → 4 * w + 4 ≤ length (patched w v b) → get_or (patched w u (patched w v b)) o 0 ≡ get_or (patched w u b) o 0
     each o more = ⊎_elim
-        (λ (before : o < 4 * w). byte_before w u (patched w v b) more o before ∙ byte_before w v b room o before ∙ sym (byte_before w u b room o before))
+        (λ (before : o < 4 * w). byte_before w u (patched w v b) more o before ∙ byte_before w v b room o before
+        ∙ sym (byte_before w u b room o before))
         (λ (from : 4 * w ≤ o). ⊎_elim
         (λ (inside : o < 4 * w + 4).
         let e : 4 * w + (o - 4 * w) ≡ o = omega arith in
         ap (λ (k : ℕ). get_or (patched w u (patched w v b)) k 0) (sym e) ∙ byte_at w u (patched w v b) more (o - 4 * w) (omega arith)
         ∙ sym (byte_at w u b room (o - 4 * w) (omega arith)) ∙ ap (λ (k : ℕ). get_or (patched w u b) k 0) e)
-        (λ (past : 4 * w + 4 ≤ o). byte_past w u (patched w v b) more o past ∙ byte_past w v b room o past ∙ sym (byte_past w u b room o past))
+        (λ (past : 4 * w + 4 ≤ o). byte_past w u (patched w v b) more o past ∙ byte_past w v b room o past
+        ∙ sym (byte_past w u b room o past))
         (cases_lt o (4 * w + 4)))
         (cases_lt o (4 * w))
 
 -- ---- a block above another in memory is whole
-module _ (d : DeviceState) (dirty : Dirty) (t : Tables) (k : CheckpointValue) (m0 m : LogMap) (seg : ℕ) (chunk : Option (List Entry)) (x : Entry) (address : ℕ)
+module _ (d : DeviceState) (dirty : Dirty) (t : Tables) (k : CheckpointValue) (m0 m : LogMap) (seg : ℕ) (chunk : Option (List Entry))
+    (x : Entry) (address : ℕ)
     (w : Running d dirty t k m0 m seg chunk) (file : IsOfFile x) (at : IsAtAddress dirty t x address) (ne : parent x ≡ x → ⊥) where
   pub above_whole : length (at.pointed ne).0 ≡ 512
   above_whole =
@@ -55,8 +60,10 @@ module _ (d : DeviceState) (dirty : Dirty) (t : Tables) (k : CheckpointValue) (m
       ap length (sym c.2) ∙ w.laid.long (parent x) (file.0, file_of_parent x ∙ file.1) (omega arith)
 
 -- ---- a data block is replaced or goes: as if it were read, and then changed
-module _ (d : DeviceState) (dirty dirty' : Dirty) (t t' : Tables) (k : CheckpointValue) (m0 m m' : LogMap) (seg : ℕ) (chunk : Option (List Entry)) (n i address : ℕ)
-    (w : Running d dirty t k m0 m seg chunk) (at : IsAtAddress dirty t (Data n i) address) (above : 2 ≤ address) (go : IsLifted m t t' (Data n i) 1 (segment_of address)) where
+module _ (d : DeviceState) (dirty dirty' : Dirty) (t t' : Tables) (k : CheckpointValue) (m0 m m' : LogMap) (seg : ℕ)
+    (chunk : Option (List Entry)) (n i address : ℕ)
+    (w : Running d dirty t k m0 m seg chunk) (at : IsAtAddress dirty t (Data n i) address) (above : 2 ≤ address)
+    (go : IsLifted m t t' (Data n i) 1 (segment_of address)) where
   abbrev old : List ℕ
   old = block d.content address
 
@@ -65,7 +72,8 @@ module _ (d : DeviceState) (dirty dirty' : Dirty) (t t' : Tables) (k : Checkpoin
 
   -- the block as it is on the device, in memory
   unfoldable read : Dirty
-  read y = pick (same_entry y (Data n i)) (Some old) (pick (same_entry y (parent (Data n i))) (option_map (patched (pointer (Data n i)) 1) (dirty y)) (dirty y))
+  read y = pick (same_entry y (Data n i)) (Some old)
+      (pick (same_entry y (parent (Data n i))) (option_map (patched (pointer (Data n i)) 1) (dirty y)) (dirty y))
 
   read_own : read (Data n i) ≡ Some old
   unfolding read
@@ -73,7 +81,8 @@ module _ (d : DeviceState) (dirty dirty' : Dirty) (t t' : Tables) (k : Checkpoin
 
   read_above : read (parent (Data n i)) ≡ option_map (patched (pointer (Data n i)) 1) (dirty (parent (Data n i)))
   unfolding read
-  read_above = pick_no (same_entry (parent (Data n i)) (Data n i)) (Some old) _ below ∙ pick_yes (same_entry (parent (Data n i)) (parent (Data n i))) _ (dirty (parent (Data n i))) refl
+  read_above = pick_no (same_entry (parent (Data n i)) (Data n i)) (Some old) _ below
+      ∙ pick_yes (same_entry (parent (Data n i)) (parent (Data n i))) _ (dirty (parent (Data n i))) refl
 
   read_kept : (y : Entry) → (y ≡ Data n i → ⊥) → (y ≡ parent (Data n i) → ⊥) → read y ≡ dirty y
   unfolding read
@@ -84,7 +93,8 @@ module _ (d : DeviceState) (dirty dirty' : Dirty) (t t' : Tables) (k : Checkpoin
       (λ k h on. let bad : Data n i ≡ Inode k = h in absurd (cc))
       (record { own = read_own; patched = λ ne. read_above; kept = read_kept }) go
 
-  replaced : (bytes : List ℕ) → length bytes ≡ 512 → IsWithBlock m n i bytes m' → Fetches dirty dirty' (Data n i) bytes → Running d dirty' t' k m0 m' seg chunk
+  replaced : (bytes : List ℕ) → length bytes ≡ 512 → IsWithBlock m n i bytes m' → Fetches dirty dirty' (Data n i) bytes
+      → Running d dirty' t' k m0 m' seg chunk
   replaced bytes long map fetch = block_rewriting d read dirty' t' k m0 m m' seg chunk n i old bytes was_read read_own long map
       (record {
         own = fetch.own;
@@ -95,7 +105,8 @@ module _ (d : DeviceState) (dirty dirty' : Dirty) (t t' : Tables) (k : Checkpoin
       })
 
   -- the pointer is written once
-  patched_once : option_map (patched (pointer (Data n i)) 0) (dirty (parent (Data n i))) ≡ option_map (patched (pointer (Data n i)) 0) (read (parent (Data n i)))
+  patched_once : option_map (patched (pointer (Data n i)) 0) (dirty (parent (Data n i)))
+      ≡ option_map (patched (pointer (Data n i)) 0) (read (parent (Data n i)))
   patched_once =
       let p = at.pointed below in
       let long = above_whole d dirty t k m0 m seg chunk (Data n i) address w (n, refl) at below in
@@ -113,34 +124,29 @@ module _ (d : DeviceState) (dirty dirty' : Dirty) (t t' : Tables) (k : Checkpoin
       })
 
 pub block_replacing : BlockReplacing
-block_replacing d dirty dirty' t t' k m0 m m' seg chunk n i address bytes w at above long map fetch go = replaced d dirty dirty' t t' k m0 m m' seg chunk n i address w at above go bytes long map fetch
+block_replacing d dirty dirty' t t' k m0 m m' seg chunk n i address bytes w at above long map fetch go =
+    replaced d dirty dirty' t t' k m0 m m' seg chunk n i address w at above go bytes long map fetch
 
 pub block_leaving : BlockLeaving
-block_leaving d dirty dirty' t t' k m0 m m' seg chunk n i address w at above map moves go = left d dirty dirty' t t' k m0 m m' seg chunk n i address w at above go map moves
+block_leaving d dirty dirty' t t' k m0 m m' seg chunk n i address w at above map moves go =
+    left d dirty dirty' t t' k m0 m m' seg chunk n i address w at above go map moves
 
 -- ---- no block of pointers in memory becomes empty
-module _ (d : DeviceState) (dirty dirty' : Dirty) (t : Tables) (k : CheckpointValue) (m0 m : LogMap) (seg : ℕ) (chunk : Option (List Entry)) (x : Entry) (address : ℕ) (bytes : List ℕ)
-    (w : Running d dirty t k m0 m seg chunk) (file : IsOfFile x) (at : IsAtAddress dirty t x address) (fetch : Fetches dirty dirty' x bytes) where
+module _ (d : DeviceState) (dirty dirty' : Dirty) (t : Tables) (k : CheckpointValue) (m0 m : LogMap) (seg : ℕ) (chunk : Option (List Entry))
+    (x : Entry) (address : ℕ) (bytes : List ℕ)
+    (w : Running d dirty t k m0 m seg chunk) (file : IsOfFile x) (at : IsAtAddress dirty t x address)
+    (fetch : Fetches dirty dirty' x bytes) where
   pub above_tight : (b : List ℕ) → (parent x ≡ x → ⊥) → dirty' (parent x) ≡ Some b → HasPointer b
   above_tight b ne held =
       let p = at.pointed ne in
       let long = above_whole d dirty t k m0 m seg chunk x address w file at ne in
       let e : Some (patched (pointer x) 1 p.0) ≡ Some b = sym (fetch.patched ne ∙ ap (option_map (patched (pointer x) 1)) p.1) ∙ held in
-      subst HasPointer (some_is (patched (pointer x) 1 p.0) b e) (pointer_patched (pointer x) 1 p.0 long (pointer_low x at.low) (omega arith) (omega arith))
-
-  fetched_tight : (IsPointers x → HasPointer bytes) → IsTight dirty → IsTight dirty'
-  fetched_tight own tight y b held is = ⊎_elim
-      (λ (here : y ≡ x).
-      let e : Some bytes ≡ Some b = sym (ap dirty' here ∙ fetch.own) ∙ held in
-      subst HasPointer (some_is bytes b e) (own (subst IsPointers here is)))
-      (λ (ne : y ≡ x → ⊥). ⊎_elim
-      (λ (up : y ≡ parent x). above_tight b (λ h. ne (up ∙ h)) (ap dirty' (sym up) ∙ held))
-      (λ (np : y ≡ parent x → ⊥). tight y b (sym (fetch.kept y ne np) ∙ held) is)
-      (same_entry y (parent x)))
-      (same_entry y x)
+      subst HasPointer (some_is (patched (pointer x) 1 p.0) b e)
+      (pointer_patched (pointer x) 1 p.0 long (pointer_low x at.low) (omega arith) (omega arith))
 
 -- where x stands, by memory
-pub address_at : (d : DeviceState) (dirty : Dirty) (t : Tables) (k : CheckpointValue) (m0 m : LogMap) (seg : ℕ) (chunk : Option (List Entry)) (x : Entry) (address : ℕ)
+pub address_at : (d : DeviceState) (dirty : Dirty) (t : Tables) (k : CheckpointValue) (m0 m : LogMap) (seg : ℕ)
+    (chunk : Option (List Entry)) (x : Entry) (address : ℕ)
     (w : Running d dirty t k m0 m seg chunk) → IsAtAddress dirty t x address → w.memory.at x ≡ address
 address_at d dirty t k m0 m seg chunk x address w at = ⊎_elim
     (λ (top : parent x ≡ x). w.tables.at x top ∙ at.top top)
@@ -150,22 +156,3 @@ address_at d dirty t k m0 m seg chunk x address w at = ⊎_elim
     let one = c.1 in
     sym ((reading d.content m w.memory seg w.laid).pointer x ne at.low (omega arith)) ∙ ap (λ (b : List ℕ). word b (pointer x)) c.2 ∙ p.2)
     (same_entry (parent x) x)
-
-pub fetching_tight : FetchingTight
-fetching_tight d dirty dirty' t k m0 m seg chunk x address bytes w file at above is fetch tight =
-    fetched_tight d dirty dirty' t k m0 m seg chunk x address bytes w file at fetch
-    (λ pointers.
-    let a = address_at d dirty t k m0 m seg chunk x address w at in
-    let le : 2 ≤ w.memory.at x = omega arith in
-    subst HasPointer (sym (w.laid.there x le) ∙ ap (block d.content) a ∙ is) (w.laid.some x pointers le))
-    tight
-
-pub block_tight : BlockTight
-block_tight d dirty dirty' t k m0 m seg chunk n i address bytes w at fetch tight =
-    fetched_tight d dirty dirty' t k m0 m seg chunk (Data n i) address bytes w (n, refl) at fetch (λ h. absurd h) tight
-
-pub changing_tight : ChangingTight
-changing_tight dirty dirty' x value none go tight y b held is = ⊎_elim
-    (λ (here : y ≡ x). absurd (none (subst IsPointers here is)))
-    (λ (ne : y ≡ x → ⊥). tight y b (sym (go.others y ne) ∙ held) is)
-    (same_entry y x)

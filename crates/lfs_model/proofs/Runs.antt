@@ -1,5 +1,6 @@
 -- Values of one width, one after the other.
-use Rattle.std.proofs.Common.{◌≡◌, ◌≤◌, ◌<◌, ◌+◌, ◌*◌, ◌^◌, ℕ, zero, suc, List, [], ◌∷◌, ◌++◌, length, get_or, refl, sym, ap, ◌∙◌, arith, length-append}
+use Rattle.std.proofs.Common.{◌≡◌, ◌≤◌, ◌<◌, ◌+◌, ◌*◌, ◌^◌, ℕ, zero, suc, List, [], ◌∷◌, ◌++◌, length, get_or, refl, sym, ap, ◌∙◌, arith}
+use Rattle.std.proofs.Common.{length-append}
 use Rattle.std.specs.List.{flat_map}
 use Rattle.lfs_model.specs.Fields.{le32, words, part, Are32, read32, run, numbers}
 use Rattle.lfs_model.proofs.Numbers.{IsBytes, fronts, length-le32}
@@ -10,7 +11,8 @@ unfolding run
 length-run read w zero at s = refl
 length-run read w (suc n) at s = ap suc (length-run read w n (at + w) s)
 
-pub get_or-run : {X : Type 0} (read : ℕ → List ℕ → X) (w n at : ℕ) (s : List ℕ) (i : ℕ) (d : X) → i < n → get_or (run read w n at s) i d ≡ read (at + w * i) s
+pub get_or-run : {X : Type 0} (read : ℕ → List ℕ → X) (w n at : ℕ) (s : List ℕ) (i : ℕ) (d : X) → i < n
+    → get_or (run read w n at s) i d ≡ read (at + w * i) s
 unfolding run
 get_or-run read w zero at s i d lt = absurd (omega arith)
 get_or-run read w (suc n) at s zero d lt = ap (λ (k : ℕ). read k s) (omega arith)
@@ -36,7 +38,8 @@ run_spelled_each read spell w s zero at one = let e : 0 ≡ w * 0 = omega arith 
 run_spelled_each read spell w s (suc n) at one =
     let more : w * suc n ≡ w + w * n = omega arith in
     let here : at + w * 0 ≡ at = omega arith in
-    let first : spell (read at s) ≡ part at w s = ap (λ (k : ℕ). spell (read k s)) (sym here) ∙ one 0 (omega arith) ∙ ap (λ (k : ℕ). part k w s) here in
+    let first : spell (read at s) ≡ part at w s = ap (λ (k : ℕ). spell (read k s)) (sym here) ∙ one 0 (omega arith)
+    ∙ ap (λ (k : ℕ). part k w s) here in
     let rest = run_spelled_each read spell w s n (at + w) (λ i lt.
     let there : at + w * suc i ≡ at + w + w * i = omega arith in
     ap (λ (k : ℕ). spell (read k s)) (sym there) ∙ one (suc i) (omega arith) ∙ ap (λ (k : ℕ). part k w s) there) in
@@ -44,7 +47,8 @@ run_spelled_each read spell w s (suc n) at one =
     ∙ ap (λ (r : List ℕ). part at w s ++ r) rest
     ∙ part_add at w (w * n) s ∙ ap (λ (m : ℕ). part at m s) (sym more)
 
-pub length-flat : {X : Type 0} (spell : X → List ℕ) (w : ℕ) → ((x : X) → length (spell x) ≡ w) → (xs : List X) → length (flat_map spell xs) ≡ w * length xs
+pub length-flat : {X : Type 0} (spell : X → List ℕ) (w : ℕ) → ((x : X) → length (spell x) ≡ w) → (xs : List X)
+    → length (flat_map spell xs) ≡ w * length xs
 length-flat spell w sized [] = omega arith
 length-flat spell w sized (x ∷ xs) = omega (arith, length-append (spell x) (flat_map spell xs), sized x, length-flat spell w sized xs)
 
@@ -63,14 +67,17 @@ piece_at spell w sized s (x ∷ xs) at room e i d lt =
     let more : w * suc (length xs) ≡ w + w * length xs = omega arith in
     let cut : part at w s ++ part (at + w) (w * length xs) s ≡ spell x ++ flat_map spell xs =
     part_add at w (w * length xs) s ∙ ap (λ (m : ℕ). part at m s) (sym more) ∙ e in
-    let both = fronts (part at w s) (part (at + w) (w * length xs) s) (spell x) (flat_map spell xs) (length-part at w s (omega arith) ∙ sym (sized x)) cut in
+    let both = fronts (part at w s) (part (at + w) (w * length xs) s) (spell x) (flat_map spell xs)
+    (length-part at w s (omega arith) ∙ sym (sized x)) cut in
     piece_step spell w s x xs at d both.0 (λ j lt'. piece_at spell w sized s xs (at + w) (omega arith) both.1 j d lt') i lt
 
-step_back : {X : Type 0} (read : ℕ → List ℕ → X) (w : ℕ) (s : List ℕ) (at : ℕ) (x : X) (xs ys : List X) → read at s ≡ x → ys ≡ xs → read at s ∷ ys ≡ x ∷ xs
+step_back : {X : Type 0} (read : ℕ → List ℕ → X) (w : ℕ) (s : List ℕ) (at : ℕ) (x : X) (xs ys : List X) → read at s ≡ x → ys ≡ xs
+    → read at s ∷ ys ≡ x ∷ xs
 step_back read w s at x xs ys p q = cc
 
 -- what is spelled from a place on is read there
-pub run_is : {X : Type 0} (read : ℕ → List ℕ → X) (spell : X → List ℕ) (P : X → Type 0) (w : ℕ) (s : List ℕ) → ((x : X) → length (spell x) ≡ w)
+pub run_is : {X : Type 0} (read : ℕ → List ℕ → X) (spell : X → List ℕ) (P : X → Type 0) (w : ℕ) (s : List ℕ)
+    → ((x : X) → length (spell x) ≡ w)
     → ((at : ℕ) (x : X) → at + w ≤ length s → P x → part at w s ≡ spell x → read at s ≡ x)
     → (d : X) (xs : List X) (at : ℕ) → at + w * length xs ≤ length s → ((i : ℕ) → i < length xs → P (get_or xs i d))
     → part at (w * length xs) s ≡ flat_map spell xs → run read w (length xs) at s ≡ xs
@@ -80,9 +87,11 @@ run_is read spell P w s sized one d (x ∷ xs) at room fits e =
     let more : w * suc (length xs) ≡ w + w * length xs = omega arith in
     let cut : part at w s ++ part (at + w) (w * length xs) s ≡ spell x ++ flat_map spell xs =
     part_add at w (w * length xs) s ∙ ap (λ (m : ℕ). part at m s) (sym more) ∙ e in
-    let both = fronts (part at w s) (part (at + w) (w * length xs) s) (spell x) (flat_map spell xs) (length-part at w s (omega arith) ∙ sym (sized x)) cut in
+    let both = fronts (part at w s) (part (at + w) (w * length xs) s) (spell x) (flat_map spell xs)
+    (length-part at w s (omega arith) ∙ sym (sized x)) cut in
     let first : read at s ≡ x = one at x (omega arith) (fits 0 (omega arith)) both.0 in
-    let rest : run read w (length xs) (at + w) s ≡ xs = run_is read spell P w s sized one d xs (at + w) (omega arith) (λ i lt. fits (suc i) (omega arith)) both.1 in
+    let rest : run read w (length xs) (at + w) s ≡ xs =
+    run_is read spell P w s sized one d xs (at + w) (omega arith) (λ i lt. fits (suc i) (omega arith)) both.1 in
     step_back read w s at x xs (run read w (length xs) (at + w) s) first rest
 
 -- ---- numbers of 4 bytes
@@ -98,10 +107,12 @@ unfolding words
 words_of_numbers n at s fits room = run_spelled read32 le32 4 s (λ k room'. le32_of_read k s fits room') n at room
 
 -- and read from the bytes that they are spelled by
-pub numbers_is : (n at : ℕ) (s ns : List ℕ) → length ns ≡ n → Are32 ns → at + 4 * n ≤ length s → part at (4 * n) s ≡ words ns → numbers n at s ≡ ns
+pub numbers_is : (n at : ℕ) (s ns : List ℕ) → length ns ≡ n → Are32 ns → at + 4 * n ≤ length s → part at (4 * n) s ≡ words ns
+    → numbers n at s ≡ ns
 unfolding words Are32
 numbers_is n at s ns long small room e =
     let Q : ℕ → Type 0 = λ m. part at (4 * m) s ≡ words ns in
     ap (λ (m : ℕ). numbers m at s) (sym long)
-    ∙ run_is read32 le32 (λ x. x < 2 ^ 32) 4 s length-le32 (λ k x room' lt e'. read32_is k s x lt e') 0 ns at (omega arith) (λ i lt. small i)
+    ∙ run_is read32 le32 (λ x. x < 2 ^ 32) 4 s length-le32 (λ k x room' lt e'. read32_is k s x lt e') 0 ns at (omega arith)
+    (λ i lt. small i)
     (ap (λ (m : ℕ). part at (4 * m) s) long ∙ e)

@@ -1,5 +1,7 @@
 -- Segments are opened, sealed and given back.
-use Rattle.std.proofs.Common.{◌≡◌, ◌<◌, ◌≤◌, ◌⊎◌, ⊎_elim, ◌+◌, ◌*◌, ◌-◌, ◌/◌, ◌%◌, ◌==◌, not, cond, inl, inr, ℕ, zero, suc, Bool, true, false, List, [], ◌∷◌, ◌++◌, length, get_or, map, Option, Some, None, refl, sym, ◌∙◌, ap, subst, arith, length-set, length-append, get_or-set_other, get_or-set_same, eq-eqb}
+use Rattle.std.proofs.Common.{◌≡◌, ◌<◌, ◌≤◌, ◌⊎◌, ⊎_elim, ◌+◌, ◌*◌, ◌-◌, ◌/◌, ◌%◌, ◌==◌, not, cond, inl, inr, ℕ, zero, suc, Bool, true}
+use Rattle.std.proofs.Common.{false, List, [], ◌∷◌, ◌++◌, length, get_or, map, Option, Some, None, refl, sym, ◌∙◌, ap, subst, arith}
+use Rattle.std.proofs.Common.{length-set, length-append, get_or-set_other, get_or-set_same, eq-eqb}
 use Rattle.std.proofs.lemmas.List.{get_or_append_left}
 use Rattle.std.proofs.lemmas.Bool.{cases_eq, cases_Bool}
 use Rattle.lfs_model.specs.Entry.{Entry, Data, Leaf, Inode, Map, Usage, entries_in, word}
@@ -7,7 +9,8 @@ use Rattle.lfs_model.specs.Content.{Content, block}
 use Rattle.lfs_model.specs.Device.{cell_at, put}
 use Rattle.lfs_model.specs.Reach.{Row, View, place_in, row_by}
 use Rattle.lfs_model.specs.Stands.{LogMap, count_up, is_live}
-use Rattle.lfs_model.specs.Memory.{Memory, parent, HasPointer, count_of, live_of, held_of, is_shown, is_held, memory_view, shown, settled_at, those}
+use Rattle.lfs_model.specs.Memory.{Memory, parent, HasPointer, count_of, live_of, held_of, is_shown, is_held, memory_view, shown}
+use Rattle.lfs_model.specs.Memory.{settled_at, those}
 use Rattle.lfs_model.specs.Laid.{IsLaid, IsMapped, SpellsBlock}
 use Rattle.lfs_model.specs.Placing.{IsOpening, Opening, IsReopening, Reopening, Sealing}
 use Rattle.lfs_model.specs.Live.{live_count}
@@ -45,7 +48,8 @@ module _ (e : Content) (m : LogMap) (M : Memory) (o : ℕ) (laid : IsLaid e m M 
         settled = λ i low. subst (λ (f : Entry → ℕ). shown m f (Inode (128 * j + i)) ≡ 1 → ⊥) (sym p.at) (is.settled i low);
         none = subst (λ (f : Entry → ℕ). f (Map j) ≡ 0 → (i : ℕ) → i < 128 → shown m f (Inode (128 * j + i)) ≡ 0) (sym p.at) is.none;
         long = λ le. ap length (bytes_now (Map j)) ∙ is.long (omega (arith, le, at_now (Map j)));
-        spells = λ le i low. ap (λ (b : List ℕ). word b i) (bytes_now (Map j)) ∙ is.spells (omega (arith, le, at_now (Map j))) i low ∙ ap (λ (f : Entry → ℕ). shown m f (Inode (128 * j + i))) (sym p.at);
+        spells = λ le i low. ap (λ (b : List ℕ). word b i) (bytes_now (Map j)) ∙ is.spells (omega (arith, le, at_now (Map j))) i low
+            ∙ ap (λ (f : Entry → ℕ). shown m f (Inode (128 * j + i))) (sym p.at);
         some = λ le. subst HasPointer (sym (bytes_now (Map j))) (is.some (omega (arith, le, at_now (Map j))));
       }
 
@@ -53,7 +57,8 @@ module _ (e : Content) (m : LogMap) (M : Memory) (o : ℕ) (laid : IsLaid e m M 
   rowed = record {
     size = let s = laid.size in let n = p.segments in omega arith;
     few = let n = p.segments in let f = laid.few in omega arith;
-    blocks = λ n i. let s = at_now (Data n i) in (λ has. let lt = (laid.blocks n i).0 has in omega arith, λ lt. (laid.blocks n i).1 (omega arith));
+    blocks = λ n i. let s = at_now (Data n i) in
+        (λ has. let lt = (laid.blocks n i).0 has in omega arith, λ lt. (laid.blocks n i).1 (omega arith));
     inodes = λ n. let s = at_now (Inode n) in (λ has. let lt = (laid.inodes n).0 has in omega arith, λ lt. (laid.inodes n).1 (omega arith));
     down = λ y lt. let s = at_now y in let t = at_now (parent y) in let d = laid.down y (omega arith) in omega arith;
     low = λ n i lt. let s = at_now (Leaf n i) in laid.low n i (omega arith);
@@ -61,7 +66,8 @@ module _ (e : Content) (m : LogMap) (M : Memory) (o : ℕ) (laid : IsLaid e m M 
     up = λ y one. at_now (parent y) ∙ laid.up y (sym (at_now y) ∙ one);
     long = λ y f lt. let s = at_now y in ap length (bytes_now y) ∙ laid.long y f (omega arith);
     spells = λ y lt. let s = at_now y in
-        subst (λ (f : Entry → ℕ). SpellsBlock m f (M'.bytes y) y) (sym p.at) (subst (λ (b : List ℕ). SpellsBlock m M.at b y) (sym (bytes_now y)) (laid.spells y (omega arith)));
+        subst (λ (f : Entry → ℕ). SpellsBlock m f (M'.bytes y) y) (sym p.at)
+        (subst (λ (b : List ℕ). SpellsBlock m M.at b y) (sym (bytes_now y)) (laid.spells y (omega arith)));
     mapped = mapped_now;
     usages = λ i. let s = at_now (Usage i) in (
       λ lt. let b = (laid.usages i).0 (subst (λ (n : ℕ). i < (n + 63) / 64) p.segments lt) in omega arith,
@@ -77,10 +83,12 @@ module _ (e : Content) (m : LogMap) (M : Memory) (o : ℕ) (laid : IsLaid e m M 
   }
 
   pub rowed_counts : (is : Entry → Bool) (t : ℕ) → count_of is M' t ≡ count_of is M t
-  rowed_counts is = same_counts is is M M' laid.named (subst (λ (f : Entry → ℕ). Named f M'.rows) (sym p.at) p.named) (λ y. ap (λ (f : Entry → ℕ). settled_at (those is f y)) p.at)
+  rowed_counts is = same_counts is is M M' laid.named (subst (λ (f : Entry → ℕ). Named f M'.rows) (sym p.at) p.named)
+      (λ y. ap (λ (f : Entry → ℕ). settled_at (those is f y)) p.at)
 
 -- ---- opening
-module _ (e : Content) (m : LogMap) (M : Memory) (none_open : ℕ) (laid : IsLaid e m M none_open) (closed : M.segments ≤ none_open) (s : ℕ) (M' : Memory) (p : IsOpening M s M') where
+module _ (e : Content) (m : LogMap) (M : Memory) (none_open : ℕ) (laid : IsLaid e m M none_open) (closed : M.segments ≤ none_open) (s : ℕ)
+    (M' : Memory) (p : IsOpening M s M') where
   by_row : (P : Row → Type 0) (t : ℕ) → P (None ∷ []) → P (M.rows t) → P (M'.rows t)
   by_row P t here there = ⊎_elim
       (λ (is : t ≡ s). subst P (sym (ap M'.rows is ∙ p.row)) here)
@@ -115,13 +123,15 @@ opening e m M none_open s M' laid closed p =
     (rowed e m M none_open laid s M' is, rowed_counts e m M none_open laid s M' is)
 
 -- ---- opening again
-module _ (e : Content) (m : LogMap) (M : Memory) (none_open : ℕ) (laid : IsLaid e m M none_open) (closed : M.segments ≤ none_open) (s : ℕ) (M' : Memory) (p : IsReopening M s M') where
+module _ (e : Content) (m : LogMap) (M : Memory) (none_open : ℕ) (laid : IsLaid e m M none_open) (closed : M.segments ≤ none_open) (s : ℕ)
+    (M' : Memory) (p : IsReopening M s M') where
   longer : length (M'.rows s) ≡ length (M.rows s) + 1
   longer = ap length p.row ∙ length-append (M.rows s) (None ∷ [])
 
   kept_labels : (t at : ℕ) (x : Entry) → get_or (M.rows t) at None ≡ Some x → get_or (M'.rows t) at None ≡ Some x
   kept_labels t at x is = ⊎_elim
-      (λ (here : t ≡ s). ap (λ (t : ℕ). get_or (M'.rows t) at None) here ∙ ap (λ (r : Row). get_or r at None) p.row ∙ labelled (M.rows s) at (ap (λ (t : ℕ). get_or (M.rows t) at None) (sym here) ∙ is))
+      (λ (here : t ≡ s). ap (λ (t : ℕ). get_or (M'.rows t) at None) here ∙ ap (λ (r : Row). get_or r at None) p.row
+      ∙ labelled (M.rows s) at (ap (λ (t : ℕ). get_or (M.rows t) at None) (sym here) ∙ is))
       (λ (away : t ≡ s → ⊥). ap (λ (r : Row). get_or r at None) (p.rows t away) ∙ is)
       (cases_eq t s)
     where
@@ -165,8 +175,10 @@ at_summary : (before : Row) (es : List Entry) → get_or (before ++ None ∷ map
 at_summary [] es = refl
 at_summary (y ∷ before) es = at_summary before es
 
-module _ (e : Content) (m : LogMap) (M : Memory) (seg : ℕ) (before : Row) (bytes : List ℕ) (es : List Entry) (laid : IsLaid e m M seg) (opened : seg < M.segments)
-    (row : M.rows seg ≡ before ++ None ∷ map Some es) (sealed : row_by e (length before) seg ≡ Some before) (spelt : entries_in bytes ≡ Some es) where
+module _ (e : Content) (m : LogMap) (M : Memory) (seg : ℕ) (before : Row) (bytes : List ℕ) (es : List Entry) (laid : IsLaid e m M seg)
+    (opened : seg < M.segments)
+    (row : M.rows seg ≡ before ++ None ∷ map Some es) (sealed : row_by e (length before) seg ≡ Some before)
+    (spelt : entries_in bytes ≡ Some es) where
   d : Content
   d = put e (2 + 64 * seg + length before) bytes
 
@@ -191,12 +203,15 @@ module _ (e : Content) (m : LogMap) (M : Memory) (seg : ℕ) (before : Row) (byt
       let ls = size_now in
       let len = long in
       let short = laid.short seg in
-      let at : cell_at (put e (2 + 64 * seg + length before) bytes) (2 + 64 * seg + length before) ≡ Some bytes = get_or-set_same e (2 + 64 * seg + length before) (Some bytes) None (omega arith) in
+      let at : cell_at (put e (2 + 64 * seg + length before) bytes) (2 + 64 * seg + length before) ≡ Some bytes =
+      get_or-set_same e (2 + 64 * seg + length before) (Some bytes) None (omega arith) in
       let read = chunk_read (put e (2 + 64 * seg + length before) bytes) seg (length before) bytes es at spelt (omega arith) in
-      let first = row_kept e (put e (2 + 64 * seg + length before) bytes) seg before (omega arith) size_now (λ q lt none. cells (2 + 64 * seg + q) (λ h. omega arith)) sealed in
+      let first = row_kept e (put e (2 + 64 * seg + length before) bytes) seg before (omega arith) size_now
+      (λ q lt none. cells (2 + 64 * seg + q) (λ h. omega arith)) sealed in
       let en : length before + 1 + length es ≡ length (M.rows seg) = omega arith in
       ap (λ (n : ℕ). row_by (put e (2 + 64 * seg + length before) bytes) n seg) (sym en)
-      ∙ row_more (put e (2 + 64 * seg + length before) bytes) seg (length before) (length before + 1 + length es) before (None ∷ map Some es) (omega arith) first read
+      ∙ row_more (put e (2 + 64 * seg + length before) bytes) seg (length before) (length before + 1 + length es) before
+      (None ∷ map Some es) (omega arith) first read
       ∙ ap Some (sym row)
 
   is_sealed : (none : ℕ) → M.segments ≤ none → IsLaid (put e (2 + 64 * seg + length before) bytes) m M none
@@ -219,14 +234,17 @@ module _ (e : Content) (m : LogMap) (M : Memory) (seg : ℕ) (before : Row) (byt
     short = laid.short;
     first = laid.first;
     sealed = λ s ne. ⊎_elim
-        (λ (here : s ≡ seg). subst (λ (t : ℕ). row_by (put e (2 + 64 * seg + length before) bytes) (length (M.rows t)) t ≡ Some (M.rows t)) (sym here) now_sealed)
-        (λ (away : s ≡ seg → ⊥). other_rows e m M seg laid (length before) blank place (put e (2 + 64 * seg + length before) bytes) size_now cells s away)
+        (λ (here : s ≡ seg). subst (λ (t : ℕ). row_by (put e (2 + 64 * seg + length before) bytes) (length (M.rows t)) t ≡ Some (M.rows t))
+        (sym here) now_sealed)
+        (λ (away : s ≡ seg → ⊥).
+        other_rows e m M seg laid (length before) blank place (put e (2 + 64 * seg + length before) bytes) size_now cells s away)
         (cases_eq s seg);
     past = laid.past;
   }
 
 pub sealing : Sealing
-sealing e m M seg before bytes es laid opened row sealed spelt none past = is_sealed e m M seg before bytes es laid opened row sealed spelt none past
+sealing e m M seg before bytes es laid opened row sealed spelt none past =
+    is_sealed e m M seg before bytes es laid opened row sealed spelt none past
 
 -- ---- giving back
 cond_one : (b : Bool) → b ≡ true → cond {A = ℕ} b 1 0 ≡ 1
@@ -242,23 +260,29 @@ count_some p (suc n) o lt on =
 
 pub count_none : (p : ℕ → Bool) (n : ℕ) → ((x : ℕ) → p x ≡ false) → count_up p n ≡ 0
 count_none p zero off = count_up_none p
-count_none p (suc n) off = let rest = count_none p n off in let z = ap {B = ℕ} (λ (b : Bool). cond {A = ℕ} b 1 0) (off n) in omega (arith, rest, z, count_up_more p n)
+count_none p (suc n) off = let rest = count_none p n off in let z = ap {B = ℕ} (λ (b : Bool). cond {A = ℕ} b 1 0) (off n) in
+    omega (arith, rest, z, count_up_more p n)
 
 -- with nothing in its row, nothing in a segment is live
 pub no_row_live : (v : View) (s : ℕ) → v.row s ≡ Some [] → live_count v s ≡ 0
-no_row_live v s is = count_none (is_live v s) 64 (λ x. ap (λ (o : Option Row). elim (place_in o x) [ None ↦ false | Some e ↦ v.address e == 2 + 64 * s + x ]) is)
+no_row_live v s is = count_none (is_live v s) 64
+    (λ x. ap (λ (o : Option Row). elim (place_in o x) [ None ↦ false | Some e ↦ v.address e == 2 + 64 * s + x ]) is)
 
 -- where an entry stands that is counted, its segment's count isn't 0
-pub some_counted : (is : Entry → Bool) (M : Memory) → Named M.at M.rows → (x : Entry) → is x ≡ true → 2 ≤ M.at x → 0 < count_of is M (segment_of (M.at x))
+pub some_counted : (is : Entry → Bool) (M : Memory) → Named M.at M.rows → (x : Entry) → is x ≡ true → 2 ≤ M.at x
+    → 0 < count_of is M (segment_of (M.at x))
 some_counted is M named x on le =
     let s = segment_of (M.at x) in
     let o = (M.at x - 2) % 64 in
-    let there : settled_at (those is M.at x) ≡ 2 + 64 * segment_of (M.at x) + (M.at x - 2) % 64 = ap settled_at (those_in is M.at x on) ∙ settled_above (M.at x) le ∙ (omega arith) in
+    let there : settled_at (those is M.at x) ≡ 2 + 64 * segment_of (M.at x) + (M.at x - 2) % 64 = ap settled_at (those_in is M.at x on)
+    ∙ settled_above (M.at x) le ∙ (omega arith) in
     count_some (is_live (memory_view is M) s) 64 o (omega arith)
-    (ap (λ (y : Option Entry). elim y as (λ z. Bool) [ None ↦ false | Some e ↦ settled_at (those is M.at e) == 2 + 64 * s + o ]) (named x le)
+    (ap (λ (y : Option Entry). elim y as (λ z. Bool) [ None ↦ false | Some e ↦ settled_at (those is M.at e) == 2 + 64 * s + o ])
+    (named x le)
     ∙ eq-eqb (settled_at (those is M.at x)) (2 + 64 * s + o) there)
 
-module _ (e : Content) (m : LogMap) (M M' : Memory) (opened_at : ℕ) (laid : IsLaid e m M opened_at) (closed : M.segments ≤ opened_at) (p : IsReleasing m M M') where
+module _ (e : Content) (m : LogMap) (M M' : Memory) (opened_at : ℕ) (laid : IsLaid e m M opened_at) (closed : M.segments ≤ opened_at)
+    (p : IsReleasing m M M') where
   by_live : (P : Row → Type 0) (s : ℕ) → P [] → P (M.rows s) → P (M'.rows s)
   by_live P s none some = ⊎_elim
       (λ (z : live_of m M s ≡ 0).

@@ -1,5 +1,6 @@
 -- A tree with a name taken out of a directory, the name of a file or a link.
-use Rattle.std.proofs.Common.{◌≡◌, ◌≢◌, refl, sym, ap, subst, ◌∙◌, ℕ, ◌+◌, ◌≤◌, Bool, true, false, List, [], Option, Some, None, arith, cond, eqb}
+use Rattle.std.proofs.Common.{◌≡◌, ◌≢◌, refl, sym, ap, subst, ◌∙◌, ℕ, ◌+◌, ◌≤◌, Bool, true, false, List, [], Option, Some, None, arith}
+use Rattle.std.proofs.Common.{cond, eqb}
 use Rattle.std.specs.Prelude.{T, count_by, unwrap_or, if◌then◌else◌, ◌==◌}
 use Rattle.std.proofs.Math.Path.{fun_ext}
 use Rattle.std.specs.Ordering.{nat_cmp, eq_by_cmp, is_eq}
@@ -9,7 +10,8 @@ use Rattle.std.proofs.lemmas.Cmp.{nat_cmp_total}
 use Rattle.std.proofs.lemmas.Bool.Decides.{nat_tests}
 use Rattle.std.specs.FinMap.{find, is_sorted}
 use Rattle.std.specs.FinMap.Entries.{is_sorted-put, find_tied}
-use Rattle.lfs_model.specs.Tree.{Tree, Names, Node, File, Dir, Link, node, with_node, without, names_in, names_of, is_dir, entry, byte_cmp, names, links, links_at}
+use Rattle.lfs_model.specs.Tree.{Tree, Names, Node, File, Dir, Link, node, with_node, without, names_in, names_of, is_dir, entry, byte_cmp}
+use Rattle.lfs_model.specs.Tree.{names, links, links_at}
 use Rattle.lfs_model.specs.Sound.{IsReachable, root, below}
 use Rattle.lfs_model.proofs.Sums.{total_put, total_without, weight, find_without, weight-le-total}
 use Rattle.lfs_model.proofs.Trees.{find_here, find_other}
@@ -33,7 +35,8 @@ named_counts t q x k e = by (node t q) refl e
         omega (arith, inner, outer, is)
 
 module _ (t : Tree) (d n form : ℕ) (m : Names) (nm : List ℕ)
-    (in_order : T (is_sorted nat_cmp t)) (is : node t d ≡ Some (Dir form m)) (dir_order : T (is_sorted byte_cmp m)) (found : find byte_cmp nm m ≡ Some n) where
+    (in_order : T (is_sorted nat_cmp t)) (is : node t d ≡ Some (Dir form m)) (dir_order : T (is_sorted byte_cmp m))
+    (found : find byte_cmp nm m ≡ Some n) where
   abbrev pub shrunk : Node
   shrunk = Dir form (without byte_cmp nm m)
 
@@ -60,7 +63,8 @@ module _ (t : Tree) (d n form : ℕ) (m : Names) (nm : List ℕ)
   counted : (f : ℕ → Bool) → count_by (λ e. f e.1) (without byte_cmp nm m) + (if f n then 1 else 0) ≡ count_by (λ e. f e.1) m
   counted f =
       let all = total_without nat_list_cmp_total (λ v. if f v then 1 else 0) nm m dir_order in
-      let one : weight nat_list_cmp_total (λ v. if f v then 1 else 0) (find byte_cmp nm m) ≡ (if f n then 1 else 0) = ap (weight nat_list_cmp_total (λ v. if f v then 1 else 0)) found in
+      let one : weight nat_list_cmp_total (λ v. if f v then 1 else 0) (find byte_cmp nm m) ≡ (if f n then 1 else 0) =
+      ap (weight nat_list_cmp_total (λ v. if f v then 1 else 0)) found in
       omega (arith, all, one)
 
   pub names_after : (q : ℕ) → names after q + (if n == q then 1 else 0) ≡ names t q
@@ -71,7 +75,8 @@ module _ (t : Tree) (d n form : ℕ) (m : Names) (nm : List ℕ)
       omega (arith, one, was, less)
 
   pub names_kept : (q : ℕ) → q ≢ n → names after q ≡ names t q
-  names_kept q ne = let no : eqb n q ≡ false = grind (arith, nat_tests) in let e = names_after q in let z : ◌≡◌ {A = ℕ} (if n == q then 1 else 0) 0 = rw no refl in omega (arith, e, z)
+  names_kept q ne = let no : eqb n q ≡ false = grind (arith, nat_tests) in let e = names_after q in
+      let z : ◌≡◌ {A = ℕ} (if n == q then 1 else 0) 0 = rw no refl in omega (arith, e, z)
 
   nodes_names : Option Node → Names
   nodes_names o = names_of (unwrap_or o (File []))
@@ -106,7 +111,8 @@ module _ (t : Tree) (d n form : ℕ) (m : Names) (nm : List ℕ)
   tied : (x : List ℕ) (k : ℕ) → k ≢ n → find byte_cmp x m ≡ Some k → eq_by_cmp byte_cmp x nm ≡ false
   tied x k ne e = elim (byte_cmp x nm) as (λ r. byte_cmp x nm ≡ r → is_eq r ≡ false) [
     | Less ↦ λ _. refl
-    | Equal ↦ λ tie. absurd (ne (let same : find byte_cmp nm m ≡ find byte_cmp x m = find_tied byte_cmp nat_list_cmp_total x nm tie m in let a = found in cc))
+    | Equal ↦ λ tie. absurd
+        (ne (let same : find byte_cmp nm m ≡ find byte_cmp x m = find_tied byte_cmp nat_list_cmp_total x nm tie m in let a = found in cc))
     | Greater ↦ λ _. refl
   ] refl
 
@@ -118,7 +124,8 @@ module _ (t : Tree) (d n form : ℕ) (m : Names) (nm : List ℕ)
       (λ ne. ap (find byte_cmp x) (names_in_other q ne) ∙ e)
 
   subdirs_same : (ms : Names) → count_by (λ x. is_dir (node after x.1)) ms ≡ count_by (λ x. is_dir (node t x.1)) ms
-  subdirs_same ms = let f : (λ (q : ℕ). is_dir (node after q)) ≡ (λ (q : ℕ). is_dir (node t q)) = fun_ext dirs in ap (λ (f : ℕ → Bool). count_by (λ (x : List ℕ × ℕ). f x.1) ms) f
+  subdirs_same ms = let f : (λ (q : ℕ). is_dir (node after q)) ≡ (λ (q : ℕ). is_dir (node t q)) = fun_ext dirs in
+      ap (λ (f : ℕ → Bool). count_by (λ (x : List ℕ × ℕ). f x.1) ms) f
 
   names_less : (q : ℕ) → names after q ≤ names t q
   names_less q = let e = names_after q in omega arith
@@ -127,7 +134,8 @@ module _ (t : Tree) (d n form : ℕ) (m : Names) (nm : List ℕ)
   links_less q = same_or_not q d
       (λ e. subst (λ x. links after x ≤ links t x) (sym e) (
       let fewer = counted (λ q. is_dir (node t q)) in
-      let now : links after d ≡ 2 + count_by (λ x. is_dir (node t x.1)) (without byte_cmp nm m) = ap (links_at after d) at_dir ∙ ap (λ c. 2 + c) (subdirs_same (without byte_cmp nm m)) in
+      let now : links after d ≡ 2 + count_by (λ x. is_dir (node t x.1)) (without byte_cmp nm m) = ap (links_at after d) at_dir
+      ∙ ap (λ c. 2 + c) (subdirs_same (without byte_cmp nm m)) in
       let was : links t d ≡ 2 + count_by (λ x. is_dir (node t x.1)) m = ap (links_at t d) is in
       omega (arith, fewer, now, was)))
       (λ b. subst (λ k. k ≤ links t q) (sym (ap (links_at after q) (at_other q b))) (by (node t q)))
@@ -143,14 +151,16 @@ module _ (t : Tree) (d n form : ℕ) (m : Names) (nm : List ℕ)
   links_lost dir =
       let fewer = counted (λ q. is_dir (node t q)) in
       let one : ◌≡◌ {A = ℕ} (if is_dir (node t n) then 1 else 0) 1 = ap (λ (b : Bool). if b then 1 else 0) dir in
-      let now : links after d ≡ 2 + count_by (λ x. is_dir (node t x.1)) (without byte_cmp nm m) = ap (links_at after d) at_dir ∙ ap (λ c. 2 + c) (subdirs_same (without byte_cmp nm m)) in
+      let now : links after d ≡ 2 + count_by (λ x. is_dir (node t x.1)) (without byte_cmp nm m) = ap (links_at after d) at_dir
+      ∙ ap (λ c. 2 + c) (subdirs_same (without byte_cmp nm m)) in
       let was : links t d ≡ 2 + count_by (λ x. is_dir (node t x.1)) m = ap (links_at t d) is in
       omega (arith, fewer, one, now, was)
 
   -- a directory that was reached still is
   pub reached_kept : is_dir (node t n) ≡ false → {q : ℕ} → IsReachable t q → is_dir (node t q) ≡ true → IsReachable after q
   reached_kept plain root dir = root
-  reached_kept plain (below {d = e} {n = k} x r at) dir = below x (reached_kept plain r (holder e x k at)) (entry_kept e x k (λ same. let no : is_dir (node t k) ≡ false = subst (λ y. is_dir (node t y) ≡ false) (sym same) plain in cc) at)
+  reached_kept plain (below {d = e} {n = k} x r at) dir = below x (reached_kept plain r (holder e x k at))
+      (entry_kept e x k (λ same. let no : is_dir (node t k) ≡ false = subst (λ y. is_dir (node t y) ≡ false) (sym same) plain in cc) at)
     where
       holder : (e : ℕ) (x : List ℕ) (k : ℕ) → entry t e x ≡ Some k → is_dir (node t e) ≡ true
       holder e x k at = by (node t e) at

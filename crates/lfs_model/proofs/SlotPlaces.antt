@@ -13,7 +13,8 @@ room zero = omega arith
 room (suc form) = omega arith
 
 unfoldable pub fields : ℕ → SlotValue → List Field
-fields form v = (4, le32 v.number) ∷ (1, length v.name ∷ []) ∷ (length v.name, v.name) ∷ (name_len form - length v.name, zeros (name_len form - length v.name)) ∷ []
+fields form v = (4, le32 v.number) ∷ (1, length v.name ∷ []) ∷ (length v.name, v.name)
+    ∷ (name_len form - length v.name, zeros (name_len form - length v.name)) ∷ []
 
 pub record ReadsAs (form : ℕ) (b : List ℕ) (v : SlotValue) : Type 0 where
   pub number : part 0 4 b ≡ le32 v.number
@@ -35,9 +36,11 @@ reads_from form b v e =
     let laid : Laid b 0 (fields form v) = laid_from b 0 (fields form v) (sized form v) e in
     record { number = laid.0; len = laid.1.0; name = laid.1.1.0; rest = laid.1.1.1.0 }
 
-pub reads_to : (form : ℕ) (b : List ℕ) (v : SlotValue) → length b ≡ slot_len form → length v.name ≤ name_len form → ReadsAs form b v → b ≡ slot_bytes form v
+pub reads_to : (form : ℕ) (b : List ℕ) (v : SlotValue) → length b ≡ slot_len form → length v.name ≤ name_len form → ReadsAs form b v
+    → b ≡ slot_bytes form v
 unfolding fields slot_bytes
-reads_to form b v long short r = let least = room form in laid_to b 0 (fields form v) (omega arith) (r.number, (r.len, (r.name, (r.rest, tt))))
+reads_to form b v long short r = let least = room form in
+    laid_to b 0 (fields form v) (omega arith) (r.number, (r.len, (r.name, (r.rest, tt))))
 
 -- the length that a slot says
 pub length_at : (form : ℕ) (b : List ℕ) (v : SlotValue) → length b ≡ slot_len form → ReadsAs form b v → get_or b 4 0 ≡ length v.name
@@ -51,7 +54,8 @@ slot_reads form b len bytes long is short none =
     let cut = get_or b 4 0 in
     let e : length (part 5 cut b) ≡ cut = length-part 5 cut b (omega arith) in
     let rest : part (5 + cut) (name_len form - cut) b ≡ zeros (name_len form - cut) =
-    zeros_from_each (part (5 + cut) (name_len form - cut) b) (name_len form - cut) (length-part (5 + cut) (name_len form - cut) b (omega arith))
+    zeros_from_each (part (5 + cut) (name_len form - cut) b) (name_len form - cut)
+    (length-part (5 + cut) (name_len form - cut) b (omega arith))
     (λ i lt.
     let wide = length-part (5 + cut) (name_len form - cut) b (omega arith) in
     let within : i < name_len form - cut = omega arith in
@@ -68,7 +72,8 @@ pub name_at : (form : ℕ) (b : List ℕ) (v : SlotValue) → length b ≡ slot_
 name_at form b v long r = ap (λ (n : ℕ). part 5 n b) (length_at form b v long r) ∙ r.name
 
 -- and zeros past it
-pub zeros_past : (form : ℕ) (b : List ℕ) (v : SlotValue) → length b ≡ slot_len form → length v.name ≤ name_len form → ReadsAs form b v → (i : ℕ) → 5 + get_or b 4 0 ≤ i → i < slot_len form → get_or b i 0 ≡ 0
+pub zeros_past : (form : ℕ) (b : List ℕ) (v : SlotValue) → length b ≡ slot_len form → length v.name ≤ name_len form → ReadsAs form b v
+    → (i : ℕ) → 5 + get_or b 4 0 ≤ i → i < slot_len form → get_or b i 0 ≡ 0
 zeros_past form b v long short r i low high =
     let least = room form in
     let len = length v.name in
@@ -86,7 +91,8 @@ slot_back form v p =
     let b = slot_bytes form v in
     let r = reads_from form b v refl in
     let number : read32 0 b ≡ v.number = read32_is 0 b v.number (omega (arith, p.number.1)) r.number in
-    ap (λ (n : ℕ). built n (part 5 (get_or b 4 0) b)) number ∙ ap (λ (x : List ℕ). built v.number x) (name_at form b v (length-slot form v p) r)
+    ap (λ (n : ℕ). built n (part 5 (get_or b 4 0) b)) number
+    ∙ ap (λ (x : List ℕ). built v.number x) (name_at form b v (length-slot form v p) r)
 
 -- two slots of the same bytes are one
 pub one_slot : (form : ℕ) (a b : SlotValue) → FitsSlot form a → FitsSlot form b → slot_bytes form a ≡ slot_bytes form b → a ≡ b

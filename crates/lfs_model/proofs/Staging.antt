@@ -17,12 +17,16 @@ use Rattle.lfs_model.proofs.Leaving.{left_memory, left_taken, left_cached, still
 use Rattle.lfs_model.proofs.Lifting.{lifting}
 use Rattle.lfs_model.proofs.Outgoing.{map_lifting}
 use Rattle.lfs_model.proofs.Reading.{reading}
-use Rattle.lfs_model.proofs.Running.{pick, pick_yes, pick_no, taken_memory, is_taken, addressed, lifted_tables, lifted_fresh, usage_kept, part_same, kept_same, open_same}
+use Rattle.lfs_model.proofs.Running.{pick, pick_yes, pick_no, taken_memory, is_taken, addressed, lifted_tables, lifted_fresh, usage_kept}
+use Rattle.lfs_model.proofs.Running.{part_same, kept_same, open_same}
 use Rattle.lfs_model.proofs.Tables.{map_table, usage_table}
 
-module _ (d : DeviceState) (dirty dirty' : Dirty) (t t' : Tables) (k : CheckpointValue) (m0 m : LogMap) (seg : ℕ) (chunk : Option (List Entry)) (x : Entry) (address : ℕ) (bytes : List ℕ)
-    (w : Running d dirty t k m0 m seg chunk) (file : IsOfFile x) (at : IsAtAddress dirty t x address) (above : 2 ≤ address) (is : block d.content address ≡ bytes)
-    (map : (n : ℕ) → x ≡ Inode n → is_shown m x ≡ true → t.at (Map (n / 128)) ≡ 1) (fetch : Fetches dirty dirty' x bytes) (go : IsLifted m t t' x 1 (segment_of address)) where
+module _ (d : DeviceState) (dirty dirty' : Dirty) (t t' : Tables) (k : CheckpointValue) (m0 m : LogMap) (seg : ℕ)
+    (chunk : Option (List Entry)) (x : Entry) (address : ℕ) (bytes : List ℕ)
+    (w : Running d dirty t k m0 m seg chunk) (file : IsOfFile x) (at : IsAtAddress dirty t x address) (above : 2 ≤ address)
+    (is : block d.content address ≡ bytes)
+    (map : (n : ℕ) → x ≡ Inode n → is_shown m x ≡ true → t.at (Map (n / 128)) ≡ 1) (fetch : Fetches dirty dirty' x bytes)
+    (go : IsLifted m t t' x 1 (segment_of address)) where
   address_is : w.memory.at x ≡ address
   address_is = ⊎_elim
       (λ (top : parent x ≡ x). w.tables.at x top ∙ at.top top)
@@ -37,7 +41,8 @@ module _ (d : DeviceState) (dirty dirty' : Dirty) (t t' : Tables) (k : Checkpoin
   placed = let s = address_is in omega arith
 
   bytes_next : Entry → List ℕ
-  bytes_next y = pick (same_entry y x) (w.memory.bytes x) (pick (same_entry y (parent x)) (patched (pointer x) 1 (w.memory.bytes y)) (w.memory.bytes y))
+  bytes_next y = pick (same_entry y x) (w.memory.bytes x)
+      (pick (same_entry y (parent x)) (patched (pointer x) 1 (w.memory.bytes y)) (w.memory.bytes y))
 
   next : Memory
   next = taken_memory w.memory x 1 bytes_next
@@ -52,7 +57,8 @@ module _ (d : DeviceState) (dirty dirty' : Dirty) (t t' : Tables) (k : Checkpoin
 
   of_parent : (parent x ≡ x → ⊥) → bytes_next (parent x) ≡ patched (pointer x) 1 (w.memory.bytes (parent x))
   unfolding bytes_next
-  of_parent ne = pick_no (same_entry (parent x) x) (w.memory.bytes x) _ ne ∙ pick_yes (same_entry (parent x) (parent x)) _ (w.memory.bytes (parent x)) refl
+  of_parent ne = pick_no (same_entry (parent x) x) (w.memory.bytes x) _ ne
+      ∙ pick_yes (same_entry (parent x) (parent x)) _ (w.memory.bytes (parent x)) refl
 
   taken_now : IsTaken w.memory x 1 next
   unfolding next
@@ -90,9 +96,14 @@ module _ (d : DeviceState) (dirty dirty' : Dirty) (t t' : Tables) (k : Checkpoin
         let np : parent x ≡ x → ⊥ = λ h. ne (up ∙ h) in
         let p = at.pointed np in
         let c = w.cached.cached (parent x) p.0 p.1 in
-        let e : Some b ≡ Some (patched (pointer x) 1 p.0) = sym held ∙ ap dirty' up ∙ fetch.patched np ∙ ap (option_map (patched (pointer x) 1)) p.1 in
-        let same : b ≡ patched (pointer x) 1 p.0 = cc in
-        (subst IsOfFile (sym up) parent_file, taken_now.others y ne ∙ ap w.memory.at up ∙ c.1, ap bytes_next up ∙ of_parent np ∙ ap (patched (pointer x) 1) c.2 ∙ sym same))
+        let e : Some b ≡ Some (patched (pointer x) 1 p.0) = sym held ∙ ap dirty' up ∙ fetch.patched np
+        ∙ ap (option_map (patched (pointer x) 1)) p.1 in
+        let same : b ≡ patched (pointer x) 1 p.0 = cc in (
+          subst IsOfFile (sym up) parent_file,
+          taken_now.others y ne ∙ ap w.memory.at up ∙ c.1,
+          ap bytes_next up ∙ of_parent np
+              ∙ ap (patched (pointer x) 1) c.2 ∙ sym same,
+        ))
         (λ (np : y ≡ parent x → ⊥).
         let c = w.cached.cached y b (sym (fetch.kept y ne np) ∙ held) in
         (c.0, taken_now.others y ne ∙ c.1, kept y ne np ∙ c.2))
@@ -104,8 +115,11 @@ module _ (d : DeviceState) (dirty dirty' : Dirty) (t t' : Tables) (k : Checkpoin
         let was = w.cached.found y f (sym (taken_now.others y ne) ∙ one) in
         ⊎_elim
         (λ (up : y ≡ parent x).
-        let np : parent x ≡ x → ⊥ = λ h. ne (up ∙ h) in
-        (patched (pointer x) 1 was.0, ap dirty' up ∙ fetch.patched np ∙ ap (option_map (patched (pointer x) 1)) (ap dirty (sym up) ∙ was.1)))
+        let np : parent x ≡ x → ⊥ = λ h. ne (up ∙ h) in (
+          patched (pointer x) 1 was.0,
+          ap dirty' up ∙ fetch.patched np
+              ∙ ap (option_map (patched (pointer x) 1)) (ap dirty (sym up) ∙ was.1),
+        ))
         (λ (np : y ≡ parent x → ⊥). (was.0, fetch.kept y ne np ∙ was.1))
         (same_entry y (parent x)))
         (same_entry y x);
@@ -122,7 +136,8 @@ module _ (d : DeviceState) (dirty dirty' : Dirty) (t t' : Tables) (k : Checkpoin
     segments = w.segments;
     settled = w.settled;
     cached = cached_now;
-    tables = lifted_tables d.content m w.memory seg x 1 next t t' w.laid placed taken_now w.tables (subst (λ (a : ℕ). IsLifted m t t' x 1 (segment_of a)) (sym address_is) go);
+    tables = lifted_tables d.content m w.memory seg x 1 next t t' w.laid placed taken_now w.tables
+        (subst (λ (a : ℕ). IsLifted m t t' x 1 (segment_of a)) (sym address_is) go);
     fresh = λ j off low. let no = lifted_fresh m t t' x 1 (segment_of address) go j off in
         subst (SpellsUsage t' j) (sym (usage_same j)) (no.1 (w.memory.bytes (Usage j)) (w.fresh j no.0 low));
     part = part_same t t' go.used go.kept w.part;
@@ -139,16 +154,20 @@ module _ (d : DeviceState) (dirty dirty' : Dirty) (t t' : Tables) (k : Checkpoin
       (same_entry y x)
 
 pub fetching : Fetching
-fetching d dirty dirty' t t' k m0 m seg chunk x address bytes w file at above is map fetch go = fetched d dirty dirty' t t' k m0 m seg chunk x address bytes w file at above is map fetch go
+fetching d dirty dirty' t t' k m0 m seg chunk x address bytes w file at above is map fetch go =
+    fetched d dirty dirty' t t' k m0 m seg chunk x address bytes w file at above is map fetch go
 
 -- A block that comes into memory leaves every other address as it was, and gives no new one.
-pub fetching_traces : (d : DeviceState) (dirty dirty' : Dirty) (t t' : Tables) (k : CheckpointValue) (m0 m : LogMap) (seg : ℕ) (chunk : Option (List Entry)) (x : Entry) (address : ℕ) (bytes : List ℕ)
+pub fetching_traces : (d : DeviceState) (dirty dirty' : Dirty) (t t' : Tables) (k : CheckpointValue) (m0 m : LogMap) (seg : ℕ)
+    (chunk : Option (List Entry)) (x : Entry) (address : ℕ) (bytes : List ℕ)
     → (w : Running d dirty t k m0 m seg chunk) → IsOfFile x → IsAtAddress dirty t x address → 2 ≤ address → block d.content address ≡ bytes
     → ((n : ℕ) → x ≡ Inode n → is_shown m x ≡ true → t.at (Map (n / 128)) ≡ 1)
     → Fetches dirty dirty' x bytes → IsLifted m t t' x 1 (segment_of address)
     → (w' : Running d dirty' t' k m0 m seg chunk) × ((y : Entry) → 2 ≤ w'.memory.at y → w.memory.at y ≡ w'.memory.at y)
-fetching_traces d dirty dirty' t t' k m0 m seg chunk x address bytes w file at above is map fetch go =
-    (fetched d dirty dirty' t t' k m0 m seg chunk x address bytes w file at above is map fetch go, fetched_traces d dirty dirty' t t' k m0 m seg chunk x address bytes w file at above is map fetch go)
+fetching_traces d dirty dirty' t t' k m0 m seg chunk x address bytes w file at above is map fetch go = (
+  fetched d dirty dirty' t t' k m0 m seg chunk x address bytes w file at above is map fetch go,
+  fetched_traces d dirty dirty' t t' k m0 m seg chunk x address bytes w file at above is map fetch go,
+)
 
 -- ---- inode map blocks
 pub map_fetching : MapFetching
@@ -159,13 +178,16 @@ map_fetching d dirty t t' k m0 m seg chunk j w above go =
     let was : 2 ≤ w.memory.at (Map j) = omega arith in
     record {
       memory = left_memory d dirty t t' k m0 m seg chunk w (Map j) (map_table j) 1 (omega arith);
-      laid = map_lifting d.content m w.memory seg j (left_memory d dirty t t' k m0 m seg chunk w (Map j) (map_table j) 1 (omega arith)) w.laid (record { taken = p; bytes = refl });
+      laid = map_lifting d.content m w.memory seg j (left_memory d dirty t t' k m0 m seg chunk w (Map j) (map_table j) 1 (omega arith))
+          w.laid (record { taken = p; bytes = refl });
       segments = w.segments;
       settled = w.settled;
       cached = left_cached d dirty t t' k m0 m seg chunk w (Map j) (map_table j) 1 (omega arith);
-      tables = lifted_tables d.content m w.memory seg (Map j) 1 (left_memory d dirty t t' k m0 m seg chunk w (Map j) (map_table j) 1 (omega arith)) t t' w.laid was p w.tables
+      tables = lifted_tables d.content m w.memory seg (Map j) 1
+          (left_memory d dirty t t' k m0 m seg chunk w (Map j) (map_table j) 1 (omega arith)) t t' w.laid was p w.tables
           (subst (λ (a : ℕ). IsLifted m t t' (Map j) 1 (segment_of a)) (sym same) go);
-      fresh = λ i off low. let no = lifted_fresh m t t' (Map j) 1 (segment_of (t.at (Map j))) go i off in no.1 (w.memory.bytes (Usage i)) (w.fresh i no.0 low);
+      fresh = λ i off low. let no = lifted_fresh m t t' (Map j) 1 (segment_of (t.at (Map j))) go i off in
+          no.1 (w.memory.bytes (Usage i)) (w.fresh i no.0 low);
       part = part_same t t' go.used go.kept w.part;
       kept = kept_same d.content k t t' go.kept w.kept;
       opened = still_open d dirty t t' k m0 m seg chunk w (Map j) (map_table j) 1 (omega arith) chunk w.opened go.kept;
@@ -176,20 +198,24 @@ unfolding left_memory taken_memory
 map_adding d dirty t t' k m0 m seg chunk j w none go =
     let p = left_taken d dirty t t' k m0 m seg chunk w (Map j) (map_table j) 1 (omega arith) in
     let was : w.memory.at (Map j) ≡ 0 = w.tables.at (Map j) refl ∙ none in
-    let counts = unplaced_counts d.content m w.memory seg (Map j) 1 (left_memory d dirty t t' k m0 m seg chunk w (Map j) (map_table j) 1 (omega arith)) w.laid (omega (arith, was)) p in
+    let counts = unplaced_counts d.content m w.memory seg (Map j) 1
+    (left_memory d dirty t t' k m0 m seg chunk w (Map j) (map_table j) 1 (omega arith)) w.laid (omega (arith, was)) p in
     record {
       memory = left_memory d dirty t t' k m0 m seg chunk w (Map j) (map_table j) 1 (omega arith);
-      laid = map_lifting d.content m w.memory seg j (left_memory d dirty t t' k m0 m seg chunk w (Map j) (map_table j) 1 (omega arith)) w.laid (record { taken = p; bytes = refl });
+      laid = map_lifting d.content m w.memory seg j (left_memory d dirty t t' k m0 m seg chunk w (Map j) (map_table j) 1 (omega arith))
+          w.laid (record { taken = p; bytes = refl });
       segments = w.segments;
       settled = w.settled;
       cached = left_cached d dirty t t' k m0 m seg chunk w (Map j) (map_table j) 1 (omega arith);
       tables = record {
-        at = addressed t t' (Map j) 1 w.memory (left_memory d dirty t t' k m0 m seg chunk w (Map j) (map_table j) 1 (omega arith)) go.at p.at p.others w.tables.at;
+        at = addressed t t' (Map j) 1 w.memory (left_memory d dirty t t' k m0 m seg chunk w (Map j) (map_table j) 1 (omega arith)) go.at
+            p.at p.others w.tables.at;
         used = λ s. go.used s ∙ w.tables.used s;
         live = λ s. go.live s ∙ w.tables.live s ∙ sym (counts (is_shown m) s);
         held = λ s. go.held s ∙ w.tables.held s ∙ sym (counts (is_held m) s);
       };
-      fresh = λ i off low. usage_kept t t' i (w.memory.bytes (Usage i)) (λ q lt. (go.used (64 * i + q), go.live (64 * i + q), go.age (64 * i + q))) (w.fresh i (sym (go.stale i) ∙ off) low);
+      fresh = λ i off low. usage_kept t t' i (w.memory.bytes (Usage i))
+          (λ q lt. (go.used (64 * i + q), go.live (64 * i + q), go.age (64 * i + q))) (w.fresh i (sym (go.stale i) ∙ off) low);
       part = part_same t t' go.used go.kept w.part;
       kept = kept_same d.content k t t' go.kept w.kept;
       opened = still_open d dirty t t' k m0 m seg chunk w (Map j) (map_table j) 1 (omega arith) chunk w.opened go.kept;

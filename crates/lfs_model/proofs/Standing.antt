@@ -1,5 +1,7 @@
 -- The state that a content stands for is sound.
-use Rattle.std.proofs.Common.{◌≡◌, ◌≢◌, ◌<◌, ◌≤◌, inl, inr, ⊎_elim, ◌+◌, ◌*◌, ◌/◌, ◌%◌, ◌&&◌, ◌==◌, nat_le, nat_lt, Bool, true, false, ℕ, zero, suc, List, [], ◌∷◌, length, map, take, drop, get_or, Option, Some, None, refl, sym, ◌∙◌, ap, subst, arith, slice_index}
+use Rattle.std.proofs.Common.{◌≡◌, ◌≢◌, ◌<◌, ◌≤◌, inl, inr, ⊎_elim, ◌+◌, ◌*◌, ◌/◌, ◌%◌, ◌&&◌, ◌==◌, nat_le, nat_lt, Bool, true, false, ℕ}
+use Rattle.std.proofs.Common.{zero, suc, List, [], ◌∷◌, length, map, take, drop, get_or, Option, Some, None, refl, sym, ◌∙◌, ap, subst}
+use Rattle.std.proofs.Common.{arith, slice_index}
 use Rattle.std.specs.Prelude.{T}
 use Rattle.std.specs.List.{AllByRecursion, range_with_len}
 use Rattle.std.specs.FinMap.{is_sorted}
@@ -81,10 +83,12 @@ slot_bytes_small form b s small is =
 AreGood : ℕ → Names → Type 0
 AreGood form m = AllByRecursion (λ e. IsGoodName (name_len form) e.0) m
 
-good_slot : (form : ℕ) (b : List ℕ) (m : Names) (o : Option SlotValue) → slot_in form b ≡ o → IsBytes b → AreGood form m → AreGood form (with_slot o m)
+good_slot : (form : ℕ) (b : List ℕ) (m : Names) (o : Option SlotValue) → slot_in form b ≡ o → IsBytes b → AreGood form m
+    → AreGood form (with_slot o m)
 unfolding AreGood
 good_slot form b m None is small good = good
-good_slot form b m (Some s) is small good = all_put byte_cmp (IsGoodName (name_len form)) s.name s.number m (good_name form s (slot_found form b s is).0 (slot_bytes_small form b s small is)) good
+good_slot form b m (Some s) is small good = all_put byte_cmp (IsGoodName (name_len form)) s.name s.number m
+    (good_name form s (slot_found form b s is).0 (slot_bytes_small form b s small is)) good
 
 good_names : (form : ℕ) (bs : List (List ℕ)) → AllByRecursion IsBytes bs → AreGood form (map_of form bs)
 unfolding AreGood
@@ -104,7 +108,8 @@ slots_small m small n h =
 
 pub slots_length : (m : LogMap) (n : ℕ) (h : Header) → length (slots m n h) ≡ h.size / slot_len h.form
 unfolding slots
-slots_length m n h = length-map-range_with_len (λ j. take (slot_len h.form) (drop (slot_len h.form * j) (object m n h))) 0 (h.size / slot_len h.form)
+slots_length m n h =
+    length-map-range_with_len (λ j. take (slot_len h.form) (drop (slot_len h.form * j) (object m n h))) 0 (h.size / slot_len h.form)
 
 -- ---- headers
 pub record IsHeader (version n : ℕ) (h : Header) : Type 0 where
@@ -133,15 +138,19 @@ inode_header version n b i =
     }
 
 -- what a content that holds a log map has for headers
-pub headers_are : (c : Content) (k : CheckpointValue) (m : LogMap) → HoldsAt c k m → (n : ℕ) (h : Header) → m.header n ≡ Some h → IsHeader (layout_version k) n h
+pub headers_are : (c : Content) (k : CheckpointValue) (m : LogMap) → HoldsAt c k m → (n : ℕ) (h : Header) → m.header n ≡ Some h
+    → IsHeader (layout_version k) n h
 headers_are c k m st n h is =
     ⊎_elim
     (λ (some : nat_lt 0 ((view c k).address (Inode n)) ≡ true).
-    let there : Some h ≡ Some (header ((view c k).block (Inode n))) = sym is ∙ st.header n ∙ cond-true (nat_lt 0 ((view c k).address (Inode n))) (Some (header ((view c k).block (Inode n)))) None some in
+    let there : Some h ≡ Some (header ((view c k).block (Inode n))) = sym is ∙ st.header n
+    ∙ cond-true (nat_lt 0 ((view c k).address (Inode n))) (Some (header ((view c k).block (Inode n)))) None some in
     let same : h ≡ header ((view c k).block (Inode n)) = cc in
-    subst (IsHeader (layout_version k) n) (sym same) (inode_header (layout_version k) n ((view c k).block (Inode n)) (st.stages.inodes.formed n (ltb-true 0 ((view c k).address (Inode n)) some))))
+    subst (IsHeader (layout_version k) n) (sym same) (inode_header (layout_version k) n ((view c k).block (Inode n))
+    (st.stages.inodes.formed n (ltb-true 0 ((view c k).address (Inode n)) some))))
     (λ (none : nat_lt 0 ((view c k).address (Inode n)) ≡ false).
-    let e : Some h ≡ None = sym is ∙ st.header n ∙ cond-false (nat_lt 0 ((view c k).address (Inode n))) (Some (header ((view c k).block (Inode n)))) None none in absurd (cc))
+    let e : Some h ≡ None = sym is ∙ st.header n
+    ∙ cond-false (nat_lt 0 ((view c k).address (Inode n))) (Some (header ((view c k).block (Inode n)))) None none in absurd (cc))
     (cases_Bool (nat_lt 0 ((view c k).address (Inode n))))
 
 -- ---- the tree
@@ -163,16 +172,19 @@ module _ (m : LogMap) where
   below_nodes : (count a x : ℕ) → x < a → T (below_all nat_cmp x (nodes_from m count a))
   unfolding nodes_from
   below_nodes zero a x lt = tt
-  below_nodes (suc count) a x lt = below_with x a (node_of m a (m.header a)) (nodes_from m count (a + 1)) lt (below_nodes count (a + 1) x (omega arith))
+  below_nodes (suc count) a x lt =
+      below_with x a (node_of m a (m.header a)) (nodes_from m count (a + 1)) lt (below_nodes count (a + 1) x (omega arith))
 
-  sorted_with : (a : ℕ) (o : Option Node) (t : Tree) → T (below_all nat_cmp a t) → T (is_sorted nat_cmp t) → T (is_sorted nat_cmp (with_object a o t))
+  sorted_with : (a : ℕ) (o : Option Node) (t : Tree) → T (below_all nat_cmp a t) → T (is_sorted nat_cmp t)
+      → T (is_sorted nat_cmp (with_object a o t))
   sorted_with a None t below rest = rest
   sorted_with a (Some y) t below rest = T_both (below_all nat_cmp a t) (is_sorted nat_cmp t) below rest
 
   sorted_nodes : (count a : ℕ) → T (is_sorted nat_cmp (nodes_from m count a))
   unfolding nodes_from
   sorted_nodes zero a = tt
-  sorted_nodes (suc count) a = sorted_with a (node_of m a (m.header a)) (nodes_from m count (a + 1)) (below_nodes count (a + 1) a (omega arith)) (sorted_nodes count (a + 1))
+  sorted_nodes (suc count) a = sorted_with a (node_of m a (m.header a)) (nodes_from m count (a + 1))
+      (below_nodes count (a + 1) a (omega arith)) (sorted_nodes count (a + 1))
 
   pub in_order : T (is_sorted nat_cmp (tree_in m))
   unfolding tree_in
@@ -190,7 +202,8 @@ module _ (m : LogMap) where
       (cases_lt 4095 n))
       (cases_lt n 1)
     where
-      go : (o : Option Header) → m.header n ≡ o → node_of m n (m.header n) ≡ Some x → (h : Header) × (m.header n ≡ Some h) × (x ≡ node_by m h.kind n h)
+      go : (o : Option Header) → m.header n ≡ o → node_of m n (m.header n) ≡ Some x
+          → (h : Header) × (m.header n ≡ Some h) × (x ≡ node_by m h.kind n h)
       go None is there = let e : None ≡ Some x = sym (ap (node_of m n) is) ∙ there in absurd (cc)
       go (Some h) is there = let e : Some (node_by m h.kind n h) ≡ Some x = sym (ap (node_of m n) is) ∙ there in (h, is, cc)
 
@@ -206,10 +219,13 @@ few_slots : (form size : ℕ) → size ≤ 1024 * slot_len form → size / slot_
 few_slots zero size le = omega arith
 few_slots (suc form) size le = omega arith
 
-limit_of : (m : LogMap) → ((n i o : ℕ) → slice_index (m.block n i) o < 256) → (kd : Kind) (n : ℕ) (h : Header) → is_size h.form kd h.size ≡ true
-    → (kd ≡ kind.Directory → length (map_of h.form (slots m n h)) ≡ length (slots m n h)) → (kd ≡ kind.Link → AllByRecursion (λ c. c ≢ 0) (object m n h)) → IsWithinLimits (node_by m kd n h)
+limit_of : (m : LogMap) → ((n i o : ℕ) → slice_index (m.block n i) o < 256) → (kd : Kind) (n : ℕ) (h : Header)
+    → is_size h.form kd h.size ≡ true
+    → (kd ≡ kind.Directory → length (map_of h.form (slots m n h)) ≡ length (slots m n h))
+    → (kd ≡ kind.Link → AllByRecursion (λ c. c ≢ 0) (object m n h)) → IsWithinLimits (node_by m kd n h)
 unfolding is_size AreGood
-limit_of m small kind.File n h size dir link = let le = leb-true h.size 8511488 size in (omega (arith, object_length m n h, le), are_bytes (object m n h) (object_bytes m small n h))
+limit_of m small kind.File n h size dir link = let le = leb-true h.size 8511488 size in
+    (omega (arith, object_length m n h, le), are_bytes (object m n h) (object_bytes m small n h))
 limit_of m small kind.Directory n h size dir link =
     let parts = and_parts (h.size % slot_len h.form == 0) (nat_le h.size (1024 * slot_len h.form)) size in
     let le = leb-true h.size (1024 * slot_len h.form) parts.1 in
@@ -221,14 +237,19 @@ limit_of m small kind.Directory n h size dir link =
 limit_of m small kind.Link n h size dir link =
     let parts = and_parts (nat_le 1 h.size) (nat_le h.size 1023) size in
     let low = leb-true 1 h.size parts.0 in
-    let high = leb-true h.size 1023 parts.1 in
-    (omega (arith, object_length m n h, low), omega (arith, object_length m n h, high), link refl, are_bytes (object m n h) (object_bytes m small n h))
+    let high = leb-true h.size 1023 parts.1 in (
+      omega (arith, object_length m n h, low),
+      omega (arith, object_length m n h, high),
+      link refl,
+      are_bytes (object m n h) (object_bytes m small n h),
+    )
 
 below_version : (version : ℕ) → 1 ≤ version → (form : ℕ) → IsForm version kind.Directory form → form < version
 below_version version some zero is = some
 below_version version some (suc form) is = is
 
-version_of : (m : LogMap) (version : ℕ) → 1 ≤ version → (kd : Kind) (n : ℕ) (h : Header) → IsForm version kd h.form → IsOfVersion version (node_by m kd n h)
+version_of : (m : LogMap) (version : ℕ) → 1 ≤ version → (kd : Kind) (n : ℕ) (h : Header) → IsForm version kd h.form
+    → IsOfVersion version (node_by m kd n h)
 version_of m version some kind.File n h form = tt
 version_of m version some kind.Directory n h form = below_version version some h.form form
 version_of m version some kind.Link n h form = tt
@@ -236,19 +257,23 @@ version_of m version some kind.Link n h form = tt
 root_kind : (m : LogMap) (h : Header) → h.kind ≡ kind.Directory → is_dir (Some (node_by m h.kind 1 h)) ≡ true
 root_kind m h is = ap (λ (kd : Kind). is_dir (Some (node_by m kd 1 h))) is
 
-module _ (c : Content) (all : AllByRecursion IsSector c) (k : CheckpointValue) (known : IsVersion (layout_version k)) (m : LogMap) (st : HoldsAt c k m) (tree : IsTree k.segments m) where
+module _ (c : Content) (all : AllByRecursion IsSector c) (k : CheckpointValue) (known : IsVersion (layout_version k)) (m : LogMap)
+    (st : HoldsAt c k m) (tree : IsTree k.segments m) where
   some_version : 1 ≤ layout_version k
   some_version = elim known as (λ _. 1 ≤ layout_version k) [ inl one ↦ omega arith | inr two ↦ omega arith ]
 
   small_blocks : (n i o : ℕ) → slice_index (m.block n i) o < 256
-  small_blocks n i o = subst (λ (b : List ℕ). slice_index b o < 256) (sym (st.block n i)) (block_byte c all ((view c k).address (Data n i)) o)
+  small_blocks n i o =
+      subst (λ (b : List ℕ). slice_index b o < 256) (sym (st.block n i)) (block_byte c all ((view c k).address (Data n i)) o)
 
   is_root : is_dir (node (tree_in m) 1) ≡ true
   is_root =
       let h = header ((view c k).block (Inode 1)) in
       let there : m.header 1 ≡ Some (header ((view c k).block (Inode 1))) = st.header 1
-      ∙ cond-true (nat_lt 0 ((view c k).address (Inode 1))) (Some (header ((view c k).block (Inode 1)))) None (lt-ltb 0 ((view c k).address (Inode 1)) st.stages.maps.root) in
-      ap is_dir (node_in m 1 (omega arith) (omega arith) ∙ ap (node_of m 1) there) ∙ root_kind m (header ((view c k).block (Inode 1))) st.stages.inodes.root
+      ∙ cond-true (nat_lt 0 ((view c k).address (Inode 1))) (Some (header ((view c k).block (Inode 1)))) None
+      (lt-ltb 0 ((view c k).address (Inode 1)) st.stages.maps.root) in
+      ap is_dir (node_in m 1 (omega arith) (omega arith) ∙ ap (node_of m 1) there)
+      ∙ root_kind m (header ((view c k).block (Inode 1))) st.stages.inodes.root
 
   limits_hold : (n : ℕ) (x : Node) → node (tree_in m) n ≡ Some x → IsWithinLimits x
   limits_hold n x at =
@@ -259,7 +284,8 @@ module _ (c : Content) (all : AllByRecursion IsSector c) (k : CheckpointValue) (
       (λ link. tree.texts n (object m n i.0) (at ∙ ap Some i.2 ∙ ap (λ (kd : Kind). Some (node_by m kd n i.0)) link)))
 
   forms_hold : (n : ℕ) (x : Node) → node (tree_in m) n ≡ Some x → IsOfVersion (layout_version k) x
-  forms_hold n x at = let i = node_is m n x at in subst (IsOfVersion (layout_version k)) (sym i.2) (version_of m (layout_version k) some_version i.0.kind n i.0 (headers_are c k m st n i.0 i.1).form)
+  forms_hold n x at = let i = node_is m n x at in subst (IsOfVersion (layout_version k)) (sym i.2)
+      (version_of m (layout_version k) some_version i.0.kind n i.0 (headers_are c k m st n i.0 i.1).form)
 
   header_there : (n : ℕ) → node (tree_in m) n ≢ None → (h : Header) × (m.header n ≡ Some h)
   header_there n there = go (node (tree_in m) n) refl
@@ -296,5 +322,6 @@ module _ (c : Content) (all : AllByRecursion IsSector c) (k : CheckpointValue) (
 
 pub standing_is_sound : StandingIsSound
 standing_is_sound c all s is =
-    subst (Sound is.checkpoint.segments) (sym (same_state s (mounted (layout_version is.checkpoint) (tree_in is.log)) is.tree.is is.closed is.version))
+    subst (Sound is.checkpoint.segments)
+    (sym (same_state s (mounted (layout_version is.checkpoint) (tree_in is.log)) is.tree.is is.closed is.version))
     (tree_sound c all is.checkpoint (newest_version c is.checkpoint is.found) is.log is.stands.holds is.tree.tree)

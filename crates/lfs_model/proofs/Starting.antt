@@ -1,5 +1,6 @@
 -- A mount's log runs.
-use Rattle.std.proofs.Common.{◌≡◌, ◌<◌, ◌≤◌, ⊎_elim, ◌+◌, ◌*◌, ◌/◌, ◌%◌, ◌==◌, not, cond, eq-eqb, ℕ, Bool, false, length, Option, Some, None, refl, sym, ◌∙◌, ap, ap₂, arith}
+use Rattle.std.proofs.Common.{◌≡◌, ◌<◌, ◌≤◌, ⊎_elim, ◌+◌, ◌*◌, ◌/◌, ◌%◌, ◌==◌, not, cond, eq-eqb, ℕ, Bool, false, length, Option, Some}
+use Rattle.std.proofs.Common.{None, refl, sym, ◌∙◌, ap, ap₂, arith}
 use Rattle.std.proofs.lemmas.Bool.{cases_eq, cond-true, cond-false, false_from_ne_true}
 use Rattle.std.proofs.Common.{eqb-true}
 use Rattle.lfs_model.specs.Entry.{Entry, Usage, half, word}
@@ -24,13 +25,15 @@ use Rattle.lfs_model.proofs.Segments.{count_none}
 count_off : (is : Entry → Bool) (M : Memory) → ((x : Entry) → is x ≡ false) → (s : ℕ) → live_count (memory_view is M) s ≡ 0
 count_off is M off s = count_none (is_live (memory_view is M) s) 64 (λ at. go (place_in (Some (M.rows s)) at) at)
   where
-    go : (o : Option Entry) (at : ℕ) → elim o as (λ z. Bool) [ None ↦ false | Some e ↦ settled_at (those is M.at e) == 2 + 64 * s + at ] ≡ false
+    go : (o : Option Entry) (at : ℕ)
+        → elim o as (λ z. Bool) [ None ↦ false | Some e ↦ settled_at (those is M.at e) == 2 + 64 * s + at ] ≡ false
     go None at = refl
     go (Some e) at =
         ap (λ (b : Bool). settled_at (cond b (M.at e) 0) == 2 + 64 * s + at) (off e)
         ∙ false_from_ne_true _ (λ h. let z = eqb-true 0 (2 + 64 * s + at) h in omega arith)
 
-module _ (d : DeviceState) (t : Tables) (k : CheckpointValue) (m : LogMap) (none : ℕ) (few : k.segments ≤ 1024) (sized : IsSized d.content) (settled : IsSettled d k m) (is : IsMountedTables d.content k t) (past : k.segments ≤ none) where
+module _ (d : DeviceState) (t : Tables) (k : CheckpointValue) (m : LogMap) (none : ℕ) (few : k.segments ≤ 1024) (sized : IsSized d.content)
+    (settled : IsSettled d k m) (is : IsMountedTables d.content k t) (past : k.segments ≤ none) where
   st : StandsAt d.content k m
   st = settled.stands
 
@@ -56,7 +59,8 @@ module _ (d : DeviceState) (t : Tables) (k : CheckpointValue) (m : LogMap) (none
 
   -- nothing is in use where nothing lives
   unused : (s : ℕ) → t.live s ≡ 0 → t.used s ≡ 0
-  unused s z = let l = is.live s in is.used s ∙ ⊎_elim (λ (u : used_in (view d.content k) s ≡ 0). u) (λ some. absurd (omega (arith, l, z, some.0))) (st.holds.stages.usages.less s)
+  unused s z = let l = is.live s in is.used s
+      ∙ ⊎_elim (λ (u : used_in (view d.content k) s ≡ 0). u) (λ some. absurd (omega (arith, l, z, some.0))) (st.holds.stages.usages.less s)
 
   usage_fresh : (j : ℕ) → t.stale j ≡ false → j < (k.segments + 63) / 64 → SpellsUsage t j (block d.content (address d.content k (Usage j)))
   unfolding address
@@ -73,27 +77,35 @@ module _ (d : DeviceState) (t : Tables) (k : CheckpointValue) (m : LogMap) (none
       rest : (j i : ℕ) → i < 64 → (64 * j + i) % 64 ≡ i
       rest j i lt = omega arith
 
-      at_used : (j i : ℕ) → i < 64 → half (block d.content (address d.content k (Usage j))) (4 * i) ≡ used_in (view d.content k) (64 * j + i)
+      at_used : (j i : ℕ) → i < 64
+          → half (block d.content (address d.content k (Usage j))) (4 * i) ≡ used_in (view d.content k) (64 * j + i)
       at_used j i lt = sym (ap₂ (λ (a b : ℕ). half (block d.content (address d.content k (Usage a))) (4 * b)) (place j i lt) (rest j i lt))
 
-      at_live : (j i : ℕ) → i < 64 → half (block d.content (address d.content k (Usage j))) (4 * i + 1) ≡ live_in (view d.content k) (64 * j + i)
-      at_live j i lt = sym (ap₂ (λ (a b : ℕ). half (block d.content (address d.content k (Usage a))) (4 * b + 1)) (place j i lt) (rest j i lt))
+      at_live : (j i : ℕ) → i < 64
+          → half (block d.content (address d.content k (Usage j))) (4 * i + 1) ≡ live_in (view d.content k) (64 * j + i)
+      at_live j i lt =
+          sym (ap₂ (λ (a b : ℕ). half (block d.content (address d.content k (Usage a))) (4 * b + 1)) (place j i lt) (rest j i lt))
 
-      at_age : (j i : ℕ) → i < 64 → word (block d.content (address d.content k (Usage j))) (2 * i + 1) ≡ age_in (view d.content k) (64 * j + i)
-      at_age j i lt = sym (ap₂ (λ (a b : ℕ). word (block d.content (address d.content k (Usage a))) (2 * b + 1)) (place j i lt) (rest j i lt))
+      at_age : (j i : ℕ) → i < 64
+          → word (block d.content (address d.content k (Usage j))) (2 * i + 1) ≡ age_in (view d.content k) (64 * j + i)
+      at_age j i lt =
+          sym (ap₂ (λ (a b : ℕ). word (block d.content (address d.content k (Usage a))) (2 * b + 1)) (place j i lt) (rest j i lt))
 
       saved_used : (s : ℕ) → t.used s ≡ used_saved t s
       saved_used s = ⊎_elim
           (λ (z : t.live s ≡ 0). unused s z ∙ sym (cond-true (t.live s == 0) 0 (t.used s) (eq-eqb (t.live s) 0 z)))
-          (λ (ne : t.live s ≡ 0 → ⊥). sym (cond-false (t.live s == 0) 0 (t.used s) (false_from_ne_true _ (λ h. ne (eqb-true (t.live s) 0 h)))))
+          (λ (ne : t.live s ≡ 0 → ⊥).
+          sym (cond-false (t.live s == 0) 0 (t.used s) (false_from_ne_true _ (λ h. ne (eqb-true (t.live s) 0 h)))))
           (cases_eq (t.live s) 0)
 
       saved_age : (i : ℕ) → i < 64 → age_in (view d.content k) (64 * j + i) ≡ age_saved t (64 * j + i)
       saved_age i lt = ⊎_elim
           (λ (z : t.live (64 * j + i) ≡ 0).
-          is.stale j i off lt (sym (is.live (64 * j + i)) ∙ z) ∙ sym (cond-true (t.live (64 * j + i) == 0) 0 (t.age (64 * j + i)) (eq-eqb (t.live (64 * j + i)) 0 z)))
+          is.stale j i off lt (sym (is.live (64 * j + i)) ∙ z)
+          ∙ sym (cond-true (t.live (64 * j + i) == 0) 0 (t.age (64 * j + i)) (eq-eqb (t.live (64 * j + i)) 0 z)))
           (λ (ne : t.live (64 * j + i) ≡ 0 → ⊥).
-          sym (is.age (64 * j + i)) ∙ sym (cond-false (t.live (64 * j + i) == 0) 0 (t.age (64 * j + i)) (false_from_ne_true _ (λ h. ne (eqb-true (t.live (64 * j + i)) 0 h)))))
+          sym (is.age (64 * j + i)) ∙ sym (cond-false (t.live (64 * j + i) == 0) 0 (t.age (64 * j + i))
+          (false_from_ne_true _ (λ h. ne (eqb-true (t.live (64 * j + i)) 0 h)))))
           (cases_eq (t.live (64 * j + i)) 0)
 
   started : Running d (λ x. None) t k m m none None

@@ -1,5 +1,6 @@
 -- A commit's blocks go out, one by one.
-use Rattle.std.proofs.Common.{◌≡◌, ◌<◌, ◌≤◌, ⊎_elim, ◌+◌, ◌*◌, ◌/◌, cond, true, false, ℕ, suc, List, [], ◌∷◌, ◌++◌, length, Some, None, refl, sym, ◌∙◌, ap, ap₂, subst, arith, length-set, get_or-set_other}
+use Rattle.std.proofs.Common.{◌≡◌, ◌<◌, ◌≤◌, ⊎_elim, ◌+◌, ◌*◌, ◌/◌, cond, true, false, ℕ, suc, List, [], ◌∷◌, ◌++◌, length, Some, None}
+use Rattle.std.proofs.Common.{refl, sym, ◌∙◌, ap, ap₂, subst, arith, length-set, get_or-set_other}
 use Rattle.std.proofs.lemmas.Bool.{cases_eq}
 use Rattle.std.specs.Prelude.{option_map}
 use Rattle.lfs_model.specs.Entry.{Entry, Inode, Map, Usage}
@@ -33,12 +34,20 @@ module _ (d : DeviceState) (dirty : Dirty) (t t' : Tables) (k : CheckpointValue)
   at_end = ap (λ (n : ℕ). 2 + 64 * seg + n) (sym (w.tables.used seg))
 
   free : IsFreeSector d.content k (place_of t seg)
-  free = record { segment = seg; place = t.used seg; is = refl; within = room; below = low; unused = let u = w.kept seg low in let p = w.part seg in omega arith }
+  free = record {
+    segment = seg;
+    place = t.used seg;
+    is = refl;
+    within = room;
+    below = low;
+    unused = let u = w.kept seg low in let p = w.part seg in omega arith;
+  }
     where
       low : seg < k.segments
       low = subst (λ (n : ℕ). seg < n) w.segments w.opened.inside
 
-  settled_now : (d' : DeviceState) (bytes : List ℕ) → IsWritten d d' (place_of t seg) bytes → IsSettled d' k m0 × ((s : ℕ) → used_in (view d'.content k) s ≡ used_in (view d.content k) s)
+  settled_now : (d' : DeviceState) (bytes : List ℕ) → IsWritten d d' (place_of t seg) bytes
+      → IsSettled d' k m0 × ((s : ℕ) → used_in (view d'.content k) s ≡ used_in (view d.content k) s)
   settled_now d' bytes is = settled_write d d' k m0 (place_of t seg) bytes w.settled free (left_new is.content) is.crash
 
   part_now : (s : ℕ) → t'.kept s ≤ t'.used s
@@ -50,26 +59,33 @@ module _ (d : DeviceState) (dirty : Dirty) (t t' : Tables) (k : CheckpointValue)
       (λ (away : s ≡ seg → ⊥). let u = noted.used.others s away in omega arith)
       (cases_eq s seg)
 
-  kept_now : (d' : DeviceState) → ((s : ℕ) → used_in (view d'.content k) s ≡ used_in (view d.content k) s) → (s : ℕ) → s < k.segments → IsFreeFrom d'.content k s (t'.kept s)
+  kept_now : (d' : DeviceState) → ((s : ℕ) → used_in (view d'.content k) s ≡ used_in (view d.content k) s) → (s : ℕ) → s < k.segments
+      → IsFreeFrom d'.content k s (t'.kept s)
   kept_now d' same s low = let a = same s in let b = w.kept s low in let c = noted.kept s in omega arith
 
-  moved_now : (bytes : Entry → List ℕ) → w.memory.at x ≡ 1 → IsMoved w.memory seg x (moved_memory w.memory x (next_place w.memory seg) bytes seg)
-  moved_now bytes was = is_moved w.memory x bytes seg was (omega (arith, long_row)) (let u = w.tables.used seg in omega arith) w.opened.inside
+  moved_now : (bytes : Entry → List ℕ) → w.memory.at x ≡ 1
+      → IsMoved w.memory seg x (moved_memory w.memory x (next_place w.memory seg) bytes seg)
+  moved_now bytes was =
+      is_moved w.memory x bytes seg was (omega (arith, long_row)) (let u = w.tables.used seg in omega arith) w.opened.inside
 
   tables_now : (M' : Memory) → IsMoved w.memory seg x M' → IsTables t' m M'
-  tables_now M' p = noted_tables d.content m w.memory seg x M' t t' w.laid p w.tables (subst (λ (a : ℕ). IsNoted m t t' x a seg) (sym at_end) noted)
+  tables_now M' p =
+      noted_tables d.content m w.memory seg x M' t t' w.laid p w.tables (subst (λ (a : ℕ). IsNoted m t t' x a seg) (sym at_end) noted)
 
   -- the chunks before it stay sealed
-  sealed_now : (d' : DeviceState) (bytes : List ℕ) → IsWritten d d' (place_of t seg) bytes → row_by d'.content (length w.opened.before) seg ≡ Some w.opened.before
+  sealed_now : (d' : DeviceState) (bytes : List ℕ) → IsWritten d d' (place_of t seg) bytes
+      → row_by d'.content (length w.opened.before) seg ≡ Some w.opened.before
   sealed_now d' bytes is =
       let u = w.tables.used seg in
       let long = long_row in
       let few = w.laid.short seg in
       subst (λ (c : Content). row_by c (length w.opened.before) seg ≡ Some w.opened.before) (sym is.content)
-      (row_kept d.content (put d.content (place_of t seg) bytes) seg w.opened.before (omega arith) (length-set d.content (place_of t seg) (Some bytes))
+      (row_kept d.content (put d.content (place_of t seg) bytes) seg w.opened.before (omega arith)
+      (length-set d.content (place_of t seg) (Some bytes))
       (λ q lt blank. get_or-set_other d.content (place_of t seg) (2 + 64 * seg + q) (Some bytes) None (λ h. omega arith)) w.opened.sealed)
 
-  opened_now : (c : Content) → row_by c (length w.opened.before) seg ≡ Some w.opened.before → (M' : Memory) → IsMoved w.memory seg x M' → IsOpenAt c M' t' seg (Some (es ++ x ∷ []))
+  opened_now : (c : Content) → row_by c (length w.opened.before) seg ≡ Some w.opened.before → (M' : Memory) → IsMoved w.memory seg x M'
+      → IsOpenAt c M' t' seg (Some (es ++ x ∷ []))
   opened_now c sealed M' p = record {
     inside = subst (λ (n : ℕ). seg < n) (sym p.segments) w.opened.inside;
     before = w.opened.before;
@@ -78,13 +94,15 @@ module _ (d : DeviceState) (dirty : Dirty) (t t' : Tables) (k : CheckpointValue)
     free = let a = noted.kept seg in let b = w.opened.free in omega arith;
   }
 
-  fresh_now : (M' : Memory) → ((j : ℕ) → t'.stale j ≡ false → M'.bytes (Usage j) ≡ w.memory.bytes (Usage j)) → (j : ℕ) → t'.stale j ≡ false → j < (k.segments + 63) / 64 → SpellsUsage t' j (M'.bytes (Usage j))
+  fresh_now : (M' : Memory) → ((j : ℕ) → t'.stale j ≡ false → M'.bytes (Usage j) ≡ w.memory.bytes (Usage j)) → (j : ℕ) → t'.stale j ≡ false
+      → j < (k.segments + 63) / 64 → SpellsUsage t' j (M'.bytes (Usage j))
   fresh_now M' same j off low =
       let no = noted_fresh m t t' x (place_of t seg) seg noted j off in
       subst (SpellsUsage t' j) (sym (same j off)) (no.1 (w.memory.bytes (Usage j)) (w.fresh j no.0 low))
 
   -- the blocks of files stay in memory where x is none
-  cached_kept : (M' : Memory) → IsMoved w.memory seg x M' → (IsOfFile x → ⊥) → ((y : Entry) → (y ≡ x → ⊥) → M'.bytes y ≡ w.memory.bytes y) → IsCached dirty M'
+  cached_kept : (M' : Memory) → IsMoved w.memory seg x M' → (IsOfFile x → ⊥) → ((y : Entry) → (y ≡ x → ⊥) → M'.bytes y ≡ w.memory.bytes y)
+      → IsCached dirty M'
   cached_kept M' p table kept = record {
     cached = λ y b is. let c = w.cached.cached y b is in let ne = other y c.0 in (c.0, p.others y ne ∙ c.1, kept y ne ∙ c.2);
     found = λ y f one. w.cached.found y f (sym (p.others y (other y f)) ∙ one);
@@ -94,9 +112,12 @@ module _ (d : DeviceState) (dirty : Dirty) (t t' : Tables) (k : CheckpointValue)
       other y f h = table (subst IsOfFile h f)
 
 -- ---- a block of a file
-module _ (d d' : DeviceState) (dirty dirty' : Dirty) (t t' : Tables) (k : CheckpointValue) (m0 m : LogMap) (seg : ℕ) (es : List Entry) (x : Entry) (bytes : List ℕ)
-    (w : Running d dirty t k m0 m seg (Some es)) (room : t.used seg < 64) (low : IsLowest dirty x) (there : dirty x ≡ Some bytes) (full : IsPointers x → HasPointer bytes)
-    (is : IsWritten d d' (place_of t seg) bytes) (moves : Moves dirty dirty' x (place_of t seg)) (noted : IsNoted m t t' x (place_of t seg) seg) where
+module _ (d d' : DeviceState) (dirty dirty' : Dirty) (t t' : Tables) (k : CheckpointValue) (m0 m : LogMap) (seg : ℕ) (es : List Entry)
+    (x : Entry) (bytes : List ℕ)
+    (w : Running d dirty t k m0 m seg (Some es)) (room : t.used seg < 64) (low : IsLowest dirty x) (there : dirty x ≡ Some bytes)
+    (full : IsPointers x → HasPointer bytes)
+    (is : IsWritten d d' (place_of t seg) bytes) (moves : Moves dirty dirty' x (place_of t seg))
+    (noted : IsNoted m t t' x (place_of t seg) seg) where
   a : ℕ
   a = next_place w.memory seg
 
@@ -107,7 +128,8 @@ module _ (d d' : DeviceState) (dirty dirty' : Dirty) (t t' : Tables) (k : Checkp
   in_memory = w.cached.cached x bytes there
 
   bytes_next : Entry → List ℕ
-  bytes_next y = pick (same_entry y x) (w.memory.bytes x) (pick (same_entry y (parent x)) (patched (pointer x) (next_place w.memory seg) (w.memory.bytes y)) (w.memory.bytes y))
+  bytes_next y = pick (same_entry y x) (w.memory.bytes x)
+      (pick (same_entry y (parent x)) (patched (pointer x) (next_place w.memory seg) (w.memory.bytes y)) (w.memory.bytes y))
 
   next : Memory
   next = moved_memory w.memory x (next_place w.memory seg) bytes_next seg
@@ -122,7 +144,8 @@ module _ (d d' : DeviceState) (dirty dirty' : Dirty) (t t' : Tables) (k : Checkp
 
   of_parent : (parent x ≡ x → ⊥) → bytes_next (parent x) ≡ patched (pointer x) (next_place w.memory seg) (w.memory.bytes (parent x))
   unfolding bytes_next
-  of_parent ne = pick_no (same_entry (parent x) x) (w.memory.bytes x) _ ne ∙ pick_yes (same_entry (parent x) (parent x)) _ (w.memory.bytes (parent x)) refl
+  of_parent ne = pick_no (same_entry (parent x) x) (w.memory.bytes x) _ ne
+      ∙ pick_yes (same_entry (parent x) (parent x)) _ (w.memory.bytes (parent x)) refl
 
   is_moved_now : IsMoved w.memory seg x next
   unfolding next
@@ -146,7 +169,8 @@ module _ (d d' : DeviceState) (dirty dirty' : Dirty) (t t' : Tables) (k : Checkp
 
   laid_now : IsLaid d'.content m next seg
   laid_now =
-      let there : d'.content ≡ put d.content (next_place w.memory seg) (w.memory.bytes x) = is.content ∙ ap₂ (put d.content) (sym same_place) (sym in_memory.2) in
+      let there : d'.content ≡ put d.content (next_place w.memory seg) (w.memory.bytes x) = is.content
+      ∙ ap₂ (put d.content) (sym same_place) (sym in_memory.2) in
       subst (λ (c : Content). IsLaid c m next seg) (sym there) (placing d.content m w.memory seg x next w.laid placing_now)
 
   above : 2 ≤ next.at x
@@ -193,12 +217,14 @@ module _ (d d' : DeviceState) (dirty dirty' : Dirty) (t t' : Tables) (k : Checkp
       by_parent np b held =
           let was = w.cached.found (parent x) parent_file parent_one in
           let c = w.cached.cached (parent x) was.0 was.1 in
-          let e : Some b ≡ Some (patched (pointer x) (place_of t seg) was.0) = sym held ∙ moves.patched np ∙ ap (option_map (patched (pointer x) (place_of t seg))) was.1 in
+          let e : Some b ≡ Some (patched (pointer x) (place_of t seg) was.0) = sym held ∙ moves.patched np
+          ∙ ap (option_map (patched (pointer x) (place_of t seg))) was.1 in
           let same : b ≡ patched (pointer x) (place_of t seg) was.0 = cc in
           of_parent np ∙ ap₂ (patched (pointer x)) same_place c.2 ∙ sym same
 
   usage_same : (j : ℕ) → bytes_next (Usage j) ≡ w.memory.bytes (Usage j)
-  usage_same j = kept (Usage j) (λ h. usage_table j (subst IsOfFile (sym h) in_memory.0)) (λ h. usage_table j (subst IsOfFile (sym h) parent_file))
+  usage_same j =
+      kept (Usage j) (λ h. usage_table j (subst IsOfFile (sym h) in_memory.0)) (λ h. usage_table j (subst IsOfFile (sym h) parent_file))
 
   stepped : Running d' dirty' t' k m0 m seg (Some (es ++ x ∷ []))
   unfolding next moved_memory
@@ -214,11 +240,13 @@ module _ (d d' : DeviceState) (dirty dirty' : Dirty) (t t' : Tables) (k : Checkp
         fresh = fresh_now d dirty t t' k m0 m seg es x w room noted next (λ j off. usage_same j);
         part = part_now d dirty t t' k m0 m seg es x w room noted;
         kept = kept_now d dirty t t' k m0 m seg es x w room noted d' s.1;
-        opened = opened_now d dirty t t' k m0 m seg es x w room noted d'.content (sealed_now d dirty t t' k m0 m seg es x w room noted d' bytes is) next is_moved_now;
+        opened = opened_now d dirty t t' k m0 m seg es x w room noted d'.content
+            (sealed_now d dirty t t' k m0 m seg es x w room noted d' bytes is) next is_moved_now;
       }
 
 pub stepping : Stepping
-stepping d d' dirty dirty' t t' k m0 m seg es x bytes w room low there full is moves noted = stepped d d' dirty dirty' t t' k m0 m seg es x bytes w room low there full is moves noted
+stepping d d' dirty dirty' t t' k m0 m seg es x bytes w room low there full is moves noted =
+    stepped d d' dirty dirty' t t' k m0 m seg es x bytes w room low there full is moves noted
 
 -- the block above x points to a place of the log, so it isn't empty
 pub stepping_tight : SteppingTight
@@ -246,12 +274,14 @@ stepping_tight d dirty dirty' t k m0 m seg es x bytes w room there moves tight y
         let short = w.laid.short seg in
         let long : length p.0 ≡ 512 = ap length (sym q.2) ∙ w.laid.long (parent x) over (omega arith) in
         let small : pointer x < 128 = pointer_low x (λ n i h. w.laid.low n i (let e = ap w.memory.at h in omega arith)) in
-        let e : Some b ≡ Some (patched (pointer x) (place_of t seg) p.0) = sym held ∙ moves.patched ne ∙ ap (option_map (patched (pointer x) (place_of t seg))) p.1 in
+        let e : Some b ≡ Some (patched (pointer x) (place_of t seg) p.0) = sym held ∙ moves.patched ne
+        ∙ ap (option_map (patched (pointer x) (place_of t seg))) p.1 in
         let same : b ≡ patched (pointer x) (place_of t seg) p.0 = cc in
         subst HasPointer (sym same) (pointer_patched (pointer x) (place_of t seg) p.0 long small (omega arith) (omega arith))
 
 -- ---- an inode map block
-module _ (d d' : DeviceState) (dirty : Dirty) (t t' : Tables) (k : CheckpointValue) (m0 m : LogMap) (seg : ℕ) (es : List Entry) (j : ℕ) (bytes : List ℕ)
+module _ (d d' : DeviceState) (dirty : Dirty) (t t' : Tables) (k : CheckpointValue) (m0 m : LogMap) (seg : ℕ) (es : List Entry) (j : ℕ)
+    (bytes : List ℕ)
     (w : Running d dirty t k m0 m seg (Some es)) (room : t.used seg < 64) (one : t.at (Map j) ≡ 1) (spells : SpellsMap m t j bytes)
     (is : IsWritten d d' (place_of t seg) bytes) (noted : IsNoted m t t' (Map j) (place_of t seg) seg) where
   map_bytes : Entry → List ℕ
@@ -291,26 +321,32 @@ module _ (d d' : DeviceState) (dirty : Dirty) (t t' : Tables) (k : CheckpointVal
   unfolding map_next moved_memory
   map_stepped =
       let s = settled_now d dirty t t' k m0 m seg es (Map j) w room noted d' bytes is in
-      let there : d'.content ≡ put d.content (next_place w.memory seg) bytes = is.content ∙ ap (λ (a : ℕ). put d.content a bytes) (sym (at_end d dirty t t' k m0 m seg es (Map j) w room noted)) in
+      let there : d'.content ≡ put d.content (next_place w.memory seg) bytes = is.content
+      ∙ ap (λ (a : ℕ). put d.content a bytes) (sym (at_end d dirty t t' k m0 m seg es (Map j) w room noted)) in
       record {
         memory = map_next;
-        laid = subst (λ (c : Content). IsLaid c m map_next seg) (sym there) (map_placing d.content m w.memory seg j bytes map_next w.laid map_placing_now);
+        laid = subst (λ (c : Content). IsLaid c m map_next seg) (sym there)
+            (map_placing d.content m w.memory seg j bytes map_next w.laid map_placing_now);
         segments = w.segments;
         settled = s.0;
         cached = cached_kept d dirty t t' k m0 m seg es (Map j) w room noted map_next map_moved (map_table j) map_kept;
         tables = tables_now d dirty t t' k m0 m seg es (Map j) w room noted map_next map_moved;
-        fresh = fresh_now d dirty t t' k m0 m seg es (Map j) w room noted map_next (λ i off. map_kept (Usage i) (λ h. let bad : Usage i ≡ Map j = h in absurd (cc)));
+        fresh = fresh_now d dirty t t' k m0 m seg es (Map j) w room noted map_next
+            (λ i off. map_kept (Usage i) (λ h. let bad : Usage i ≡ Map j = h in absurd (cc)));
         part = part_now d dirty t t' k m0 m seg es (Map j) w room noted;
         kept = kept_now d dirty t t' k m0 m seg es (Map j) w room noted d' s.1;
-        opened = opened_now d dirty t t' k m0 m seg es (Map j) w room noted d'.content (sealed_now d dirty t t' k m0 m seg es (Map j) w room noted d' bytes is) map_next map_moved;
+        opened = opened_now d dirty t t' k m0 m seg es (Map j) w room noted d'.content
+            (sealed_now d dirty t t' k m0 m seg es (Map j) w room noted d' bytes is) map_next map_moved;
       }
 
 pub map_stepping : MapStepping
-map_stepping d d' dirty t t' k m0 m seg es j bytes w room one spells is noted = map_stepped d d' dirty t t' k m0 m seg es j bytes w room one spells is noted
+map_stepping d d' dirty t t' k m0 m seg es j bytes w room one spells is noted =
+    map_stepped d d' dirty t t' k m0 m seg es j bytes w room one spells is noted
 
 -- ---- a usage block gets its place
 module _ (d : DeviceState) (dirty : Dirty) (t t' : Tables) (k : CheckpointValue) (m0 m : LogMap) (seg : ℕ) (es : List Entry) (j : ℕ)
-    (w : Running d dirty t k m0 m seg (Some es)) (room : t.used seg < 64) (one : t.at (Usage j) ≡ 1) (old : t.stale j ≡ true) (noted : IsNoted m t t' (Usage j) (place_of t seg) seg) where
+    (w : Running d dirty t k m0 m seg (Some es)) (room : t.used seg < 64) (one : t.at (Usage j) ≡ 1) (old : t.stale j ≡ true)
+    (noted : IsNoted m t t' (Usage j) (place_of t seg) seg) where
   usage_bytes : Entry → List ℕ
   usage_bytes y = pick (same_entry y (Usage j)) (block d.content (next_place w.memory seg)) (w.memory.bytes y)
 

@@ -1,5 +1,6 @@
 -- What the segments hold once no block of a file is in memory: no more blocks than the totals of the log map say.
-use Rattle.std.proofs.Common.{◌≡◌, ◌<◌, ◌≤◌, ⊎_elim, ◌+◌, ◌*◌, ℕ, zero, suc, true, List, [], ◌∷◌, ◌++◌, length, count_by, refl, sym, ◌∙◌, subst, arith, inl, Some, None}
+use Rattle.std.proofs.Common.{◌≡◌, ◌<◌, ◌≤◌, ⊎_elim, ◌+◌, ◌*◌, ℕ, zero, suc, true, List, [], ◌∷◌, ◌++◌, length, count_by, refl, sym, ◌∙◌}
+use Rattle.std.proofs.Common.{subst, arith, inl, Some, None}
 use Rattle.std.specs.Prelude.{Option}
 use Rattle.std.specs.List.{range_with_len}
 use Rattle.std.proofs.lemmas.Bool.{cases_eq, cases_lt, lt-ltb}
@@ -15,7 +16,8 @@ use Rattle.lfs_model.specs.Stands.{LogMap}
 use Rattle.lfs_model.specs.Totals.{data_of_file, meta_of_file, sum_upto, data_in, meta_in}
 use Rattle.lfs_model.proofs.BelowSums.{sum_below}
 use Rattle.lfs_model.proofs.BlocksCounted.{blocks_counted}
-use Rattle.lfs_model.proofs.FileEntries.{picks, counts, length_picks, in_picks, in_rest, in_first, in_left, in_right, datas, below, tops, meta_by, length_datas, length_below, length_tops, meta_is}
+use Rattle.lfs_model.proofs.FileEntries.{picks, counts, length_picks, in_picks, in_rest, in_first, in_left, in_right, datas, below, tops}
+use Rattle.lfs_model.proofs.FileEntries.{meta_by, length_datas, length_below, length_tops, meta_is}
 use Rattle.lfs_model.proofs.ObjectMaps.{laid_headers}
 use Rattle.lfs_model.proofs.ObjectPointers.{leaf_tests, pointer_count}
 
@@ -89,12 +91,14 @@ module _ (m : LogMap) where
       omega (arith, f, t, l)
 
   -- ---- each entry with an address is one of them
-  module _ (e : Content) (M : Memory) (opened_at : ℕ) (laid : IsLaid e m M opened_at) (map : IsLogMap m) (out : (x : Entry) → IsOfFile x → M.at x ≡ 1 → ⊥) (maps : (j : ℕ) → 32 ≤ j → M.at (Map j) ≡ 0) where
+  module _ (e : Content) (M : Memory) (opened_at : ℕ) (laid : IsLaid e m M opened_at) (map : IsLogMap m)
+      (out : (x : Entry) → IsOfFile x → M.at x ≡ 1 → ⊥) (maps : (j : ℕ) → 32 ≤ j → M.at (Map j) ≡ 0) where
     of_file : (n : ℕ) (h : Header) → m.header n ≡ Some h → (x : Entry) → IsIn (datas m n ++ (below m n ++ tops m n)) x → IsIn every x
     unfolding every of_header
     of_file n h is x there =
         let number = (laid_headers e m M opened_at laid n h is).number in
-        in_left (files_upto 4095) tables x (in_files 4095 n x number.0 number.1 (subst (λ (o : Option Header). IsIn (of_header n o) x) (sym is) there))
+        in_left (files_upto 4095) tables x
+        (in_files 4095 n x number.0 number.1 (subst (λ (o : Option Header). IsIn (of_header n o) x) (sym is) there))
 
     -- a leaf or a root on the device has something below
     leaf_has : (n q : ℕ) → 2 ≤ M.at (Leaf n q) → HasLeaf m n q
@@ -113,7 +117,8 @@ module _ (m : LogMap) where
         (some.0, some.1, leaf_has n (suc some.0) (settled (Leaf n (suc some.0)) (n, refl) above))
       where
         settled : (x : Entry) → IsOfFile x → 0 < M.at x → 2 ≤ M.at x
-        settled x file some = ⊎_elim (λ (one : M.at x ≡ 1). absurd (out x file one)) (λ (other : M.at x ≡ 1 → ⊥). omega (arith, some, other)) (cases_eq (M.at x) 1)
+        settled x file some = ⊎_elim (λ (one : M.at x ≡ 1). absurd (out x file one))
+            (λ (other : M.at x ≡ 1 → ⊥). omega (arith, some, other)) (cases_eq (M.at x) 1)
 
     has_header : (n : ℕ) → 0 < M.at (Inode n) → HasInode m n
     has_header n some = (laid.inodes n).1 some
@@ -128,37 +133,45 @@ module _ (m : LogMap) where
         let has = (laid.blocks n i).1 (omega (arith, at)) in
         let h = map.within n i has in
         let small = map.small n i has in
-        of_file n h.0 h.1 (Data n i) (in_left (datas m n) (below m n ++ tops m n) (Data n i) (in_picks (Data n) (is_stored m n) 0 16624 i (omega arith) (omega (arith, small)) (lt-ltb 0 (length (m.block n i)) has)))
+        of_file n h.0 h.1 (Data n i) (in_left (datas m n) (below m n ++ tops m n) (Data n i)
+        (in_picks (Data n) (is_stored m n) 0 16624 i (omega arith) (omega (arith, small)) (lt-ltb 0 (length (m.block n i)) has)))
     covers (Leaf n zero) at =
         let has = leaf_has n 0 at in
         let h = map.within n (112 + 128 * 0 + has.0) has.2 in
-        of_file n h.0 h.1 (Leaf n 0) (in_right (datas m n) (below m n ++ tops m n) (Leaf n 0) (in_right (below m n) (tops m n) (Leaf n 0) (in_first (has_leaf m n 0) (Leaf n 0) _ (((leaf_tests m n).0 0).1 has))))
+        of_file n h.0 h.1 (Leaf n 0) (in_right (datas m n) (below m n ++ tops m n) (Leaf n 0)
+        (in_right (below m n) (tops m n) (Leaf n 0) (in_first (has_leaf m n 0) (Leaf n 0) _ (((leaf_tests m n).0 0).1 has))))
     covers (Leaf n (suc q)) at =
         let has = leaf_has n (suc q) at in
         let h = map.within n (112 + 128 * suc q + has.0) has.2 in
         let low = laid.low n (suc q) (omega (arith, at)) in
-        of_file n h.0 h.1 (Leaf n (suc q)) (in_right (datas m n) (below m n ++ tops m n) (Leaf n (suc q)) (in_left (below m n) (tops m n) (Leaf n (suc q))
-        (in_picks (λ q. Leaf n (suc q)) (λ q. has_leaf m n (suc q)) 0 128 q (omega arith) (omega (arith, low)) (((leaf_tests m n).0 (suc q)).1 has))))
+        of_file n h.0 h.1 (Leaf n (suc q))
+        (in_right (datas m n) (below m n ++ tops m n) (Leaf n (suc q)) (in_left (below m n) (tops m n) (Leaf n (suc q))
+        (in_picks (λ q. Leaf n (suc q)) (λ q. has_leaf m n (suc q)) 0 128 q (omega arith) (omega (arith, low))
+        (((leaf_tests m n).0 (suc q)).1 has))))
     covers (Double n) at =
         let has = double_has n at in
         let h = map.within n (112 + 128 * suc has.0 + has.2.0) has.2.2 in
         of_file n h.0 h.1 (Double n) (in_right (datas m n) (below m n ++ tops m n) (Double n) (in_right (below m n) (tops m n) (Double n)
-        (in_rest (has_leaf m n 0) (Leaf n 0) (Double n) _ (in_first (has_double m n) (Double n) (Inode n ∷ []) ((leaf_tests m n).1.1 has)))))
+        (in_rest (has_leaf m n 0) (Leaf n 0) (Double n) _
+        (in_first (has_double m n) (Double n) (Inode n ∷ []) ((leaf_tests m n).1.1 has)))))
     covers (Inode n) at =
         let h = has_header n (omega (arith, at)) in
         of_file n h.0 h.1 (Inode n) (in_right (datas m n) (below m n ++ tops m n) (Inode n) (in_right (below m n) (tops m n) (Inode n)
         (in_rest (has_leaf m n 0) (Leaf n 0) (Inode n) _ (in_rest (has_double m n) (Double n) (Inode n) (Inode n ∷ []) (inl refl)))))
     covers (Map j) at = ⊎_elim
-        (λ (low : j < 32). in_table (Map j) (in_left (picks Map (λ j. true) 0 32) _ (Map j) (in_picks Map (λ j. true) 0 32 j (omega arith) (omega (arith, low)) refl)))
+        (λ (low : j < 32). in_table (Map j)
+        (in_left (picks Map (λ j. true) 0 32) _ (Map j) (in_picks Map (λ j. true) 0 32 j (omega arith) (omega (arith, low)) refl)))
         (λ (high : 32 ≤ j). let z = maps j high in absurd (omega (arith, z, at)))
         (cases_lt j 32)
     covers (Usage j) at =
         let low = (laid.usages j).1 (omega (arith, at)) in
         let few = laid.few in
-        in_table (Usage j) (in_right (picks Map (λ j. true) 0 32) (picks Usage (λ j. true) 0 16) (Usage j) (in_picks Usage (λ j. true) 0 16 j (omega arith) (omega (arith, low, few)) refl))
+        in_table (Usage j) (in_right (picks Map (λ j. true) 0 32) (picks Usage (λ j. true) 0 16) (Usage j)
+        (in_picks Usage (λ j. true) 0 16 j (omega arith) (omega (arith, low, few)) refl))
 
 -- With no block of a file in memory, the segments hold no more blocks than the files have, and 48 of the inode map and the usage table.
-pub stored_counted : (e : Content) (m : LogMap) (M : Memory) (opened_at : ℕ) → IsLaid e m M opened_at → IsLogMap m → ((x : Entry) → IsOfFile x → M.at x ≡ 1 → ⊥) → ((j : ℕ) → 32 ≤ j → M.at (Map j) ≡ 0)
+pub stored_counted : (e : Content) (m : LogMap) (M : Memory) (opened_at : ℕ) → IsLaid e m M opened_at → IsLogMap m
+    → ((x : Entry) → IsOfFile x → M.at x ≡ 1 → ⊥) → ((j : ℕ) → 32 ≤ j → M.at (Map j) ≡ 0)
     → sum_below (λ s. live_of m M s + held_of m M s) M.segments ≤ data_in m + meta_in m + 48
 stored_counted e m M opened_at laid map out maps =
     let c = blocks_counted e m M opened_at laid (every m) (covers m e M opened_at laid map out maps) in

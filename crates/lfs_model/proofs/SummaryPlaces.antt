@@ -1,10 +1,12 @@
 -- The summary, place by place.
-use Rattle.std.proofs.Common.{◌≡◌, ◌≤◌, ◌<◌, ◌+◌, ◌-◌, ◌*◌, ◌^◌, ℕ, List, [], ◌∷◌, ◌++◌, length, get_or, refl, sym, ap, subst, ◌∙◌, arith, length-append}
+use Rattle.std.proofs.Common.{◌≡◌, ◌≤◌, ◌<◌, ◌+◌, ◌-◌, ◌*◌, ◌^◌, ℕ, List, [], ◌∷◌, ◌++◌, length, get_or, refl, sym, ap, subst, ◌∙◌, arith}
+use Rattle.std.proofs.Common.{length-append}
 use Rattle.std.specs.List.{flat_map}
 use Rattle.lfs_model.specs.declared.BlockKind.{BlockKind}
 use Rattle.lfs_model.specs.declared.BlockKind.TheVariants.{Data, Leaf, Double, Inode, Map, Usage}
 use Rattle.lfs_model.specs.Fields.{le16, le32, zeros, part, read16, read32, run}
-use Rattle.lfs_model.specs.Summary.{BlockNameValue, FitsSummary, IsEntryAt, IsPlaced, block_at, block_kind_byte, block_kind_of, blocks_of, no_block, summary_entry, summary_sector}
+use Rattle.lfs_model.specs.Summary.{BlockNameValue, FitsSummary, IsEntryAt, IsPlaced, block_at, block_kind_byte, block_kind_of, blocks_of}
+use Rattle.lfs_model.specs.Summary.{no_block, summary_entry, summary_sector}
 use Rattle.lfs_model.proofs.Numbers.{IsBytes, fronts, length-le16, length-le32, length-zeros}
 use Rattle.lfs_model.proofs.Parts.{length-part, get_or-part, part_add, le16_of_read, le32_of_read, read16_is, read32_is}
 use Rattle.lfs_model.proofs.Laid.{Field, Sized, Laid, laid_from, laid_to, length-fields}
@@ -12,7 +14,8 @@ use Rattle.lfs_model.proofs.Runs.{length-run, get_or-run, run_spelled_each, run_
 
 pub length-entry : (b : BlockNameValue) → length (summary_entry b) ≡ 8
 unfolding summary_entry
-length-entry b = omega (arith, length-append (le16 b.file) (block_kind_byte b.kind ∷ 0 ∷ le32 b.index), length-le16 b.file, length-le32 b.index)
+length-entry b =
+    omega (arith, length-append (le16 b.file) (block_kind_byte b.kind ∷ 0 ∷ le32 b.index), length-le16 b.file, length-le32 b.index)
 
 abbrev Placed : BlockNameValue → Type 0
 Placed b = IsPlaced b.kind b.file b.index
@@ -62,11 +65,14 @@ unfolding summary_entry block_at
 entry_read s at fits room is =
     let two : part (at + 2) 2 s ≡ get_or s (at + 2) 0 ∷ get_or s (at + 3) 0 ∷ [] =
     pair (part (at + 2) 2 s) (length-part (at + 2) 2 s (omega arith))
-    ∙ ap (λ (x : ℕ). x ∷ get_or (part (at + 2) 2 s) 1 0 ∷ []) (get_or-part (at + 2) 2 s 0 (omega arith) ∙ ap (λ (k : ℕ). get_or s k 0) (omega arith))
-    ∙ ap (λ (x : ℕ). get_or s (at + 2) 0 ∷ x ∷ []) (get_or-part (at + 2) 2 s 1 (omega arith) ∙ ap (λ (k : ℕ). get_or s k 0) (omega arith)) in
+    ∙ ap (λ (x : ℕ). x ∷ get_or (part (at + 2) 2 s) 1 0 ∷ [])
+    (get_or-part (at + 2) 2 s 0 (omega arith) ∙ ap (λ (k : ℕ). get_or s k 0) (omega arith))
+    ∙ ap (λ (x : ℕ). get_or s (at + 2) 0 ∷ x ∷ [])
+    (get_or-part (at + 2) 2 s 1 (omega arith) ∙ ap (λ (k : ℕ). get_or s k 0) (omega arith)) in
     let kind : block_kind_byte (block_kind_of (get_or s (at + 2) 0)) ∷ 0 ∷ [] ≡ part (at + 2) 2 s =
     ap (λ (x : ℕ). x ∷ 0 ∷ []) is.kind ∙ ap (λ (x : ℕ). get_or s (at + 2) 0 ∷ x ∷ []) (sym is.gap) ∙ sym two in
-    ap (λ (b : List ℕ). b ++ ((block_kind_byte (block_kind_of (get_or s (at + 2) 0)) ∷ 0 ∷ []) ++ le32 (read32 (at + 4) s))) (le16_of_read at s fits (omega arith))
+    ap (λ (b : List ℕ). b ++ ((block_kind_byte (block_kind_of (get_or s (at + 2) 0)) ∷ 0 ∷ []) ++ le32 (read32 (at + 4) s)))
+    (le16_of_read at s fits (omega arith))
     ∙ ap (λ (b : List ℕ). part at 2 s ++ (b ++ le32 (read32 (at + 4) s))) kind
     ∙ ap (λ (b : List ℕ). part at 2 s ++ (part (at + 2) 2 s ++ b)) (le32_of_read (at + 4) s fits (omega arith))
     ∙ cut at s
@@ -79,7 +85,8 @@ record Entry (s : List ℕ) (at : ℕ) (b : BlockNameValue) : Type 0 where
   file : read16 at s ≡ b.file
   index : read32 (at + 4) s ≡ b.index
 
-entry_parts : (s : List ℕ) (at : ℕ) (b : BlockNameValue) → at + 8 ≤ length s → IsPlaced b.kind b.file b.index → part at 8 s ≡ summary_entry b → Entry s at b
+entry_parts : (s : List ℕ) (at : ℕ) (b : BlockNameValue) → at + 8 ≤ length s → IsPlaced b.kind b.file b.index
+    → part at 8 s ≡ summary_entry b → Entry s at b
 unfolding summary_entry
 entry_parts s at b room placed e =
     let x = fronts (part at 2 s) (part (at + 2) 2 s ++ part (at + 4) 4 s) (le16 b.file) ((block_kind_byte b.kind ∷ 0 ∷ []) ++ le32 b.index)
@@ -99,7 +106,8 @@ entry_parts s at b room placed e =
     }
 
 -- an entry that is spelled passes the test
-pub block_is : (s : List ℕ) (at : ℕ) (b : BlockNameValue) → at + 8 ≤ length s → IsPlaced b.kind b.file b.index → part at 8 s ≡ summary_entry b → IsEntryAt at s
+pub block_is : (s : List ℕ) (at : ℕ) (b : BlockNameValue) → at + 8 ≤ length s → IsPlaced b.kind b.file b.index
+    → part at 8 s ≡ summary_entry b → IsEntryAt at s
 block_is s at b room placed e =
     let p = entry_parts s at b room placed e in
     record {
@@ -111,7 +119,8 @@ block_is s at b room placed e =
 abbrev built : ℕ → BlockKind → ℕ → BlockNameValue
 built f k i = record { file = f; kind = k; index = i }
 
-pub block_read : (at : ℕ) (s : List ℕ) (f : ℕ) (k : BlockKind) (i : ℕ) → f ≡ read16 at s → k ≡ block_kind_of (get_or s (at + 2) 0) → i ≡ read32 (at + 4) s → built f k i ≡ block_at at s
+pub block_read : (at : ℕ) (s : List ℕ) (f : ℕ) (k : BlockKind) (i : ℕ) → f ≡ read16 at s → k ≡ block_kind_of (get_or s (at + 2) 0)
+    → i ≡ read32 (at + 4) s → built f k i ≡ block_at at s
 unfolding block_at
 block_read at s f k i p q r =
     ap (λ (n : ℕ). built n k i) p ∙ ap (λ (x : BlockKind). built (read16 at s) x i) q
@@ -124,7 +133,8 @@ entry_is s at b room placed e =
     sym (block_read at s b.file b.kind b.index (sym p.file) (sym p.kind) (sym p.index))
 
 unfoldable pub fields : List BlockNameValue → List Field
-fields bs = (2, le16 (length bs)) ∷ (6, zeros 6) ∷ (8 * length bs, flat_map summary_entry bs) ∷ (8 * (63 - length bs), zeros (8 * (63 - length bs))) ∷ []
+fields bs = (2, le16 (length bs)) ∷ (6, zeros 6) ∷ (8 * length bs, flat_map summary_entry bs)
+    ∷ (8 * (63 - length bs), zeros (8 * (63 - length bs))) ∷ []
 
 pub record ReadsAs (s : List ℕ) (bs : List BlockNameValue) : Type 0 where
   pub count : part 0 2 s ≡ le16 (length bs)
@@ -134,7 +144,8 @@ pub record ReadsAs (s : List ℕ) (bs : List BlockNameValue) : Type 0 where
 
 sized : (bs : List BlockNameValue) → Sized (fields bs)
 unfolding fields
-sized bs = (length-le16 (length bs), (length-zeros 6, (length-flat summary_entry 8 length-entry bs, (length-zeros (8 * (63 - length bs)), tt))))
+sized bs =
+    (length-le16 (length bs), (length-zeros 6, (length-flat summary_entry 8 length-entry bs, (length-zeros (8 * (63 - length bs)), tt))))
 
 pub length-summary : (bs : List BlockNameValue) → FitsSummary bs → length (summary_sector bs) ≡ 512
 unfolding fields summary_sector
@@ -154,7 +165,8 @@ reads_to s bs long room r = laid_to s 0 (fields bs) (omega arith) (r.count, (r.g
 pub count_of : (s : List ℕ) (bs : List BlockNameValue) → FitsSummary bs → ReadsAs s bs → read16 0 s ≡ length bs
 count_of s bs p r = let room = p.room in read16_is 0 s (length bs) (omega arith) r.count
 
-pub block_in : (s : List ℕ) (bs : List BlockNameValue) → length s ≡ 512 → FitsSummary bs → ReadsAs s bs → (i : ℕ) → i < length bs → IsEntryAt (8 + 8 * i) s
+pub block_in : (s : List ℕ) (bs : List BlockNameValue) → length s ≡ 512 → FitsSummary bs → ReadsAs s bs → (i : ℕ) → i < length bs
+    → IsEntryAt (8 + 8 * i) s
 block_in s bs long p r i lt =
     let room = p.room in
     block_is s (8 + 8 * i) (get_or bs i no_block) (omega arith) (p.each i lt)
@@ -162,7 +174,8 @@ block_in s bs long p r i lt =
 
 -- what is read of a sector that was tested
 pub summary_reads : (s : List ℕ) (n : ℕ) → IsBytes s → length s ≡ 512 → n ≡ read16 0 s → n ≤ 63 → part 2 6 s ≡ zeros 6
-    → ((i : ℕ) → i < n → IsEntryAt (8 + 8 * i) s) → part (8 + 8 * n) (8 * (63 - n)) s ≡ zeros (8 * (63 - n)) → ReadsAs s (run block_at 8 n 8 s)
+    → ((i : ℕ) → i < n → IsEntryAt (8 + 8 * i) s) → part (8 + 8 * n) (8 * (63 - n)) s ≡ zeros (8 * (63 - n))
+    → ReadsAs s (run block_at 8 n 8 s)
 summary_reads s n fits long is room gap each rest =
     let e : length (run block_at 8 n 8 s) ≡ n = length-run block_at 8 n 8 s in
     let all : flat_map summary_entry (run block_at 8 n 8 s) ≡ part 8 (8 * n) s =
@@ -196,7 +209,8 @@ summary_back bs p =
     let room = p.room in
     let long : length s ≡ 512 = length-summary bs p in
     ap (λ (m : ℕ). run block_at 8 m 8 s) (count_of s bs p r)
-    ∙ run_is block_at summary_entry Placed 8 s length-entry (λ at b room' placed e. entry_is s at b room' placed e) no_block bs 8 (omega arith) p.each r.blocks
+    ∙ run_is block_at summary_entry Placed 8 s length-entry (λ at b room' placed e. entry_is s at b room' placed e) no_block bs 8
+    (omega arith) p.each r.blocks
 
 -- two summaries of one sector are one
 pub one_summary : (a b : List BlockNameValue) → FitsSummary a → FitsSummary b → summary_sector a ≡ summary_sector b → a ≡ b

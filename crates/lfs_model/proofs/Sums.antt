@@ -1,5 +1,6 @@
 -- A sum over a sorted map, when one entry is put or taken away.
-use Rattle.std.proofs.Common.{◌≡◌, refl, sym, ap, subst, ◌∙◌, ℕ, ◌+◌, ◌≤◌, Bool, true, false, ◌&&◌, List, [], ◌∷◌, Option, Some, None, arith, cond}
+use Rattle.std.proofs.Common.{◌≡◌, refl, sym, ap, subst, ◌∙◌, ℕ, ◌+◌, ◌≤◌, Bool, true, false, ◌&&◌, List, [], ◌∷◌, Option, Some, None}
+use Rattle.std.proofs.Common.{arith, cond}
 use Rattle.std.specs.Prelude.{T, filter, not, sum_by, find as first_that}
 use Rattle.std.specs.Ordering.{is_lt, is_eq, eq_by_cmp}
 use Rattle.std.specs.declared.cmp.Ordering.{Ordering}
@@ -42,8 +43,10 @@ module _ {K X : Type 0} {R : K → K → Ordering} (o : IsTotalOrder R) (g : X �
       let first : R k e.0 ≡ Less = o.trans k x e.0 less (is_less _ (T_left _ _ h)) in
       rw first (none_below k x es less (T_right _ _ h))
 
-  total_put_at : (k : K) (v : X) (e : K × X) (es : List (K × X)) → T (is_sorted R (e ∷ es)) → total (put R k v es) + weight (find R k es) ≡ total es + g v
-      → (r : Ordering) → R k e.0 ≡ r → total (by_order r ((k, v) ∷ e ∷ es) ((e.0, v) ∷ es) (e ∷ put R k v es)) + weight (cond (is_eq r) (Some e.1) (find R k es)) ≡ total (e ∷ es) + g v
+  total_put_at : (k : K) (v : X) (e : K × X) (es : List (K × X)) → T (is_sorted R (e ∷ es))
+      → total (put R k v es) + weight (find R k es) ≡ total es + g v
+      → (r : Ordering) → R k e.0 ≡ r → total (by_order r ((k, v) ∷ e ∷ es) ((e.0, v) ∷ es) (e ∷ put R k v es))
+      + weight (cond (is_eq r) (Some e.1) (find R k es)) ≡ total (e ∷ es) + g v
   total_put_at k v e es h rest Less is = rw (none_below k e.0 es is (T_left _ _ h)) (omega (arith, total_cons (k, v) (e ∷ es)))
   total_put_at k v e es h rest Equal is = omega (arith, total_cons (e.0, v) es, total_cons e es)
   total_put_at k v e es h rest Greater is = omega (arith, total_cons e (put R k v es), total_cons e es, rest)
@@ -59,7 +62,8 @@ module _ {K X : Type 0} {R : K → K → Ordering} (o : IsTotalOrder R) (g : X �
   none_at x (e ∷ es) h = let first : R x e.0 ≡ Less = is_less _ (T_left _ _ h) in rw first (none_at x es (T_right _ _ h))
 
   -- what is found later is not at the first key
-  pub find_after : (k : K) (e : K × X) (es : List (K × X)) (x : X) → T (is_sorted R (e ∷ es)) → find R k es ≡ Some x → find R k (e ∷ es) ≡ Some x
+  pub find_after : (k : K) (e : K × X) (es : List (K × X)) (x : X) → T (is_sorted R (e ∷ es)) → find R k es ≡ Some x
+      → find R k (e ∷ es) ≡ Some x
   find_after k e es x h is =
       elim (R k e.0) as (λ r. R k e.0 ≡ r → cond (is_eq r) (Some e.1) (find R k es) ≡ Some x) [
         | Less ↦ λ _. is
@@ -75,29 +79,36 @@ module _ {K X : Type 0} {R : K → K → Ordering} (o : IsTotalOrder R) (g : X �
   total_zero [] h zeros = refl
   total_zero (e ∷ es) h zeros =
       let first : g e.1 ≡ 0 = zeros e.0 e.1 (find_first e es) in
-      let rest : total es ≡ 0 = total_zero es (T_right (below_all R e.0 es) (is_sorted R es) h) (λ k x is. zeros k x (find_after k e es x h is)) in
+      let rest : total es ≡ 0 =
+      total_zero es (T_right (below_all R e.0 es) (is_sorted R es) h) (λ k x is. zeros k x (find_after k e es x h is)) in
       omega (arith, total_cons e es, first, rest)
 
   -- two weights that agree on what is found have one sum
-  pub total_same : (h : X → ℕ) (es : List (K × X)) → T (is_sorted R es) → ((k : K) (x : X) → find R k es ≡ Some x → g x ≡ h x) → total es ≡ sum_by (λ e. h e.1) es
+  pub total_same : (h : X → ℕ) (es : List (K × X)) → T (is_sorted R es) → ((k : K) (x : X) → find R k es ≡ Some x → g x ≡ h x)
+      → total es ≡ sum_by (λ e. h e.1) es
   total_same h [] order same = refl
   total_same h (e ∷ es) order same =
       let first : g e.1 ≡ h e.1 = same e.0 e.1 (find_first e es) in
-      let rest = total_same h es (T_right (below_all R e.0 es) (is_sorted R es) order) (λ k x is. same k x (find_after k e es x order is)) in
+      let rest =
+      total_same h es (T_right (below_all R e.0 es) (is_sorted R es) order) (λ k x is. same k x (find_after k e es x order is)) in
       let other = sum_by-cons (λ (e : K × X). h e.1) e es in
       omega (arith, total_cons e es, first, rest, other)
 
   -- the first entry that passes a test is found at its key
-  pub first_found : (p : K × X → Bool) (es : List (K × X)) (e : K × X) → T (is_sorted R es) → first_that p es ≡ Some e → (p e ≡ true) × (find R e.0 es ≡ Some e.1)
+  pub first_found : (p : K × X → Bool) (es : List (K × X)) (e : K × X) → T (is_sorted R es) → first_that p es ≡ Some e
+      → (p e ≡ true) × (find R e.0 es ≡ Some e.1)
   first_found p [] e h is = cc
   first_found p (f ∷ es) e h is =
       elim (p f) as (λ b. p f ≡ b → cond b (Some f) (first_that p es) ≡ Some e → (p e ≡ true) × (find R e.0 (f ∷ es) ≡ Some e.1)) [
-        | true ↦ λ yes is. subst (λ (e : K × X). (p e ≡ true) × (find R e.0 (f ∷ es) ≡ Some e.1)) (Some-injective f e is) (yes, find_first f es)
+        | true ↦ λ yes is.
+            subst (λ (e : K × X). (p e ≡ true) × (find R e.0 (f ∷ es) ≡ Some e.1)) (Some-injective f e is) (yes, find_first f es)
         | false ↦ λ no is. let rest = first_found p es e (T_right _ _ h) is in (rest.0, find_after e.0 f es e.1 h rest.1)
       ] refl is
 
-  keeps_or_not : (k : K) (e : K × X) (es : List (K × X)) → T (is_sorted R (e ∷ es)) → total (without R k es) + weight (find R k es) ≡ total es
-      → (r : Ordering) → R k e.0 ≡ r → total (cond (not (is_eq r)) (e ∷ without R k es) (without R k es)) + weight (cond (is_eq r) (Some e.1) (find R k es)) ≡ total (e ∷ es)
+  keeps_or_not : (k : K) (e : K × X) (es : List (K × X)) → T (is_sorted R (e ∷ es))
+      → total (without R k es) + weight (find R k es) ≡ total es
+      → (r : Ordering) → R k e.0 ≡ r → total (cond (not (is_eq r)) (e ∷ without R k es) (without R k es))
+      + weight (cond (is_eq r) (Some e.1) (find R k es)) ≡ total (e ∷ es)
   keeps_or_not k e es h rest Less is = omega (arith, total_cons e es, total_cons e (without R k es), rest)
   keeps_or_not k e es h rest Equal is =
       let none : find R k es ≡ None = sym (find_tied R o k e.0 is es) ∙ none_at e.0 es (T_left (below_all R e.0 es) (is_sorted R es) h) in
@@ -132,10 +143,12 @@ module _ {K X : Type 0} {R : K → K → Ordering} (o : IsTotalOrder R) (g : X �
       ]
 
   -- and the same where what goes counts nothing
-  pub total_filter : (es : List (K × X)) → T (is_sorted R es) → ((k : K) (x : X) → find R k es ≡ Some x → p k ≡ false → g x ≡ 0) → total o g (filter (λ e. p e.0) es) ≡ total o g es
+  pub total_filter : (es : List (K × X)) → T (is_sorted R es) → ((k : K) (x : X) → find R k es ≡ Some x → p k ≡ false → g x ≡ 0)
+      → total o g (filter (λ e. p e.0) es) ≡ total o g es
   total_filter [] h zeros = refl
   total_filter (e ∷ es) h zeros =
-      let rest : total o g (filter (λ e. p e.0) es) ≡ total o g es = total_filter es (T_right (below_all R e.0 es) (is_sorted R es) h) (λ k x is. zeros k x (find_after o g k e es x h is)) in
+      let rest : total o g (filter (λ e. p e.0) es) ≡ total o g es =
+      total_filter es (T_right (below_all R e.0 es) (is_sorted R es) h) (λ k x is. zeros k x (find_after o g k e es x h is)) in
       let all = total_cons o g e es in
       elim (p e.0) as (λ b. p e.0 ≡ b → total o g (cond b (e ∷ filter (λ e. p e.0) es) (filter (λ e. p e.0) es)) ≡ total o g (e ∷ es)) [
         | true ↦ λ _. omega (arith, rest, all, total_cons o g e (filter (λ e. p e.0) es))

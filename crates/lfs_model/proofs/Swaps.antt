@@ -6,7 +6,8 @@ use Rattle.std.specs.Cmp.Lexicographic.{nat_list_cmp_total}
 use Rattle.std.proofs.lemmas.Cmp.{nat_cmp_total}
 use Rattle.std.specs.FinMap.{find, put, is_sorted, nat_cmp-IsAntisymmetric, slice_cmp-IsAntisymmetric}
 use Rattle.std.specs.FinMap.Entries.{is_sorted-put, is_sorted-where_key, find-put, same_entries}
-use Rattle.lfs_model.specs.Tree.{Tree, Names, Node, File, Dir, node, with_node, without, names_of, names_in, form_of, byte_cmp, with_name, without_name}
+use Rattle.lfs_model.specs.Tree.{Tree, Names, Node, File, Dir, node, with_node, without, names_of, names_in, form_of, byte_cmp, with_name}
+use Rattle.lfs_model.specs.Tree.{without_name}
 use Rattle.lfs_model.proofs.Sums.{find_without}
 use Rattle.lfs_model.proofs.Trees.{find_here, find_other, cmp_same, cmp_other}
 use Rattle.lfs_model.proofs.Growing.{same_or_not}
@@ -29,7 +30,8 @@ module _ (t : Tree) (order : T (is_sorted nat_cmp t)) where
       (λ na. same_or_not q b
       (λ e. subst (λ k. find nat_cmp k (put nat_cmp a x (put nat_cmp b y t)) ≡ find nat_cmp k (put nat_cmp b y (put nat_cmp a x t))) (sym e)
       (find_other (put nat_cmp b y t) a x b (λ e. ne (sym e)) ∙ find_here t b y ∙ sym (find_here (put nat_cmp a x t) b y)))
-      (λ nb. find_other (put nat_cmp b y t) a x q na ∙ find_other t b y q nb ∙ sym (find_other (put nat_cmp a x t) b y q nb ∙ find_other t a x q na))))
+      (λ nb. find_other (put nat_cmp b y t) a x q na ∙ find_other t b y q nb
+      ∙ sym (find_other (put nat_cmp a x t) b y q nb ∙ find_other t a x q na))))
 
   less : (j : ℕ) (u : Tree) → T (is_sorted nat_cmp u) → T (is_sorted nat_cmp (without nat_cmp j u))
   less j u h = is_sorted-where_key nat_cmp (λ x. not (eq_by_cmp nat_cmp j x)) u h
@@ -48,27 +50,32 @@ module _ (t : Tree) (order : T (is_sorted nat_cmp t)) where
       (λ e. subst (λ y. node (without nat_cmp j (put nat_cmp k x t)) y ≡ node (put nat_cmp k x (without nat_cmp j t)) y) (sym e)
       (gone j (put nat_cmp k x t) ∙ sym (find_other (without nat_cmp j t) k x j (λ e. ne (sym e)) ∙ gone j t)))
       (λ nj. left j q (put nat_cmp k x t) nj ∙ same_or_not q k
-      (λ e. subst (λ y. node (put nat_cmp k x t) y ≡ node (put nat_cmp k x (without nat_cmp j t)) y) (sym e) (find_here t k x ∙ sym (find_here (without nat_cmp j t) k x)))
+      (λ e. subst (λ y. node (put nat_cmp k x t) y ≡ node (put nat_cmp k x (without nat_cmp j t)) y) (sym e)
+      (find_here t k x ∙ sym (find_here (without nat_cmp j t) k x)))
       (λ nk. find_other t k x q nk ∙ sym (find_other (without nat_cmp j t) k x q nk ∙ left j q t nj))))
 
   -- a node less, before or after a change of another
   pub change_less : (f : Names → Names) (d j : ℕ) → d ≢ j → without nat_cmp j (change f t d) ≡ change f (without nat_cmp j t) d
-  change_less f d j ne = without_put j d (changed (node t d) f) ne ∙ ap (λ o. put nat_cmp d (changed o f) (without nat_cmp j t)) (sym (left j d t ne))
+  change_less f d j ne = without_put j d (changed (node t d) f) ne
+      ∙ ap (λ o. put nat_cmp d (changed o f) (without nat_cmp j t)) (sym (left j d t ne))
 
   -- a node more, before or after it
   pub change_more : (f : Names → Names) (d n : ℕ) (x : Node) → d ≢ n → with_node (change f t d) n x ≡ change f (with_node t n x) d
-  change_more f d n x ne = put_swap n d x (changed (node t d) f) (λ e. ne (sym e)) ∙ ap (λ o. put nat_cmp d (changed o f) (with_node t n x)) (sym (find_other t n x d ne))
+  change_more f d n x ne = put_swap n d x (changed (node t d) f) (λ e. ne (sym e))
+      ∙ ap (λ o. put nat_cmp d (changed o f) (with_node t n x)) (sym (find_other t n x d ne))
 
   pub change_order : (f : Names → Names) (d : ℕ) → T (is_sorted nat_cmp (change f t d))
   change_order f d = is_sorted-put nat_cmp nat_cmp_total d (changed (node t d) f) t order
 
 -- a name that is put over one that was there
-put_over : (n : ℕ) (nm : List ℕ) (xs ys : Names) → T (is_sorted byte_cmp xs) → T (is_sorted byte_cmp ys) → ((x : List ℕ) → eq_by_cmp byte_cmp x nm ≡ false → find byte_cmp x xs ≡ find byte_cmp x ys)
+put_over : (n : ℕ) (nm : List ℕ) (xs ys : Names) → T (is_sorted byte_cmp xs) → T (is_sorted byte_cmp ys)
+    → ((x : List ℕ) → eq_by_cmp byte_cmp x nm ≡ false → find byte_cmp x xs ≡ find byte_cmp x ys)
     → put byte_cmp nm n xs ≡ put byte_cmp nm n ys
 put_over n nm xs ys order_x order_y same = same_entries byte_cmp nat_list_cmp_total (slice_cmp-IsAntisymmetric nat_cmp-IsAntisymmetric) _ _
     (is_sorted-put byte_cmp nat_list_cmp_total nm n xs order_x) (is_sorted-put byte_cmp nat_list_cmp_total nm n ys order_y)
     (λ x. find-put byte_cmp nat_list_cmp_total x nm n xs
-    ∙ elim (eq_by_cmp byte_cmp x nm) as (λ b. eq_by_cmp byte_cmp x nm ≡ b → cond b (Some n) (find byte_cmp x xs) ≡ cond b (Some n) (find byte_cmp x ys)) [ true ↦ λ e. refl | false ↦ λ e. same x e ] refl
+    ∙ elim (eq_by_cmp byte_cmp x nm) as (λ b. eq_by_cmp byte_cmp x nm ≡ b
+    → cond b (Some n) (find byte_cmp x xs) ≡ cond b (Some n) (find byte_cmp x ys)) [ true ↦ λ e. refl | false ↦ λ e. same x e ] refl
     ∙ sym (find-put byte_cmp nat_list_cmp_total x nm n ys))
 
 fewer_names : (nm : List ℕ) (m : Names) → T (is_sorted byte_cmp m) → T (is_sorted byte_cmp (without byte_cmp nm m))
@@ -76,7 +83,8 @@ fewer_names nm m h = is_sorted-where_key byte_cmp (λ x. not (eq_by_cmp byte_cmp
 
 -- ---- a rename over a name that is there: that name may go first
 
-module _ (t : Tree) (order : T (is_sorted nat_cmp t)) (da db n : ℕ) (na nb : List ℕ) (order_b : T (is_sorted byte_cmp (names_in t db))) where
+module _ (t : Tree) (order : T (is_sorted nat_cmp t)) (da db n : ℕ) (na nb : List ℕ)
+    (order_b : T (is_sorted byte_cmp (names_in t db))) where
   abbrev pub freed : Tree
   freed = without_name t db nb
 
@@ -102,8 +110,10 @@ module _ (t : Tree) (order : T (is_sorted nat_cmp t)) (da db n : ℕ) (na nb : L
   over m h = put_over n nb m (without byte_cmp nb m) h (fewer_names nb m h) (one_less m)
 
   over_less : (m : Names) → T (is_sorted byte_cmp m) → more_b (without byte_cmp na m) ≡ more_b (without byte_cmp na (without byte_cmp nb m))
-  over_less m h = put_over n nb (without byte_cmp na m) (without byte_cmp na (without byte_cmp nb m)) (fewer_names na m h) (fewer_names na (without byte_cmp nb m) (fewer_names nb m h))
-      (λ x ne. find_without nat_list_cmp_total na x m ∙ ap (λ o. cond (eq_by_cmp byte_cmp x na) None o) (one_less m x ne) ∙ sym (find_without nat_list_cmp_total na x (without byte_cmp nb m)))
+  over_less m h = put_over n nb (without byte_cmp na m) (without byte_cmp na (without byte_cmp nb m)) (fewer_names na m h)
+      (fewer_names na (without byte_cmp nb m) (fewer_names nb m h))
+      (λ x ne. find_without nat_list_cmp_total na x m ∙ ap (λ o. cond (eq_by_cmp byte_cmp x na) None o) (one_less m x ne)
+      ∙ sym (find_without nat_list_cmp_total na x (without byte_cmp nb m)))
 
   at_b : node (with_name less_a db nb n) db ≡ node (with_name less_both db nb n) db
   at_b = at_change more_b less_a db ∙ inner ∙ sym (at_change more_b less_both db)
@@ -111,8 +121,10 @@ module _ (t : Tree) (order : T (is_sorted nat_cmp t)) (da db n : ℕ) (na nb : L
       inner : Some (changed (node less_a db) more_b) ≡ Some (changed (node less_both db) more_b)
       inner = same_or_not db da
           (λ e.
-          let one : node less_a db ≡ Some (changed (node t db) (without byte_cmp na)) = subst (λ d. node less_a d ≡ Some (changed (node t d) (without byte_cmp na))) (sym e) (at_change (without byte_cmp na) t da) in
-          let two : node less_both db ≡ Some (changed (node freed db) (without byte_cmp na)) = subst (λ d. node less_both d ≡ Some (changed (node freed d) (without byte_cmp na))) (sym e) (at_change (without byte_cmp na) freed da) in
+          let one : node less_a db ≡ Some (changed (node t db) (without byte_cmp na)) =
+          subst (λ d. node less_a d ≡ Some (changed (node t d) (without byte_cmp na))) (sym e) (at_change (without byte_cmp na) t da) in
+          let two : node less_both db ≡ Some (changed (node freed db) (without byte_cmp na)) = subst (λ d.
+          node less_both d ≡ Some (changed (node freed d) (without byte_cmp na))) (sym e) (at_change (without byte_cmp na) freed da) in
           let three : node freed db ≡ Some (changed (node t db) (without byte_cmp nb)) = at_change (without byte_cmp nb) t db in
           ap (λ o. Some (changed o more_b)) one
           ∙ ap (λ m. Some (Dir (form_of (node t db)) m)) (over_less (names_in t db) order_b)
@@ -131,14 +143,16 @@ module _ (t : Tree) (order : T (is_sorted nat_cmp t)) (da db n : ℕ) (na nb : L
       at_change (without byte_cmp na) t da
       ∙ ap (λ o. Some (changed o (without byte_cmp na))) (sym (off_change (without byte_cmp nb) t db da (λ same. ne (e ∙ same))))
       ∙ sym (at_change (without byte_cmp na) freed da)))
-      (λ apart. off_change (without byte_cmp na) t da q apart ∙ sym (off_change (without byte_cmp na) freed da q apart ∙ off_change (without byte_cmp nb) t db q ne))
+      (λ apart. off_change (without byte_cmp na) t da q apart
+      ∙ sym (off_change (without byte_cmp na) freed da q apart ∙ off_change (without byte_cmp nb) t db q ne))
 
   pub rename_over : with_name less_a db nb n ≡ with_name less_both db nb n
   rename_over =
       let order_a = change_order t order (without byte_cmp na) da in
       let order_freed = change_order t order (without byte_cmp nb) db in
       let order_both = change_order freed order_freed (without byte_cmp na) da in
-      same_entries nat_cmp nat_cmp_total nat_cmp-IsAntisymmetric _ _ (change_order less_a order_a more_b db) (change_order less_both order_both more_b db)
+      same_entries nat_cmp nat_cmp_total nat_cmp-IsAntisymmetric _ _ (change_order less_a order_a more_b db)
+      (change_order less_both order_both more_b db)
       (λ q. same_or_not q db
       (λ e. subst (λ k. node (with_name less_a db nb n) k ≡ node (with_name less_both db nb n) k) (sym e) at_b)
       (λ ne. off_change more_b less_a db q ne ∙ off_b q ne ∙ sym (off_change more_b less_both db q ne)))

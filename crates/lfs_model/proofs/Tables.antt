@@ -1,5 +1,6 @@
 -- The blocks of the tables, and the summaries, on their way out.
-use Rattle.std.proofs.Common.{◌≡◌, ◌<◌, ◌≤◌, ◌↔◌, ◌+◌, ◌*◌, ◌/◌, cond, ℕ, zero, suc, List, [], length, get_or, take, drop, Option, Some, None, refl, sym, ◌∙◌, ap, subst, arith, length-take, length-drop, get_or-take, get_or-drop}
+use Rattle.std.proofs.Common.{◌≡◌, ◌<◌, ◌≤◌, ◌↔◌, ◌+◌, ◌*◌, ◌/◌, cond, ℕ, zero, suc, List, [], length, get_or, take, drop, Option, Some}
+use Rattle.std.proofs.Common.{None, refl, sym, ◌∙◌, ap, subst, arith, length-take, length-drop, get_or-take, get_or-drop}
 use Rattle.lfs_model.specs.Entry.{Entry, Data, Leaf, Double, Inode, Map, Usage, word}
 use Rattle.lfs_model.specs.Content.{Content, bytes_of, block}
 use Rattle.lfs_model.specs.Device.{cell_at}
@@ -37,7 +38,8 @@ pub usage_table : (j : ℕ) → IsOfFile (Usage j) → ⊥
 usage_table j is = let e : None ≡ Some is.0 = is.1 in absurd (cc)
 
 -- a block spells its entry whatever addresses other files' and tables' blocks have
-pub spells_same : (m : LogMap) (A B : Entry → ℕ) → ((y : Entry) → IsOfFile y → B y ≡ A y) → (b : List ℕ) (x : Entry) → SpellsBlock m A b x → SpellsBlock m B b x
+pub spells_same : (m : LogMap) (A B : Entry → ℕ) → ((y : Entry) → IsOfFile y → B y ≡ A y) → (b : List ℕ) (x : Entry) → SpellsBlock m A b x
+    → SpellsBlock m B b x
 spells_same m A B same b (Data n i) is = is
 spells_same m A B same b (Leaf n q) is = λ i low. is i low ∙ sym (same (Data n (112 + 128 * q + i)) (n, refl))
 spells_same m A B same b (Double n) is = λ q low. is q low ∙ sym (same (Leaf n (suc q)) (n, refl))
@@ -52,7 +54,8 @@ spells_same m A B same b (Map j) is = tt
 spells_same m A B same b (Usage j) is = tt
 
 -- an inode map block stays right where it and its inodes stay
-pub mapped_same : (m : LogMap) (M M' : Memory) (j : ℕ) → ((n : ℕ) → M'.at (Inode n) ≡ M.at (Inode n)) → M'.at (Map j) ≡ M.at (Map j) → M'.bytes (Map j) ≡ M.bytes (Map j) → IsMapped m M j → IsMapped m M' j
+pub mapped_same : (m : LogMap) (M M' : Memory) (j : ℕ) → ((n : ℕ) → M'.at (Inode n) ≡ M.at (Inode n)) → M'.at (Map j) ≡ M.at (Map j)
+    → M'.bytes (Map j) ≡ M.bytes (Map j) → IsMapped m M j → IsMapped m M' j
 mapped_same m M M' j inodes at bytes is = record {
   settled = λ i low one. is.settled i low (sym (shows i) ∙ one);
   none = λ z i low. shows i ∙ is.none (sym at ∙ z) i low;
@@ -70,7 +73,8 @@ block_at c zero lt = absurd (omega arith)
 block_at c (suc a) lt = refl
 
 -- a row is read from its summaries alone
-pub row_kept : (e d : Content) (s : ℕ) (r : Row) → length r ≤ 64 → length d ≡ length e → ((o : ℕ) → o < length r → get_or r o None ≡ None → cell_at d (2 + 64 * s + o) ≡ cell_at e (2 + 64 * s + o)) → row_by e (length r) s ≡ Some r
+pub row_kept : (e d : Content) (s : ℕ) (r : Row) → length r ≤ 64 → length d ≡ length e → ((o : ℕ) → o < length r → get_or r o None ≡ None
+    → cell_at d (2 + 64 * s + o) ≡ cell_at e (2 + 64 * s + o)) → row_by e (length r) s ≡ Some r
     → row_by d (length r) s ≡ Some r
 unfolding row_by
 row_kept e d s r few size same is =
@@ -114,7 +118,8 @@ module _ (e : Content) (m : LogMap) (M : Memory) (o : ℕ) (laid : IsLaid e m M 
   inode_at n = at_file (Inode n) (n, refl)
 
   pub blocks_now : (n i : ℕ) → HasData m n i ↔ 0 < M'.at (Data n i)
-  blocks_now n i = let s = at_file (Data n i) (n, refl) in (λ has. let lt = (laid.blocks n i).0 has in omega arith, λ lt. (laid.blocks n i).1 (omega arith))
+  blocks_now n i = let s = at_file (Data n i) (n, refl) in
+      (λ has. let lt = (laid.blocks n i).0 has in omega arith, λ lt. (laid.blocks n i).1 (omega arith))
 
   pub inodes_now : (n : ℕ) → HasInode m n ↔ 0 < M'.at (Inode n)
   inodes_now n = let s = inode_at n in (λ has. let lt = (laid.inodes n).0 has in omega arith, λ lt. (laid.inodes n).1 (omega arith))
@@ -127,7 +132,8 @@ module _ (e : Content) (m : LogMap) (M : Memory) (o : ℕ) (laid : IsLaid e m M 
   low_now n q lt = let s = at_file (Leaf n q) (n, refl) in laid.low n q (omega arith)
 
   pub some_now : (y : Entry) → IsPointers y → 2 ≤ M'.at y → HasPointer (M'.bytes y)
-  some_now y is le = let f = pointers_of_file y is in let s = at_file y f in subst HasPointer (sym (bytes_file y f)) (laid.some y is (omega arith))
+  some_now y is le = let f = pointers_of_file y is in let s = at_file y f in
+      subst HasPointer (sym (bytes_file y f)) (laid.some y is (omega arith))
 
   pub up_now : (y : Entry) → M'.at y ≡ 1 → M'.at (parent y) ≡ 1
   up_now = by_entry x (λ y. M'.at y ≡ 1 → M'.at (parent y) ≡ 1) (λ one. ap M'.at (top x table) ∙ one)
@@ -142,7 +148,8 @@ module _ (e : Content) (m : LogMap) (M : Memory) (o : ℕ) (laid : IsLaid e m M 
       go : (f : Option ℕ) → file_of y ≡ f → SpellsBlock m M'.at (M'.bytes y) y
       go (Some n) is =
           let s = at_file y (n, is) in
-          spells_same m M.at M'.at at_file (M'.bytes y) y (subst (λ (b : List ℕ). SpellsBlock m M.at b y) (sym (bytes_file y (n, is))) (laid.spells y (omega arith)))
+          spells_same m M.at M'.at at_file (M'.bytes y) y
+          (subst (λ (b : List ℕ). SpellsBlock m M.at b y) (sym (bytes_file y (n, is))) (laid.spells y (omega arith)))
       go None is = none y (λ (f : IsOfFile y). let bad : None ≡ Some f.0 = sym is ∙ f.1 in absurd (cc))
         where
           none : (y : Entry) → (IsOfFile y → ⊥) → SpellsBlock m M'.at (M'.bytes y) y
@@ -154,7 +161,8 @@ module _ (e : Content) (m : LogMap) (M : Memory) (o : ℕ) (laid : IsLaid e m M 
           none (Usage j) out = tt
 
   pub mapped_other : (j : ℕ) → (Map j ≡ x → ⊥) → (M'.at (Map j) ≡ 1 → ⊥) → IsMapped m M' j
-  mapped_other j ne none = mapped_same m M M' j inode_at (others (Map j) ne) (kept (Map j) ne) (laid.mapped j (λ one. none (others (Map j) ne ∙ one)))
+  mapped_other j ne none =
+      mapped_same m M M' j inode_at (others (Map j) ne) (kept (Map j) ne) (laid.mapped j (λ one. none (others (Map j) ne ∙ one)))
 
   pub usages_other : (j : ℕ) → (Usage j ≡ x → ⊥) → M'.segments ≡ M.segments → (j < (M'.segments + 63) / 64) ↔ 0 < M'.at (Usage j)
   usages_other j ne same = let s = others (Usage j) ne in (

@@ -1,12 +1,14 @@
 -- A name taken out of a directory.
-use Rattle.std.proofs.Common.{◌≡◌, ◌≢◌, refl, sym, ap, subst, ◌∙◌, ℕ, suc, ◌≤◌, Bool, true, false, List, [], ◌∷◌, Some, None, arith, cond, length, inl, inr, ◌⊎◌, eqb}
+use Rattle.std.proofs.Common.{◌≡◌, ◌≢◌, refl, sym, ap, subst, ◌∙◌, ℕ, suc, ◌≤◌, Bool, true, false, List, [], ◌∷◌, Some, None, arith, cond}
+use Rattle.std.proofs.Common.{length, inl, inr, ◌⊎◌, eqb}
 use Rattle.std.proofs.lemmas.Bool.Decides.{nat_tests}
 use Rattle.std.specs.Prelude.{T, unwrap_or, not, filter, if◌then◌else◌, ◌==◌}
 use Rattle.std.specs.List.{AllByRecursion}
 use Rattle.std.specs.Ordering.{nat_cmp, eq_by_cmp}
 use Rattle.std.specs.FinMap.{find, is_sorted}
 use Rattle.std.specs.FinMap.Entries.{is_sorted-where_key}
-use Rattle.lfs_model.specs.Tree.{Tree, Names, Node, File, Dir, State, node, with_node, without, names_of, form_of, without_name, is_dir, name_len, entry, byte_cmp, names}
+use Rattle.lfs_model.specs.Tree.{Tree, Names, Node, File, Dir, State, node, with_node, without, names_of, form_of, without_name, is_dir}
+use Rattle.lfs_model.specs.Tree.{name_len, entry, byte_cmp, names}
 use Rattle.lfs_model.specs.Need.{cost, cost_at, need}
 use Rattle.lfs_model.specs.Sound.{Sound, IsReachable, root, below, IsGoodName, IsWithinLimits, IsOfVersion, IsFile}
 use Rattle.lfs_model.specs.Step.{with_tree}
@@ -16,22 +18,28 @@ use Rattle.lfs_model.proofs.DirCosts.{dir_cost}
 use Rattle.lfs_model.proofs.Growing.{same_or_not}
 use Rattle.lfs_model.proofs.Dropping.{SoundBut}
 use Rattle.lfs_model.proofs.Detached.{IsDetached, Under, itself, inside, holder}
-use Rattle.lfs_model.proofs.Shrinking.{after_order, at_dir, at_other, dirs, names_after, names_kept, named_counts, entry_after, entry_kept, links_less, reached_kept}
+use Rattle.lfs_model.proofs.Shrinking.{after_order, at_dir, at_other, dirs, names_after, names_kept, named_counts, entry_after, entry_kept}
+use Rattle.lfs_model.proofs.Shrinking.{links_less, reached_kept}
 
-pub all_filter : {K X : Type 0} (P : K → Type 0) (p : K × X → Bool) (es : List (K × X)) → AllByRecursion (λ e. P e.0) es → AllByRecursion (λ e. P e.0) (filter p es)
+pub all_filter : {K X : Type 0} (P : K → Type 0) (p : K × X → Bool) (es : List (K × X)) → AllByRecursion (λ e. P e.0) es
+    → AllByRecursion (λ e. P e.0) (filter p es)
 all_filter P p [] h = tt
-all_filter P p (e ∷ es) h = elim (p e) as (λ b. AllByRecursion (λ e. P e.0) (cond b (e ∷ filter p es) (filter p es))) [ true ↦ (h.0, all_filter P p es h.1) | false ↦ all_filter P p es h.1 ]
+all_filter P p (e ∷ es) h = elim (p e) as (λ b. AllByRecursion (λ e. P e.0) (cond b (e ∷ filter p es) (filter p es)))
+    [ true ↦ (h.0, all_filter P p es h.1) | false ↦ all_filter P p es h.1 ]
 
 filter_short : {A : Type 0} (p : A → Bool) (xs : List A) → length (filter p xs) ≤ length xs
 filter_short p [] = omega arith
-filter_short p (x ∷ xs) = let rest = filter_short p xs in elim (p x) as (λ b. length (cond b (x ∷ filter p xs) (filter p xs)) ≤ suc (length xs)) [ true ↦ omega arith | false ↦ omega arith ]
+filter_short p (x ∷ xs) = let rest = filter_short p xs in
+    elim (p x) as (λ b. length (cond b (x ∷ filter p xs) (filter p xs)) ≤ suc (length xs)) [ true ↦ omega arith | false ↦ omega arith ]
 
-pub name_less : (t : Tree) (d form : ℕ) (m : Names) (nm : List ℕ) → T (is_sorted nat_cmp t) → node t d ≡ Some (Dir form m) → need (without_name t d nm) ≤ need t
+pub name_less : (t : Tree) (d form : ℕ) (m : Names) (nm : List ℕ) → T (is_sorted nat_cmp t) → node t d ≡ Some (Dir form m)
+    → need (without_name t d nm) ≤ need t
 name_less t d form m nm order is =
     let change = need-with_node t d (Dir form (without byte_cmp nm m)) order in
     let was : cost_at (node t d) ≡ cost (Dir form m) = ap cost_at is in
     let less = dir_cost form (without byte_cmp nm m) m (filter_short (λ (e : List ℕ × ℕ). not (eq_by_cmp byte_cmp nm e.0)) m) in
-    let same : without_name t d nm ≡ with_node t d (Dir form (without byte_cmp nm m)) = ap (λ o. with_node t d (Dir (form_of o) (without byte_cmp nm (names_of (unwrap_or o (File [])))))) is in
+    let same : without_name t d nm ≡ with_node t d (Dir form (without byte_cmp nm m)) =
+    ap (λ o. with_node t d (Dir (form_of o) (without byte_cmp nm (names_of (unwrap_or o (File [])))))) is in
     let small : need (with_node t d (Dir form (without byte_cmp nm m))) ≤ need t = omega (arith, change, was, less) in
     subst (λ (u : Tree). need u ≤ need t) (sym same) small
 
@@ -77,7 +85,8 @@ module _ (N : ℕ) (s : State) (sound : Sound N s) (d n form : ℕ) (m : Names) 
     all_filter (IsGoodName (name_len form)) (λ e. not (eq_by_cmp byte_cmp nm e.0)) m limits_dir.2,
   )
 
-  each_kept : (P : Node → Type 0) → ((q : ℕ) (x : Node) → node t q ≡ Some x → P x) → P (Dir form (without byte_cmp nm m)) → (q : ℕ) (x : Node) → node t1 q ≡ Some x → P x
+  each_kept : (P : Node → Type 0) → ((q : ℕ) (x : Node) → node t q ≡ Some x → P x) → P (Dir form (without byte_cmp nm m))
+      → (q : ℕ) (x : Node) → node t1 q ≡ Some x → P x
   each_kept P was dir q x h = same_or_not q d
       (λ e. subst P (Some-injective _ _ (sym dir_now ∙ subst (λ y. node t1 y ≡ Some x) e h)) dir)
       (λ b. was q x (sym (kept q b) ∙ h))
@@ -108,12 +117,15 @@ module _ (N : ℕ) (s : State) (sound : Sound N s) (d n form : ℕ) (m : Names) 
     root = dirs_same 1 ∙ sound.root;
     numbers = λ q some. sound.numbers q (there q some);
     limits = each_kept IsWithinLimits sound.limits shrunk_limits;
-    few_links = λ q some. (let less = links_less t d n form m nm sound.in_order is limits_dir.0 found q in let few = sound.few_links q (there q some) in omega arith);
+    few_links = λ q some. (let less = links_less t d n form m nm sound.in_order is limits_dir.0 found q in
+        let few = sound.few_links q (there q some) in omega arith);
     named = λ q x k e. here k (sound.named q x k (was_entry q x k e));
     root_unnamed = same_names 1 (dir_not_n plain 1 sound.root) ∙ sound.root_unnamed;
     one_name = λ q ne dir. (let was = sym (dirs_same q) ∙ dir in same_names q (dir_not_n plain q was) ∙ sound.one_name q ne was);
-    reached = λ q dir. (let was = sym (dirs_same q) ∙ dir in reached_kept t d n form m nm sound.in_order is limits_dir.0 found plain (sound.reached q was) was);
-    held = λ q a ne some none. (let was = sound.held q ne (there q some) (sym (same_names q a) ∙ none) in record { file = file_kept q was.file; handle = was.handle });
+    reached = λ q dir. (let was = sym (dirs_same q) ∙ dir in
+        reached_kept t d n form m nm sound.in_order is limits_dir.0 found plain (sound.reached q was) was);
+    held = λ q a ne some none. (let was = sound.held q ne (there q some) (sym (same_names q a) ∙ none) in
+        record { file = file_kept q was.file; handle = was.handle });
     handles = λ h q e. ((sound.handles h q e).0, file_kept q (sound.handles h q e).1);
     room = let less = less_need in let fits = sound.room in omega arith;
   }
@@ -156,7 +168,8 @@ module _ (N : ℕ) (s : State) (sound : Sound N s) (d n form : ℕ) (m : Names) 
       root = dirs_same 1 ∙ sound.root;
       numbers = λ q some. sound.numbers q (there q some);
       limits = each_kept IsWithinLimits sound.limits shrunk_limits;
-      few_links = λ q some. (let less = links_less t d n form m nm sound.in_order is limits_dir.0 found q in let few = sound.few_links q (there q some) in omega arith);
+      few_links = λ q some. (let less = links_less t d n form m nm sound.in_order is limits_dir.0 found q in
+          let few = sound.few_links q (there q some) in omega arith);
       named = λ q x k e. here k (sound.named q x k (was_entry q x k e));
       root_unnamed = same_names 1 (λ e. inner (sym e)) ∙ sound.root_unnamed;
       dir = dirs_same n ∙ dir;
@@ -164,6 +177,7 @@ module _ (N : ℕ) (s : State) (sound : Sound N s) (d n form : ℕ) (m : Names) 
       unnamed = no_name;
       one_name = λ q ne a is_one. same_names q ne ∙ sound.one_name q a (sym (dirs_same q) ∙ is_one);
       reached = λ q is_one. (let was = sym (dirs_same q) ∙ is_one in parted (sound.reached q was) was);
-      held = λ q a ne some none. (let was = sound.held q ne (there q some) (sym (same_names q a) ∙ none) in record { file = file_kept q was.file; handle = was.handle });
+      held = λ q a ne some none. (let was = sound.held q ne (there q some) (sym (same_names q a) ∙ none) in
+          record { file = file_kept q was.file; handle = was.handle });
       handles = λ h q e. ((sound.handles h q e).0, file_kept q (sound.handles h q e).1);
     }

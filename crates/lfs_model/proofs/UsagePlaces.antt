@@ -9,7 +9,14 @@ use Rattle.lfs_model.proofs.Runs.{get_or-run, run_spelled, run_is, length-flat}
 
 pub length-entry : (u : SegmentUse) → length (usage_entry u) ≡ 8
 unfolding usage_entry
-length-entry u = omega (arith, length-append (le16 u.used) (le16 u.live ++ le32 u.age), length-append (le16 u.live) (le32 u.age), length-le16 u.used, length-le16 u.live, length-le32 u.age)
+length-entry u = omega (
+  arith,
+  length-append (le16 u.used) (le16 u.live ++ le32 u.age),
+  length-append (le16 u.live) (le32 u.age),
+  length-le16 u.used,
+  length-le16 u.live,
+  length-le32 u.age,
+)
 
 -- the parts of an entry
 cut : (at : ℕ) (s : List ℕ) → part at 2 s ++ (part (at + 2) 2 s ++ part (at + 4) 4 s) ≡ part at 8 s
@@ -41,7 +48,8 @@ unfolding usage_entry use_at
 entry_is s at u room small e =
     let a = fronts (part at 2 s) (part (at + 2) 2 s ++ part (at + 4) 4 s) (le16 u.used) (le16 u.live ++ le32 u.age)
     (length-part at 2 s (omega arith) ∙ sym (length-le16 u.used)) (cut at s ∙ e) in
-    let b = fronts (part (at + 2) 2 s) (part (at + 4) 4 s) (le16 u.live) (le32 u.age) (length-part (at + 2) 2 s (omega arith) ∙ sym (length-le16 u.live)) a.1 in
+    let b = fronts (part (at + 2) 2 s) (part (at + 4) 4 s) (le16 u.live) (le32 u.age)
+    (length-part (at + 2) 2 s (omega arith) ∙ sym (length-le16 u.live)) a.1 in
     let used : read16 at s ≡ u.used = read16_is at s u.used small.used a.0 in
     let live : read16 (at + 2) s ≡ u.live = read16_is (at + 2) s u.live small.live b.0 in
     let age : read32 (at + 4) s ≡ u.age = read32_is (at + 4) s u.age small.age b.1 in
@@ -79,15 +87,18 @@ usage_spelled s fits long =
 pub usage_only : (s : List ℕ) (n : ℕ) (us : List SegmentUse) → FitsUsage n us → s ≡ usage_sector us → us ≡ usage_of s
 usage_only s n us p e = sym (usage_back n us p) ∙ ap (λ (x : List ℕ). usage_of x) (sym e)
 
-pub use_read : (at : ℕ) (s : List ℕ) (u l a : ℕ) → u ≡ read16 at s → l ≡ read16 (at + 2) s → a ≡ read32 (at + 4) s → built u l a ≡ use_at at s
+pub use_read : (at : ℕ) (s : List ℕ) (u l a : ℕ) → u ≡ read16 at s → l ≡ read16 (at + 2) s → a ≡ read32 (at + 4) s
+    → built u l a ≡ use_at at s
 unfolding use_at
 use_read at s u l a p q r =
     ap (λ (n : ℕ). built n l a) p ∙ ap (λ (n : ℕ). built (read16 at s) n a) q ∙ ap (λ (n : ℕ). built (read16 at s) (read16 (at + 2) s) n) r
 
 -- the entries of a block that fits are those that are read
-pub use_of : (s : List ℕ) (n : ℕ) (us : List SegmentUse) → FitsUsage n us → s ≡ usage_sector us → (i : ℕ) → i < 64 → get_or us i no_use ≡ use_at (8 * i) s
+pub use_of : (s : List ℕ) (n : ℕ) (us : List SegmentUse) → FitsUsage n us → s ≡ usage_sector us → (i : ℕ) → i < 64
+    → get_or us i no_use ≡ use_at (8 * i) s
 use_of s n us p e i lt =
-    ap (λ (vs : List SegmentUse). get_or vs i no_use) (usage_only s n us p e) ∙ get_or-run use_at 8 64 0 s i no_use lt ∙ ap (λ (k : ℕ). use_at k s) (omega arith)
+    ap (λ (vs : List SegmentUse). get_or vs i no_use) (usage_only s n us p e) ∙ get_or-run use_at 8 64 0 s i no_use lt
+    ∙ ap (λ (k : ℕ). use_at k s) (omega arith)
 
 pub use_in : (s : List ℕ) (i : ℕ) → i < 64 → get_or (usage_of s) i no_use ≡ use_at (8 * i) s
 use_in s i lt = get_or-run use_at 8 64 0 s i no_use lt ∙ ap (λ (k : ℕ). use_at k s) (omega arith)

@@ -35,7 +35,8 @@ module _ (c : Content) (k : CheckpointValue) (reached : (j : ℕ) → Reached (v
   no_age : (s : ℕ) → (k.segments + 63) / 64 ≤ s / 64 → age_in (view c k) s ≡ 0
   no_age s past = ap (λ (b : List ℕ). word b (2 * (s % 64) + 1)) (no_block (s / 64) past) ∙ word_nil (2 * (s % 64) + 1)
 
-  by_block : (P : ℕ → Type 0) → ((s : ℕ) → s / 64 < (k.segments + 63) / 64 → P s) → ((s : ℕ) → (k.segments + 63) / 64 ≤ s / 64 → P s) → (s : ℕ) → P s
+  by_block : (P : ℕ → Type 0) → ((s : ℕ) → s / 64 < (k.segments + 63) / 64 → P s) → ((s : ℕ) → (k.segments + 63) / 64 ≤ s / 64 → P s)
+      → (s : ℕ) → P s
   by_block P inside outside s = ⊎_elim (inside s) (outside s) (cases_lt (s / 64) ((k.segments + 63) / 64))
 
   pub usages : Usages (view c k)
@@ -43,10 +44,12 @@ module _ (c : Content) (k : CheckpointValue) (reached : (j : ℕ) → Reached (v
     addresses = λ j. (reached j, all j);
     fresh = fresh;
     readable = long;
-    fit = by_block (λ s. used_in (view c k) s ≤ 64) (λ s lt. (blocks (s / 64) lt).fit (s % 64) (omega arith)) (λ s past. let z = unused s past in omega arith);
+    fit = by_block (λ s. used_in (view c k) s ≤ 64) (λ s lt. (blocks (s / 64) lt).fit (s % 64) (omega arith))
+        (λ s past. let z = unused s past in omega arith);
     less = by_block (λ s. (used_in (view c k) s ≡ 0) ⊎ ((0 < live_in (view c k) s) × (live_in (view c k) s < used_in (view c k) s)))
         (λ s lt. (blocks (s / 64) lt).less (s % 64) (omega arith)) (λ s past. inl (unused s past));
-    both = by_block (λ s. used_in (view c k) s ≡ 0 → live_in (view c k) s ≡ 0) (λ s lt none. (blocks (s / 64) lt).both (s % 64) (omega arith) none) (λ s past none. no_live s past);
+    both = by_block (λ s. used_in (view c k) s ≡ 0 → live_in (view c k) s ≡ 0)
+        (λ s lt none. (blocks (s / 64) lt).both (s % 64) (omega arith) none) (λ s past none. no_live s past);
     past = by_block (λ s. k.segments ≤ s → (used_in (view c k) s ≡ 0) × (age_in (view c k) s ≡ 0))
         (λ s lt le. (blocks (s / 64) lt).past (s % 64) (omega arith) (omega arith)) (λ s past le. (unused s past, no_age s past));
   }
@@ -55,9 +58,12 @@ module _ (c : Content) (k : CheckpointValue) (reached : (j : ℕ) → Reached (v
 pub usage_block_of : (v : View) → Usages v → (j : ℕ) → IsUsageBlock (v.checkpoint.segments - 64 * j) (v.block (Usage j))
 usage_block_of v u j = record {
   fit = λ i lt. at_block (λ a b. half (v.block (Usage a)) (4 * b) ≤ 64) i lt (u.fit (64 * j + i));
-  less = λ i lt. at_block (λ a b. (half (v.block (Usage a)) (4 * b) ≡ 0) ⊎ ((0 < half (v.block (Usage a)) (4 * b + 1)) × (half (v.block (Usage a)) (4 * b + 1) < half (v.block (Usage a)) (4 * b)))) i lt (u.less (64 * j + i));
-  both = λ i lt. at_block (λ a b. half (v.block (Usage a)) (4 * b) ≡ 0 → half (v.block (Usage a)) (4 * b + 1) ≡ 0) i lt (u.both (64 * j + i));
-  past = λ i le lt. at_block (λ a b. (half (v.block (Usage a)) (4 * b) ≡ 0) × (word (v.block (Usage a)) (2 * b + 1) ≡ 0)) i lt (u.past (64 * j + i) (omega arith));
+  less = λ i lt. at_block (λ a b. (half (v.block (Usage a)) (4 * b) ≡ 0) ⊎ ((0 < half (v.block (Usage a)) (4 * b + 1))
+      × (half (v.block (Usage a)) (4 * b + 1) < half (v.block (Usage a)) (4 * b)))) i lt (u.less (64 * j + i));
+  both = λ i lt.
+      at_block (λ a b. half (v.block (Usage a)) (4 * b) ≡ 0 → half (v.block (Usage a)) (4 * b + 1) ≡ 0) i lt (u.both (64 * j + i));
+  past = λ i le lt. at_block (λ a b. (half (v.block (Usage a)) (4 * b) ≡ 0) × (word (v.block (Usage a)) (2 * b + 1) ≡ 0)) i lt
+      (u.past (64 * j + i) (omega arith));
 }
   where
     at_block : (P : ℕ → ℕ → Type 0) → (i : ℕ) → i < 64 → P ((64 * j + i) / 64) ((64 * j + i) % 64) → P j i

@@ -1,8 +1,12 @@
 -- What a use of a volume can't be: where no call of the device failed, each answer is the model's, but for want of memory.
 use Rattle.std.proofs.Common.{◌≡◌, ◌<◌, ◌≤◌, ◌^◌, ℕ, Bool, true, false, List, [], ◌∷◌, refl, sym, ◌∙◌, ap, subst, inl, inr, ⊎_elim, arith}
 use Rattle.std.specs.Prelude.{IsTrue}
-use Rattle.lfs_model.specs.Call.{Answer, Call, Open, Create, Close, Pread, Pwrite, Truncate, Mkdir, LinkTo, Symlink, Readlink, Unlink, Rmdir, Rename, StatOf, LstatOf, Readdir, Fsync, Sync, Clean, Space, Version, Upgrade, Widen, ListTree, Refuse, takes_no_memory}
-use Rattle.lfs_model.specs.Refusal.{Refusal, NoEntry, NotDir, IsDir, Exist, NotEmpty, Inval, NameTooLong, Loop, Perm, Busy, BadHandle, TooManyOpen, TooManyLinks, FileTooBig, NoSpace, NoNumber, DirFull, NoMemory, Device, Halted, Stuck, Worn}
+use Rattle.lfs_model.specs.Call.{Answer, Call, Open, Create, Close, Pread, Pwrite, Truncate, Mkdir, LinkTo, Symlink, Readlink, Unlink}
+use Rattle.lfs_model.specs.Call.{Rmdir, Rename, StatOf, LstatOf, Readdir, Fsync, Sync, Clean, Space, Version, Upgrade, Widen, ListTree}
+use Rattle.lfs_model.specs.Call.{Refuse, takes_no_memory}
+use Rattle.lfs_model.specs.Refusal.{Refusal, NoEntry, NotDir, IsDir, Exist, NotEmpty, Inval, NameTooLong, Loop, Perm, Busy, BadHandle}
+use Rattle.lfs_model.specs.Refusal.{TooManyOpen, TooManyLinks, FileTooBig, NoSpace, NoNumber, DirFull, NoMemory, Device, Halted, Stuck}
+use Rattle.lfs_model.specs.Refusal.{Worn}
 use Rattle.lfs_model.specs.Run.{Answers, IsExcused, LineAnswers, LineRun, Point, final, has_word}
 use Rattle.lfs_model.specs.Script.{Line, Plain, Fill, call_of}
 use Rattle.lfs_model.specs.Checkpoint.{CheckpointValue}
@@ -49,11 +53,16 @@ word_takes (Plain (Readdir p)) is = refl
 
 -- along a run neither failures nor numbers fall
 module _ (N : ℕ) where
-  line_grows : (line : Line) (old : Point) (a : Answer) (new : Point) → LineAnswers N line old a new → (old.failures ≤ new.failures) × (old.number ≤ new.number)
+  line_grows : (line : Line) (old : Point) (a : Answer) (new : Point) → LineAnswers N line old a new
+      → (old.failures ≤ new.failures) × (old.number ≤ new.number)
   line_grows line old a new (inl answers) = (answers.failures, answers.number)
-  line_grows line old a new (inr lacks) = (let same = lacks.2 in (subst (λ (x : Point). old.failures ≤ x.failures) (sym same) (omega arith), subst (λ (x : Point). old.number ≤ x.number) (sym same) (omega arith)))
+  line_grows line old a new (inr lacks) = (let same = lacks.2 in (
+    subst (λ (x : Point). old.failures ≤ x.failures) (sym same) (omega arith),
+    subst (λ (x : Point). old.number ≤ x.number) (sym same) (omega arith),
+  ))
 
-  run_grows : (lines : List Line) (p : Point) (answers : List Answer) (points : List Point) → LineRun N p lines answers points → (p.failures ≤ (final p points).failures) × (p.number ≤ (final p points).number)
+  run_grows : (lines : List Line) (p : Point) (answers : List Answer) (points : List Point) → LineRun N p lines answers points
+      → (p.failures ≤ (final p points).failures) × (p.number ≤ (final p points).number)
   run_grows [] p [] [] run = (omega arith, omega arith)
   run_grows (l ∷ lines) p (a ∷ answers) (q ∷ points) run =
       let one = line_grows l p a q run.0 in
@@ -65,7 +74,8 @@ module _ (N : ℕ) where
   run_grows (l ∷ lines) p (a ∷ answers) [] run = absurd run
 
   -- a volume that runs, and of whose device no call fails, doesn't answer Halted
-  no_halt : (call : Call) (old new : Point) (a : Answer) → Answers N call old a new → old.halted ≡ false → new.failures ≤ old.failures → a ≡ Refuse Halted → ⊥
+  no_halt : (call : Call) (old new : Point) (a : Answer) → Answers N call old a new → old.halted ≡ false → new.failures ≤ old.failures
+      → a ≡ Refuse Halted → ⊥
   no_halt call old new a answers on few is = ⊎_elim
       (λ step. steps_never_halt N old.state new.state call a step.0 is)
       (λ refused. (
@@ -74,18 +84,21 @@ module _ (N : ℕ) where
       ⊎_elim (λ off. absurd (cc)) (λ (more : old.failures < new.failures). absurd (omega (arith, more, few))) why))
       answers.steps
 
-  goes_on : (call : Call) (old new : Point) (a : Answer) → Answers N call old a new → old.halted ≡ false → new.failures ≤ old.failures → new.halted ≡ false
+  goes_on : (call : Call) (old new : Point) (a : Answer) → Answers N call old a new → old.halted ≡ false → new.failures ≤ old.failures
+      → new.halted ≡ false
   goes_on call old new a answers on few = by new.halted answers.goes_on
     where
       by : (b : Bool) → (b ≡ true → a ≡ Refuse Halted) → b ≡ false
       by true goes = absurd (no_halt call old new a answers on few (goes refl))
       by false goes = refl
 
-  line_goes_on : (line : Line) (old new : Point) (a : Answer) → LineAnswers N line old a new → old.halted ≡ false → new.failures ≤ old.failures → new.halted ≡ false
+  line_goes_on : (line : Line) (old new : Point) (a : Answer) → LineAnswers N line old a new → old.halted ≡ false
+      → new.failures ≤ old.failures → new.halted ≡ false
   line_goes_on line old new a (inl answers) on few = goes_on (call_of line) old new a answers on few
   line_goes_on line old new a (inr lacks) on few = ap (λ (x : Point). x.halted) lacks.2 ∙ on
 
-  pub run_goes_on : (lines : List Line) (p : Point) (answers : List Answer) (points : List Point) → LineRun N p lines answers points → p.halted ≡ false
+  pub run_goes_on : (lines : List Line) (p : Point) (answers : List Answer) (points : List Point) → LineRun N p lines answers points
+      → p.halted ≡ false
       → (final p points).failures ≤ p.failures → (final p points).halted ≡ false
   run_goes_on [] p [] [] run on few = on
   run_goes_on (l ∷ lines) p (a ∷ answers) (q ∷ points) run on few =
@@ -98,12 +111,14 @@ module _ (N : ℕ) where
   run_goes_on (l ∷ lines) p (a ∷ answers) [] run on few = absurd run
 
   -- an excuse that needs neither a failure nor a last number
-  excuse : (call : Call) (old new : Point) (a : Answer) (r : Refusal) → a ≡ Refuse r → IsExcused N call old new r → new.state ≡ old.state → old.halted ≡ false → new.failures ≤ old.failures → old.number < 2 ^ 62 → (a ≡ Refuse Stuck → ⊥)
+  excuse : (call : Call) (old new : Point) (a : Answer) (r : Refusal) → a ≡ Refuse r → IsExcused N call old new r → new.state ≡ old.state
+      → old.halted ≡ false → new.failures ≤ old.failures → old.number < 2 ^ 62 → (a ≡ Refuse Stuck → ⊥)
       → PlainAnswers N call old a new
   excuse call old new a NoMemory is e same on few low unstuck = inr (is, e, same)
   excuse call old new a Stuck is e same on few low unstuck = absurd (unstuck is)
   excuse call old new a Device is e same on few low unstuck = absurd (let more = e.1 in omega (arith, more, few))
-  excuse call old new a Halted is e same on few low unstuck = ⊎_elim (λ off. absurd (cc)) (λ (more : old.failures < new.failures). absurd (omega (arith, more, few))) e
+  excuse call old new a Halted is e same on few low unstuck =
+      ⊎_elim (λ off. absurd (cc)) (λ (more : old.failures < new.failures). absurd (omega (arith, more, few))) e
   excuse call old new a Worn is e same on few low unstuck = absurd (let past = e.0 in omega (arith, past, low))
   excuse call old new a NoEntry is e same on few low unstuck = absurd e
   excuse call old new a NotDir is e same on few low unstuck = absurd e
@@ -123,7 +138,8 @@ module _ (N : ℕ) where
   excuse call old new a NoNumber is e same on few low unstuck = absurd e
   excuse call old new a DirFull is e same on few low unstuck = absurd e
 
-  plain_line : (line : Line) (old new : Point) (a : Answer) → LineAnswers N line old a new → old.halted ≡ false → new.failures ≤ old.failures → old.number < 2 ^ 62 → (a ≡ Refuse Stuck → ⊥)
+  plain_line : (line : Line) (old new : Point) (a : Answer) → LineAnswers N line old a new → old.halted ≡ false
+      → new.failures ≤ old.failures → old.number < 2 ^ 62 → (a ≡ Refuse Stuck → ⊥)
       → PlainAnswers N (call_of line) old a new
   plain_line line old new a (inl answers) on few low unstuck = ⊎_elim
       (λ step. inl step.0)
@@ -131,7 +147,8 @@ module _ (N : ℕ) where
       answers.steps
   plain_line line old new a (inr lacks) on few low unstuck = inr (lacks.1, word_takes line lacks.0, ap (λ (x : Point). x.state) lacks.2)
 
-  pub plain_run : (lines : List Line) (p : Point) (answers : List Answer) (points : List Point) → LineRun N p lines answers points → p.halted ≡ false
+  pub plain_run : (lines : List Line) (p : Point) (answers : List Answer) (points : List Point) → LineRun N p lines answers points
+      → p.halted ≡ false
       → (final p points).failures ≤ p.failures → (final p points).number < 2 ^ 62 → AreUnstuck answers → PlainRun N p lines answers points
   plain_run [] p [] [] run on few low unstuck = tt
   plain_run (l ∷ lines) p (a ∷ answers) (q ∷ points) run on few low unstuck =
@@ -150,7 +167,8 @@ module _ (N : ℕ) where
 
 pub begins_new : (version N : ℕ) (d d' : DeviceState) → BeginsNew version N d d'
 begins_new version N d d' new lines answers u =
-    let same : u.stands.checkpoint ≡ first_checkpoint version N = Some-injective u.stands.checkpoint (first_checkpoint version N) (sym u.stands.found ∙ (formatted version N d.content new).0) in (
+    let same : u.stands.checkpoint ≡ first_checkpoint version N =
+    Some-injective u.stands.checkpoint (first_checkpoint version N) (sym u.stands.found ∙ (formatted version N d.content new).0) in (
       u.same_segments ∙ ap (λ (k : CheckpointValue). k.segments) same,
       u.same_number ∙ ap (λ (k : CheckpointValue). k.number) same,
       single_state d.content u.first.state (new_point version d.failures).state u.stands (new_volume version N d.content new),
@@ -159,7 +177,8 @@ begins_new version N d d' new lines answers u =
 pub new_is_pending : (version N : ℕ) (d : DeviceState) → NewIsPending version N d
 new_is_pending version N d new alone c left =
     let stands : Stands d.content (new_point version d.failures).state = new_volume version N d.content new in
-    let same : drop_nameless (new_point version d.failures).state ≡ (new_point version d.failures).state = nothing_dropped d.content (new_point version d.failures).state stands in (
+    let same : drop_nameless (new_point version d.failures).state ≡ (new_point version d.failures).state =
+    nothing_dropped d.content (new_point version d.failures).state stands in (
       (new_point version d.failures).state,
       record { n = 0; point = new_point version d.failures; at = refl; none_later = tt; is = refl },
       subst (Stands c) (sym same) (subst (λ (x : Content). Stands x (new_point version d.failures).state) (sym (alone c left)) stands),
@@ -167,7 +186,8 @@ new_is_pending version N d new alone c left =
 
 pub uses_are_plain : (d d' : DeviceState) → IsLawful d' → UsesArePlain d d'
 uses_are_plain d d' lawful keeps none k newest low lines answers u =
-    let few : (final u.first u.points).failures ≤ u.first.failures = (let before = u.failures_before in let after = u.failures_after in omega (arith, before, after, none)) in
+    let few : (final u.first u.points).failures ≤ u.first.failures =
+    (let before = u.failures_before in let after = u.failures_after in omega (arith, before, after, none)) in
     let on = run_goes_on u.segments lines u.first answers u.points u.run u.running few in
     let number = u.number_after on d'.content (lawful.present keeps) in
     let same : number.0 ≡ k = Some-injective number.0 k (sym number.1 ∙ newest) in

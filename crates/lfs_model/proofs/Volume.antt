@@ -1,5 +1,6 @@
 -- Contents and the trees that they stand for.
-use Rattle.std.proofs.Common.{◌≡◌, ◌≢◌, ◌<◌, ◌≤◌, ◌⊎◌, inl, inr, ⊎_elim, ◌+◌, ◌*◌, ◌%◌, ◌==◌, cond, Bool, true, false, ℕ, zero, suc, List, [], ◌∷◌, length, Option, Some, None, unwrap_or, refl, sym, ◌∙◌, ap, ap₂, subst, arith, ne_eqb}
+use Rattle.std.proofs.Common.{◌≡◌, ◌≢◌, ◌<◌, ◌≤◌, ◌⊎◌, inl, inr, ⊎_elim, ◌+◌, ◌*◌, ◌%◌, ◌==◌, cond, Bool, true, false, ℕ, zero, suc, List}
+use Rattle.std.proofs.Common.{[], ◌∷◌, length, Option, Some, None, unwrap_or, refl, sym, ◌∙◌, ap, ap₂, subst, arith, ne_eqb}
 use Rattle.std.proofs.Math.Path.{fun_ext}
 use Rattle.std.specs.Ordering.{nat_cmp}
 use Rattle.std.specs.FinMap.{find}
@@ -18,8 +19,10 @@ use Rattle.lfs_model.specs.Slot.{slot_in}
 use Rattle.lfs_model.specs.Sound.{NamesGive, IsReachable, root}
 use Rattle.lfs_model.specs.Stands.{LogMap, HoldsAt, StandsLog, log_in}
 use Rattle.lfs_model.specs.Tree.{Dir, File, Link, Node, State, Tree, byte_cmp, entry, is_dir, links, names, names_of, node}
-use Rattle.lfs_model.specs.TreeOf.{AreReached, AreSlots, IsTree, Stands, TreeOf, map_of, nodes_from, node_of, object, slots, tree_in, with_object}
-use Rattle.lfs_model.specs.Volume.{IsDamagedBy, IsTooSmall, IsWithoutCheckpoint, mounted, SingleState, StateLocality, StateSlotWrite, FoundStands, NotRefused, NewVolume}
+use Rattle.lfs_model.specs.TreeOf.{AreReached, AreSlots, IsTree, Stands, TreeOf, map_of, nodes_from, node_of, object, slots, tree_in}
+use Rattle.lfs_model.specs.TreeOf.{with_object}
+use Rattle.lfs_model.specs.Volume.{IsDamagedBy, IsTooSmall, IsWithoutCheckpoint, mounted, SingleState, StateLocality, StateSlotWrite}
+use Rattle.lfs_model.specs.Volume.{FoundStands, NotRefused, NewVolume}
 use Rattle.lfs_model.proofs.Crash.{keeps_lost, single_log, slot_write, stands_at_same}
 use Rattle.lfs_model.proofs.Newest.{least_segments}
 use Rattle.lfs_model.proofs.Damage.{stages_by_number, not_damaged}
@@ -39,12 +42,14 @@ module _ (m : LogMap) where
   none_below : (count a k : ℕ) → k < a → find nat_cmp k (nodes_from m count a) ≡ None
   unfolding nodes_from
   none_below zero a k lt = refl
-  none_below (suc count) a k lt = find_past a k (node_of m a (m.header a)) (nodes_from m count (a + 1)) (λ e. omega arith) ∙ none_below count (a + 1) k (omega arith)
+  none_below (suc count) a k lt = find_past a k (node_of m a (m.header a)) (nodes_from m count (a + 1)) (λ e. omega arith)
+      ∙ none_below count (a + 1) k (omega arith)
 
   none_above : (count a k : ℕ) → a + count ≤ k → find nat_cmp k (nodes_from m count a) ≡ None
   unfolding nodes_from
   none_above zero a k le = refl
-  none_above (suc count) a k le = find_past a k (node_of m a (m.header a)) (nodes_from m count (a + 1)) (λ e. omega arith) ∙ none_above count (a + 1) k (omega arith)
+  none_above (suc count) a k le = find_past a k (node_of m a (m.header a)) (nodes_from m count (a + 1)) (λ e. omega arith)
+      ∙ none_above count (a + 1) k (omega arith)
 
   found_from : (count a k : ℕ) → a ≤ k → k < a + count → find nat_cmp k (nodes_from m count a) ≡ node_of m k (m.header k)
   unfolding nodes_from
@@ -82,7 +87,8 @@ same_state s t e f g = λ i. record { tree = e i; handles = f i; version = g i }
 pub single_state : SingleState
 single_state c s t a b =
     let same = single_log c a.log b.log (log_of c s a) (log_of c t b) in
-    same_state s t (a.tree.is ∙ ap (λ (m : LogMap). tree_in m) same ∙ sym b.tree.is) (a.closed ∙ sym b.closed) (a.version ∙ sym a.stands.holds.version ∙ ap (λ (m : LogMap). m.version) same ∙ b.stands.holds.version ∙ sym b.version)
+    same_state s t (a.tree.is ∙ ap (λ (m : LogMap). tree_in m) same ∙ sym b.tree.is) (a.closed ∙ sym b.closed)
+    (a.version ∙ sym a.stands.holds.version ∙ ap (λ (m : LogMap). m.version) same ∙ b.stands.holds.version ∙ sym b.version)
 
 pub state_locality : StateLocality
 state_locality c d s is keeps = record {
@@ -96,7 +102,8 @@ state_locality c d s is keeps = record {
 }
 
 module _ (c : Content) (s : State) (is : Stands c s) (e : Content) (keeps : Keeps c is.checkpoint e)
-    (next : CheckpointValue) (bytes : List ℕ) (m : LogMap) (t : Tree) (ready : IsReadyFor e is.checkpoint next bytes m) (of : TreeOf next.segments m t) where
+    (next : CheckpointValue) (bytes : List ℕ) (m : LogMap) (t : Tree) (ready : IsReadyFor e is.checkpoint next bytes m)
+    (of : TreeOf next.segments m t) where
   at_written : Stands (put e (next.number % 2) bytes) (mounted (layout_version next) t)
   at_written =
       let w = slot_write c is.log (log_of c s is) e keeps next bytes m ready in record {
@@ -126,7 +133,10 @@ found_stands c k found size each =
       checkpoint = k;
       log = log_in (view c k);
       found = found;
-      stands = record { holds = record { size = size; stages = all.0; header = λ n. refl; block = λ n i. refl; version = refl }; clean = all.2 };
+      stands = record {
+        holds = record { size = size; stages = all.0; header = λ n. refl; block = λ n i. refl; version = refl };
+        clean = all.2;
+      };
       tree = record { is = refl; tree = all.1 };
       version = refl;
       closed = refl;
@@ -136,7 +146,8 @@ same_newest : (c : Content) (j k : CheckpointValue) → newest c ≡ Some j → 
 same_newest c j k a b = let e : Some j ≡ Some k = sym a ∙ b in cc
 
 log_same : (c : Content) (k : CheckpointValue) (m : LogMap) → HoldsAt c k m → m ≡ log_in (view c k)
-log_same c k m st = λ j. record { header = fun_ext (λ n. st.header n) j; block = fun_ext (λ n. fun_ext (λ i. st.block n i)) j; version = st.version j }
+log_same c k m st =
+    λ j. record { header = fun_ext (λ n. st.header n) j; block = fun_ext (λ n. fun_ext (λ i. st.block n i)) j; version = st.version j }
 
 pub not_refused : NotRefused
 not_refused c s is = (not_small, without, sound)
@@ -153,10 +164,12 @@ not_refused c s is = (not_small, without, sound)
     without none = let e : None ≡ Some is.checkpoint = sym none.1 ∙ is.found in absurd (cc)
 
     by_number : (code : ℕ) → IsDamaged (view c is.checkpoint) code → ⊥
-    by_number code damaged = not_damaged (view c is.checkpoint) is.stands.holds.stages (subst (IsTree is.checkpoint.segments) (log_same c is.checkpoint is.log is.stands.holds) is.tree.tree) is.stands.clean code damaged
+    by_number code damaged = not_damaged (view c is.checkpoint) is.stands.holds.stages
+        (subst (IsTree is.checkpoint.segments) (log_same c is.checkpoint is.log is.stands.holds) is.tree.tree) is.stands.clean code damaged
 
     sound : (code : ℕ) → IsDamagedBy c code → ⊥
-    sound code bad = by_number code (subst (λ (k : CheckpointValue). IsDamaged (view c k) code) (same_newest c bad.0 is.checkpoint bad.1 is.found) bad.3)
+    sound code bad =
+        by_number code (subst (λ (k : CheckpointValue). IsDamaged (view c k) code) (same_newest c bad.0 is.checkpoint bad.1 is.found) bad.3)
 
 -- ---- a new volume
 module _ (version : ℕ) (known : IsVersion version) where
@@ -164,7 +177,8 @@ module _ (version : ℕ) (known : IsVersion version) where
   unfolding nodes_from
   no_nodes zero a le = refl
   no_nodes (suc count) a le =
-      ap (λ (h : Option Header). with_object a (node_of (empty_root version) a h) (nodes_from (empty_root version) count (a + 1))) (cond-false (a == 1) (Some (empty_directory version)) None (ne_eqb a 1 (λ e. omega arith)))
+      ap (λ (h : Option Header). with_object a (node_of (empty_root version) a h) (nodes_from (empty_root version) count (a + 1)))
+      (cond-false (a == 1) (Some (empty_directory version)) None (ne_eqb a 1 (λ e. omega arith)))
       ∙ no_nodes count (a + 1) (omega arith)
 
   no_slots : slots (empty_root version) 1 (empty_directory version) ≡ []
@@ -179,7 +193,8 @@ module _ (version : ℕ) (known : IsVersion version) where
   root_alone : tree_in (empty_root version) ≡ alone
   unfolding tree_in nodes_from
   root_alone =
-      ap (λ (t : Tree). (1, Dir (new_form version) (map_of (new_form version) (slots (empty_root version) 1 (empty_directory version)))) ∷ t) (no_nodes 4094 2 (omega arith))
+      ap (λ (t : Tree). (1, Dir (new_form version) (map_of (new_form version) (slots (empty_root version) 1 (empty_directory version))))
+      ∷ t) (no_nodes 4094 2 (omega arith))
       ∙ ap (λ (l : List (List ℕ)). (1, Dir (new_form version) (map_of (new_form version) l)) ∷ []) no_slots
 
   header_root : (n : ℕ) (h : Header) → (empty_root version).header n ≡ Some h → (n ≡ 1) × (h ≡ (empty_directory version))
@@ -193,7 +208,8 @@ module _ (version : ℕ) (known : IsVersion version) where
       (cases_eq n 1)
 
   -- a number has the root or nothing
-  at_number : (P : ℕ → Option Node → Type 0) → P 1 (Some (Dir (new_form version) [])) → ((n : ℕ) → n ≢ 1 → P n None) → (n : ℕ) → P n (node alone n)
+  at_number : (P : ℕ → Option Node → Type 0) → P 1 (Some (Dir (new_form version) [])) → ((n : ℕ) → n ≢ 1 → P n None) → (n : ℕ)
+      → P n (node alone n)
   at_number P one none n =
       ⊎_elim
       (λ (here : n ≡ 1). subst (λ (x : ℕ). P x (node alone x)) (sym here) one)
@@ -213,7 +229,8 @@ module _ (version : ℕ) (known : IsVersion version) where
   empty_reached = record {
     some = λ n ne there. absurd (there (ap (λ (t : Tree). node t n) root_alone ∙ find_past 1 n (Some (Dir (new_form version) [])) [] ne));
     root = ap (λ (t : Tree). names t 1) root_alone;
-    one = λ n ne dir. let e : true ≡ false = sym dir ∙ ap (λ (t : Tree). is_dir (node t n)) root_alone ∙ ap is_dir (find_past 1 n (Some (Dir (new_form version) [])) [] ne) in absurd (cc);
+    one = λ n ne dir. let e : true ≡ false = sym dir ∙ ap (λ (t : Tree). is_dir (node t n)) root_alone
+        ∙ ap is_dir (find_past 1 n (Some (Dir (new_form version) [])) [] ne) in absurd (cc);
     down = subst (λ (t : Tree). (n : ℕ) → is_dir (node t n) ≡ true → IsReachable t n) (sym root_alone) reached_alone;
   }
 

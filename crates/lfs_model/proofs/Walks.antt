@@ -1,13 +1,16 @@
 -- The walk as a relation is the plain program's, so it has one end at most.
-use Rattle.std.proofs.Common.{◌≡◌, ◌≢◌, refl, sym, ap, subst, ◌∙◌, ℕ, zero, suc, ◌+◌, ◌-◌, ◌<◌, ◌≤◌, Bool, true, false, ◌||◌, ◌&&◌, List, [], ◌∷◌, ◌++◌, length, Option, Some, None, eqb, arith}
+use Rattle.std.proofs.Common.{◌≡◌, ◌≢◌, refl, sym, ap, subst, ◌∙◌, ℕ, zero, suc, ◌+◌, ◌-◌, ◌<◌, ◌≤◌, Bool, true, false, ◌||◌, ◌&&◌, List}
+use Rattle.std.proofs.Common.{[], ◌∷◌, ◌++◌, length, Option, Some, None, eqb, arith}
 use Rattle.std.specs.Prelude.{nat_lt, if◌then◌else◌}
 use Rattle.std.proofs.lemmas.Bool.{eqb-true, eq-eqb}
 use Rattle.std.proofs.lemmas.Bool.Decides.{nat_tests}
 use Rattle.lfs_model.specs.Tree.{Tree, Names, Node, File, Dir, Link, node, entry, up, same_name, form_of, name_len, name_limit}
 use Rattle.lfs_model.specs.Refusal.{NotDir, Loop}
 use Rattle.lfs_model.specs.PathText.{comps}
-use Rattle.lfs_model.specs.Walk.{Walk, no_piece, stays, goes_up, too_long, not_there, directory, file, not_dir, link, loops, followed, IsLookedUp, Gives, End, At, Refused, dot, dot_dot, more, start, slash_with}
-use Rattle.lfs_model.specs.Plain.{Seen, Here, Above, TooLong, Absent, ADir, AFile, ALink, Nowhere, seen_node, seen_entry, look, turn, walk_in, walk_to}
+use Rattle.lfs_model.specs.Walk.{Walk, no_piece, stays, goes_up, too_long, not_there, directory, file, not_dir, link, loops, followed}
+use Rattle.lfs_model.specs.Walk.{IsLookedUp, Gives, End, At, Refused, dot, dot_dot, more, start, slash_with}
+use Rattle.lfs_model.specs.Plain.{Seen, Here, Above, TooLong, Absent, ADir, AFile, ALink, Nowhere, seen_node, seen_entry, look, turn}
+use Rattle.lfs_model.specs.Plain.{walk_in, walk_to}
 
 and_true : (a b : Bool) → (a && b) ≡ true → (a ≡ true) × (b ≡ true)
 and_true true true e = (refl, refl)
@@ -30,7 +33,8 @@ pub same_name-false : (x y : List ℕ) → same_name x y ≡ false → x ≢ y
 same_name-false x y e p = let h : same_name x x ≡ false = subst (λ z. same_name x z ≡ false) (sym p) e in let k = same_name-refl x in cc
 
 pub apart : (x y : List ℕ) → x ≢ y → same_name x y ≡ false
-apart x y ne = elim (same_name x y) as (λ b. same_name x y ≡ b → b ≡ false) [ true ↦ λ e. absurd (ne (same_name-true x y e)) | false ↦ λ e. refl ] refl
+apart x y ne = elim (same_name x y) as (λ b. same_name x y ≡ b → b ≡ false)
+    [ true ↦ λ e. absurd (ne (same_name-true x y e)) | false ↦ λ e. refl ] refl
 
 -- dot and dot-dot are no longer than a name may be
 limit_room : (form : ℕ) → 2 ≤ name_len form
@@ -48,7 +52,8 @@ Means t d p (AFile n) = (b : List ℕ) × Gives t d p n (File b)
 Means t d p (ALink n text) = Gives t d p n (Link text)
 Means t d p Nowhere = IsLookedUp t d p × ((n : ℕ) × (entry t d p ≡ Some n) × (node t n ≡ None))
 
-means_node : (t : Tree) (d : ℕ) (p : List ℕ) (n : ℕ) → IsLookedUp t d p → entry t d p ≡ Some n → (o : Option Node) → node t n ≡ o → Means t d p (seen_node n o)
+means_node : (t : Tree) (d : ℕ) (p : List ℕ) (n : ℕ) → IsLookedUp t d p → entry t d p ≡ Some n → (o : Option Node) → node t n ≡ o
+    → Means t d p (seen_node n o)
 means_node t d p n is e (Some (File b)) h = (b, record { is_name = is; is_there = e; is_node = h })
 means_node t d p n is e (Some (Dir form m)) h = (form, m, record { is_name = is; is_there = e; is_node = h })
 means_node t d p n is e (Some (Link text)) h = record { is_name = is; is_there = e; is_node = h }
@@ -60,15 +65,22 @@ means_entry t d p is (Some n) e = means_node t d p n is e (node t n) refl
 
 pub look_means : (t : Tree) (d : ℕ) (p : List ℕ) → Means t d p (look t d p)
 look_means t d p =
-    elim (same_name p dot) as (λ b. same_name p dot ≡ b → Means t d p (if b then Here else (if same_name p dot_dot then Above else (if nat_lt (name_limit t d) (length p) then TooLong else seen_entry t (entry t d p))))) [
+    elim (same_name p dot) as (λ b. same_name p dot ≡ b → Means t d p (if b then Here else (if same_name p dot_dot then Above
+    else (if nat_lt (name_limit t d) (length p) then TooLong else seen_entry t (entry t d p))))) [
       | true ↦ λ e. same_name-true p dot e
-      | false ↦ λ e. elim (same_name p dot_dot) as (λ b. same_name p dot_dot ≡ b → Means t d p (if b then Above else (if nat_lt (name_limit t d) (length p) then TooLong else seen_entry t (entry t d p)))) [
-        | true ↦ λ f. same_name-true p dot_dot f
-        | false ↦ λ f. elim (nat_lt (name_limit t d) (length p)) as (λ b. nat_lt (name_limit t d) (length p) ≡ b → Means t d p (if b then TooLong else seen_entry t (entry t d p))) [
-          | true ↦ λ g. grind (arith, nat_tests)
-          | false ↦ λ g. means_entry t d p (record { not_dot = same_name-false p dot e; not_dot_dot = same_name-false p dot_dot f; short = grind (arith, nat_tests) }) (entry t d p) refl
-        ] refl
-      ] refl
+      | false ↦ λ e. elim (same_name p dot_dot) as (λ b. same_name p dot_dot ≡ b
+          → Means t d p (if b then Above else (if nat_lt (name_limit t d) (length p) then TooLong else seen_entry t (entry t d p)))) [
+            | true ↦ λ f. same_name-true p dot_dot f
+            | false ↦ λ f. elim (nat_lt (name_limit t d) (length p))
+                as (λ b. nat_lt (name_limit t d) (length p) ≡ b → Means t d p (if b then TooLong else seen_entry t (entry t d p))) [
+                  | true ↦ λ g. grind (arith, nat_tests)
+                  | false ↦ λ g. means_entry t d p (record {
+                    not_dot = same_name-false p dot e;
+                    not_dot_dot = same_name-false p dot_dot f;
+                    short = grind (arith, nat_tests);
+                  }) (entry t d p) refl
+                ] refl
+          ] refl
     ] refl
 
 -- one answer has the meaning that holds
@@ -92,8 +104,10 @@ module _ (t : Tree) (follow : Bool) (k : ℕ) (again : ℕ → List (List ℕ) �
   Follows = (d n : ℕ) (text p : List ℕ) (ps : List (List ℕ)) (s : Bool) (e : End) → Gives t d p n (Link text) → (more ps s || follow) ≡ true
       → again (start text d) (comps text ++ ps) (slash_with text ps s) ≡ Some e → Walk t follow d (p ∷ ps) s k e
 
-  turn_walks : Follows → (d : ℕ) (p : List ℕ) (ps : List (List ℕ)) (s : Bool) (e : End) → ((to : ℕ) (f : End) → walk_in t follow again to ps s ≡ Some f → Walk t follow to ps s k f)
-      → (v : Seen) → Means t d p v → turn t follow again (λ to. walk_in t follow again to ps s) d ps s v ≡ Some e → Walk t follow d (p ∷ ps) s k e
+  turn_walks : Follows → (d : ℕ) (p : List ℕ) (ps : List (List ℕ)) (s : Bool) (e : End)
+      → ((to : ℕ) (f : End) → walk_in t follow again to ps s ≡ Some f → Walk t follow to ps s k f)
+      → (v : Seen) → Means t d p v → turn t follow again (λ to. walk_in t follow again to ps s) d ps s v ≡ Some e
+      → Walk t follow d (p ∷ ps) s k e
   turn_walks fs d p ps s e go Here m is = stays m (go d e is)
   turn_walks fs d p ps s e go Above m is = goes_up m (go (up t d) e is)
   turn_walks fs d p ps s e go TooLong m is = subst (λ f. Walk t follow d (p ∷ ps) s k f) (Some-injective _ _ is) (too_long m)
@@ -105,18 +119,24 @@ module _ (t : Tree) (follow : Bool) (k : ℕ) (again : ℕ → List (List ℕ) �
         | false ↦ λ h is. subst (λ f. Walk t follow d (p ∷ ps) s k f) (Some-injective _ _ is) (file m.1 h)
       ] refl is
   turn_walks fs d p ps s e go (ALink n text) m is =
-      elim (more ps s || follow) as (λ b. (more ps s || follow) ≡ b → elim b as (λ _. Option End) [ true ↦ again (start text d) (comps text ++ ps) (slash_with text ps s) | false ↦ Some (At n) ] ≡ Some e → Walk t follow d (p ∷ ps) s k e) [
+      elim (more ps s || follow) as (λ b. (more ps s || follow) ≡ b → elim b as (λ _. Option End) [
+        | true ↦ again (start text d)
+            (comps text ++ ps) (slash_with text ps s)
+        | false ↦ Some (At n)
+      ] ≡ Some e → Walk t follow d (p ∷ ps) s k e) [
         | true ↦ λ h is. fs d n text p ps s e m h is
         | false ↦ λ h is. subst (λ f. Walk t follow d (p ∷ ps) s k f) (Some-injective _ _ is) (link m h)
       ] refl is
   turn_walks fs d p ps s e go Nowhere m is = cc
 
-  walk_in_walks : Follows → (ps : List (List ℕ)) (d : ℕ) (s : Bool) (e : End) → walk_in t follow again d ps s ≡ Some e → Walk t follow d ps s k e
+  walk_in_walks : Follows → (ps : List (List ℕ)) (d : ℕ) (s : Bool) (e : End) → walk_in t follow again d ps s ≡ Some e
+      → Walk t follow d ps s k e
   walk_in_walks fs [] d s e is = subst (λ f. Walk t follow d [] s k f) (Some-injective _ _ is) no_piece
   walk_in_walks fs (p ∷ ps) d s e is = turn_walks fs d p ps s e (λ to f h. walk_in_walks fs ps to s f h) (look t d p) (look_means t d p) is
 
 -- with n links left, k being followed
-pub walk_to_walks : (t : Tree) (follow : Bool) (n k : ℕ) → k + n ≡ 40 → (d : ℕ) (ps : List (List ℕ)) (s : Bool) (e : End) → walk_to n t follow d ps s ≡ Some e → Walk t follow d ps s k e
+pub walk_to_walks : (t : Tree) (follow : Bool) (n k : ℕ) → k + n ≡ 40 → (d : ℕ) (ps : List (List ℕ)) (s : Bool) (e : End)
+    → walk_to n t follow d ps s ≡ Some e → Walk t follow d ps s k e
 walk_to_walks t follow zero k all d ps s e is =
     walk_in_walks t follow k (λ d ps s. Some (Refused Loop))
     (λ d n text p ps s e g h is. subst (λ f. Walk t follow d (p ∷ ps) s k f) (Some-injective _ _ is) (loops g h (omega arith))) ps d s e is
@@ -151,7 +171,8 @@ later (suc n) t follow = walk_to n t follow
 abbrev pub one_turn : ℕ → Tree → Bool → ℕ → List (List ℕ) → Bool → Seen → Option End
 one_turn n t follow d ps s = turn t follow (later n t follow) (λ to. walk_to n t follow to ps s) d ps s
 
-turns : (n : ℕ) (t : Tree) (follow : Bool) (d : ℕ) (p : List ℕ) (ps : List (List ℕ)) (s : Bool) → walk_to n t follow d (p ∷ ps) s ≡ one_turn n t follow d ps s (look t d p)
+turns : (n : ℕ) (t : Tree) (follow : Bool) (d : ℕ) (p : List ℕ) (ps : List (List ℕ)) (s : Bool)
+    → walk_to n t follow d (p ∷ ps) s ≡ one_turn n t follow d ps s (look t d p)
 turns zero t follow d p ps s = refl
 turns (suc n) t follow d p ps s = refl
 
@@ -159,30 +180,41 @@ pub at_once : (n : ℕ) (t : Tree) (follow : Bool) (d : ℕ) (s : Bool) → walk
 at_once zero t follow d s = refl
 at_once (suc n) t follow d s = refl
 
-pub turns_at : (t : Tree) (d : ℕ) (p : List ℕ) {v : Seen} (n : ℕ) (follow : Bool) (ps : List (List ℕ)) (s : Bool) → look t d p ≡ v → walk_to n t follow d (p ∷ ps) s ≡ one_turn n t follow d ps s v
+pub turns_at : (t : Tree) (d : ℕ) (p : List ℕ) {v : Seen} (n : ℕ) (follow : Bool) (ps : List (List ℕ)) (s : Bool) → look t d p ≡ v
+    → walk_to n t follow d (p ∷ ps) s ≡ one_turn n t follow d ps s v
 turns_at t d p {v} n follow ps s e = turns n t follow d p ps s ∙ ap (one_turn n t follow d ps s) e
 
-linked : {t : Tree} {d n : ℕ} {p text : List ℕ} (ps : List (List ℕ)) (s follow : Bool) (b : Bool) (m : ℕ) → Gives t d p n (Link text) → (more ps s || follow) ≡ b
-    → walk_to m t follow d (p ∷ ps) s ≡ elim b as (λ _. Option End) [ true ↦ later m t follow (start text d) (comps text ++ ps) (slash_with text ps s) | false ↦ Some (At n) ]
+linked : {t : Tree} {d n : ℕ} {p text : List ℕ} (ps : List (List ℕ)) (s follow : Bool) (b : Bool) (m : ℕ) → Gives t d p n (Link text)
+    → (more ps s || follow) ≡ b
+    → walk_to m t follow d (p ∷ ps) s ≡ elim b as (λ _. Option End)
+    [ true ↦ later m t follow (start text d) (comps text ++ ps) (slash_with text ps s) | false ↦ Some (At n) ]
 linked {t} {d} {n} {p} {text} ps s follow b m g h = turns_at _ _ _ m follow ps s (look_gives g)
-    ∙ ap (λ v. elim v as (λ _. Option End) [ true ↦ later m t follow (start text d) (comps text ++ ps) (slash_with text ps s) | false ↦ Some (At n) ]) h
+    ∙ ap (λ v. elim v as (λ _. Option End)
+    [ true ↦ later m t follow (start text d) (comps text ++ ps) (slash_with text ps s) | false ↦ Some (At n) ]) h
 
 -- a walk with k links followed, where n more may be
-pub walks_once : {t : Tree} {follow : Bool} {d : ℕ} {ps : List (List ℕ)} {s : Bool} {k : ℕ} {e : End} → Walk t follow d ps s k e → (n : ℕ) → k + n ≡ 40 → walk_to n t follow d ps s ≡ Some e
+pub walks_once : {t : Tree} {follow : Bool} {d : ℕ} {ps : List (List ℕ)} {s : Bool} {k : ℕ} {e : End} → Walk t follow d ps s k e → (n : ℕ)
+    → k + n ≡ 40 → walk_to n t follow d ps s ≡ Some e
 walks_once {t} {follow} (no_piece {d} {s} {k}) n all = at_once n t follow d s
-walks_once {t} {follow} (stays {d} {piece} {ps} {s} {k} {e} is w) n all = turns_at _ _ _ n follow ps s (look_dot t d piece is) ∙ walks_once w n all
-walks_once {t} {follow} (goes_up {d} {piece} {ps} {s} {k} {e} is w) n all = turns_at _ _ _ n follow ps s (look_dot_dot t d piece is) ∙ walks_once w n all
+walks_once {t} {follow} (stays {d} {piece} {ps} {s} {k} {e} is w) n all = turns_at _ _ _ n follow ps s (look_dot t d piece is)
+    ∙ walks_once w n all
+walks_once {t} {follow} (goes_up {d} {piece} {ps} {s} {k} {e} is w) n all = turns_at _ _ _ n follow ps s (look_dot_dot t d piece is)
+    ∙ walks_once w n all
 walks_once {t} {follow} (too_long {d} {piece} {ps} {s} {k} long) n all = turns_at _ _ _ n follow ps s (look_long t d piece long)
 walks_once {t} {follow} (not_there {d} {piece} {ps} {s} {k} is none) n all = turns_at _ _ _ n follow ps s (look_absent t d piece is none)
 walks_once {t} {follow} (directory {ps = ps} {s = s} g w) n all = turns_at _ _ _ n follow ps s (look_gives g) ∙ walks_once w n all
-walks_once {t} {follow} (file {n = f} {ps = ps} {s = s} g h) n all = turns_at _ _ _ n follow ps s (look_gives g) ∙ ap (λ b. Some (if b then Refused NotDir else At f)) h
-walks_once {t} {follow} (not_dir {n = f} {ps = ps} {s = s} g h) n all = turns_at _ _ _ n follow ps s (look_gives g) ∙ ap (λ b. Some (if b then Refused NotDir else At f)) h
+walks_once {t} {follow} (file {n = f} {ps = ps} {s = s} g h) n all = turns_at _ _ _ n follow ps s (look_gives g)
+    ∙ ap (λ b. Some (if b then Refused NotDir else At f)) h
+walks_once {t} {follow} (not_dir {n = f} {ps = ps} {s = s} g h) n all = turns_at _ _ _ n follow ps s (look_gives g)
+    ∙ ap (λ b. Some (if b then Refused NotDir else At f)) h
 walks_once {t} {follow} (link {ps = ps} {s = s} g h) n all = linked ps s follow false n g h
 walks_once {t} {follow} (loops {ps = ps} {s = s} g h full) zero all = linked ps s follow true zero g h
 walks_once {t} {follow} (loops {ps = ps} {s = s} g h full) (suc n) all = absurd (omega arith)
 walks_once {t} {follow} (followed {ps = ps} {s = s} g h room w) zero all = absurd (omega arith)
-walks_once {t} {follow} (followed {ps = ps} {s = s} g h room w) (suc n) all = linked ps s follow true (suc n) g h ∙ walks_once w n (omega arith)
+walks_once {t} {follow} (followed {ps = ps} {s = s} g h room w) (suc n) all = linked ps s follow true (suc n) g h
+    ∙ walks_once w n (omega arith)
 
 -- from one place a walk has one end at most
-pub walk_unique : {t : Tree} {follow : Bool} {d : ℕ} {ps : List (List ℕ)} {s : Bool} {k : ℕ} {e f : End} → k ≤ 40 → Walk t follow d ps s k e → Walk t follow d ps s k f → e ≡ f
+pub walk_unique : {t : Tree} {follow : Bool} {d : ℕ} {ps : List (List ℕ)} {s : Bool} {k : ℕ} {e f : End} → k ≤ 40 → Walk t follow d ps s k e
+    → Walk t follow d ps s k f → e ≡ f
 walk_unique {k = k} few w v = Some-injective _ _ (sym (walks_once w (40 - k) (omega arith)) ∙ walks_once v (40 - k) (omega arith))

@@ -1,5 +1,6 @@
 -- An upgrade keeps a state sound, and so does a directory that gets form 1.
-use Rattle.std.proofs.Common.{◌≡◌, ◌≢◌, refl, sym, ap, subst, ◌∙◌, ℕ, zero, suc, ◌+◌, ◌*◌, ◌≤◌, Bool, true, false, List, [], ◌∷◌, Option, Some, None, arith, inl, inr, ◌⊎◌, length}
+use Rattle.std.proofs.Common.{◌≡◌, ◌≢◌, refl, sym, ap, subst, ◌∙◌, ℕ, zero, suc, ◌+◌, ◌*◌, ◌≤◌, Bool, true, false, List, [], ◌∷◌, Option}
+use Rattle.std.proofs.Common.{Some, None, arith, inl, inr, ◌⊎◌, length}
 use Rattle.std.specs.Prelude.{count_by, unwrap_or, not, ◌==◌, nat_lt}
 use Rattle.std.specs.List.{AllByRecursion}
 use Rattle.std.proofs.Math.Path.{fun_ext}
@@ -8,7 +9,8 @@ use Rattle.std.specs.Ordering.{nat_cmp}
 use Rattle.std.proofs.lemmas.Cmp.{nat_cmp_total}
 use Rattle.std.specs.FinMap.{find}
 use Rattle.std.specs.FinMap.Entries.{is_sorted-put}
-use Rattle.lfs_model.specs.Tree.{Tree, Names, Node, File, Dir, Link, State, node, with_node, names_of, names_in, form_of, is_dir, entry, byte_cmp, name_len, names, links, links_at}
+use Rattle.lfs_model.specs.Tree.{Tree, Names, Node, File, Dir, Link, State, node, with_node, names_of, names_in, form_of, is_dir, entry}
+use Rattle.lfs_model.specs.Tree.{byte_cmp, name_len, names, links, links_at}
 use Rattle.lfs_model.specs.Refusal.{NotDir, Inval}
 use Rattle.lfs_model.specs.Walk.{End, At, Refused}
 use Rattle.lfs_model.specs.Need.{need}
@@ -70,11 +72,13 @@ longer form name good = record {
     at_most zero short = omega (arith, short)
     at_most (suc form) short = short
 
-all_longer : (form : ℕ) (m : Names) → AllByRecursion (λ e. IsGoodName (name_len form) e.0) m → AllByRecursion (λ e. IsGoodName (name_len 1) e.0) m
+all_longer : (form : ℕ) (m : Names) → AllByRecursion (λ e. IsGoodName (name_len form) e.0) m
+    → AllByRecursion (λ e. IsGoodName (name_len 1) e.0) m
 all_longer form [] all = tt
 all_longer form (e ∷ m) all = (longer form e.0 all.0, all_longer form m all.1)
 
-module _ (N : ℕ) (s : State) (n form : ℕ) (m : Names) (sound : Sound N s) (is : node s.tree n ≡ Some (Dir form m)) (two : s.version ≡ 2) (fits : need (with_node s.tree n (Dir 1 m)) ≤ 47 * N) where
+module _ (N : ℕ) (s : State) (n form : ℕ) (m : Names) (sound : Sound N s) (is : node s.tree n ≡ Some (Dir form m)) (two : s.version ≡ 2)
+    (fits : need (with_node s.tree n (Dir 1 m)) ≤ 47 * N) where
   abbrev t : Tree
   t = s.tree
 
@@ -87,7 +91,8 @@ module _ (N : ℕ) (s : State) (n form : ℕ) (m : Names) (sound : Sound N s) (i
   kept : (q : ℕ) → q ≢ n → node t' q ≡ node t q
   kept q ne = find_other t n (Dir 1 m) q ne
 
-  each_kept : (P : Node → Type 0) → ((q : ℕ) (x : Node) → node t q ≡ Some x → P x) → P (Dir 1 m) → (q : ℕ) (x : Node) → node t' q ≡ Some x → P x
+  each_kept : (P : Node → Type 0) → ((q : ℕ) (x : Node) → node t q ≡ Some x → P x) → P (Dir 1 m) → (q : ℕ) (x : Node) → node t' q ≡ Some x
+      → P x
   each_kept P was now q x h = same_or_not q n
       (λ e. subst P (Some-injective _ _ (sym now_is ∙ subst (λ y. node t' y ≡ Some x) e h)) now)
       (λ b. was q x (sym (kept q b) ∙ h))
@@ -117,7 +122,8 @@ module _ (N : ℕ) (s : State) (n form : ℕ) (m : Names) (sound : Sound N s) (i
       omega (arith, all, was)
 
   subdirs : (ms : Names) → count_by (λ x. is_dir (node t' x.1)) ms ≡ count_by (λ x. is_dir (node t x.1)) ms
-  subdirs ms = let f : (λ (q : ℕ). is_dir (node t' q)) ≡ (λ (q : ℕ). is_dir (node t q)) = fun_ext dirs in ap (λ (f : ℕ → Bool). count_by (λ (x : List ℕ × ℕ). f x.1) ms) f
+  subdirs ms = let f : (λ (q : ℕ). is_dir (node t' q)) ≡ (λ (q : ℕ). is_dir (node t q)) = fun_ext dirs in
+      ap (λ (f : ℕ → Bool). count_by (λ (x : List ℕ × ℕ). f x.1) ms) f
 
   pub same_links : (q : ℕ) → links t' q ≡ links t q
   same_links q = unseen (links_at t' q) refl q ∙ by (node t q)
@@ -161,7 +167,8 @@ module _ (N : ℕ) (s : State) (n form : ℕ) (m : Names) (sound : Sound N s) (i
     root_unnamed = same_names 1 ∙ sound.root_unnamed;
     one_name = λ q ne dir. same_names q ∙ sound.one_name q ne (sym (dirs q) ∙ dir);
     reached = λ q dir. reached_kept (sound.reached q (sym (dirs q) ∙ dir));
-    held = λ q ne some none. (let was = sound.held q ne (there q some) (sym (same_names q) ∙ none) in record { file = file_kept q was.file; handle = was.handle });
+    held = λ q ne some none. (let was = sound.held q ne (there q some) (sym (same_names q) ∙ none) in
+        record { file = file_kept q was.file; handle = was.handle });
     handles = λ h q e. ((sound.handles h q e).0, file_kept q (sound.handles h q e).1);
     room = fits;
   }
@@ -178,11 +185,13 @@ widen_at : (N : ℕ) (s : State) → Sound N s → (e : End) → Sound N (reache
 widen_at N s sound (Refused r) = sound
 widen_at N s sound (At n) =
     let t' : Tree = widened s.tree n in
-    checked_sound N s (when (not (is_dir (node s.tree n))) NotDir ∷ when (s.version == 1) Inval ∷ (form_of (node s.tree n) == 1, Done) ∷ no_space N t' ∷ []) (Done, with_tree s t') sound (λ ok.
+    checked_sound N s (when (not (is_dir (node s.tree n))) NotDir ∷ when (s.version == 1) Inval ∷ (form_of (node s.tree n) == 1, Done)
+    ∷ no_space N t' ∷ []) (Done, with_tree s t') sound (λ ok.
     let dir : is_dir (node s.tree n) ≡ true = is_dir_there (is_dir (node s.tree n)) ok.0 in
     let room : nat_lt (47 * N) (need t') ≡ false = ok.1.1.1.0 in
     let fits : need t' ≤ 47 * N = grind (arith, nat_tests) in
-    widened_sound N s n (form_of (node s.tree n)) (names_in s.tree n) sound (dir_at (node s.tree n) dir) (not_1 s.version sound.version ok.1.0) fits)
+    widened_sound N s n (form_of (node s.tree n)) (names_in s.tree n) sound (dir_at (node s.tree n) dir)
+    (not_1 s.version sound.version ok.1.0) fits)
 
 pub widen_keeps : (N : ℕ) (s s' : State) (p : List ℕ) (a : Answer) → Sound N s → Step N s (Widen p) a s' → Sound N s'
 widen_keeps N s s' p a sound st = subst (Sound N) st.state (widen_at N s sound st.first_end)

@@ -1,5 +1,6 @@
 -- Words have no space, and one value each.
-use Rattle.std.proofs.Common.{◌≡◌, ◌≢◌, refl, sym, ap, ◌∙◌, arith, ℕ, ◌+◌, ◌/◌, ◌%◌, ◌<◌, ◌≤◌, ◌^◌, Bool, true, false, not, ◌&&◌, ◌==◌, nat_lt, nat_le, List, [], ◌∷◌, ◌++◌, flat_map, decimal, inl, inr}
+use Rattle.std.proofs.Common.{◌≡◌, ◌≢◌, refl, sym, ap, ◌∙◌, arith, ℕ, ◌+◌, ◌/◌, ◌%◌, ◌<◌, ◌≤◌, ◌^◌, Bool, true, false, not, ◌&&◌, ◌==◌}
+use Rattle.std.proofs.Common.{nat_lt, nat_le, List, [], ◌∷◌, ◌++◌, flat_map, decimal, inl, inr}
 use Rattle.std.specs.Str.Parse.{AllDigits}
 use Rattle.std.proofs.lemmas.Bool.{and_parts, cases_lt}
 use Rattle.std.proofs.lemmas.Bool.Decides.{nat_tests}
@@ -22,8 +23,10 @@ not_space c h = grind (arith, nat_tests)
 
 front : (w v r s : List ℕ) → is_solid w ≡ true → is_solid v ≡ true → w ++ 32 ∷ r ≡ v ++ 32 ∷ s → (w ≡ v) × (r ≡ s)
 front [] [] r s hw hv e = (refl, cc)
-front [] (y ∷ v) r s hw hv e = let parts = and_parts (not (y == 32)) (is_solid v) hv in let at : y ≡ 32 = cc in absurd (not_space y parts.0 at)
-front (x ∷ w) [] r s hw hv e = let parts = and_parts (not (x == 32)) (is_solid w) hw in let at : x ≡ 32 = cc in absurd (not_space x parts.0 at)
+front [] (y ∷ v) r s hw hv e = let parts = and_parts (not (y == 32)) (is_solid v) hv in let at : y ≡ 32 = cc in
+    absurd (not_space y parts.0 at)
+front (x ∷ w) [] r s hw hv e = let parts = and_parts (not (x == 32)) (is_solid w) hw in let at : x ≡ 32 = cc in
+    absurd (not_space x parts.0 at)
 front (x ∷ w) (y ∷ v) r s hw hv e =
     let first : x ≡ y = cc in
     let rest : w ++ 32 ∷ r ≡ v ++ 32 ∷ s = cc in
@@ -38,7 +41,8 @@ no_space (x ∷ w) [] s h e = let parts = and_parts (not (x == 32)) (is_solid w)
 no_space (x ∷ w) (y ∷ v) s h e = let rest : w ≡ v ++ 32 ∷ s = cc in no_space w v s (and_parts (not (x == 32)) (is_solid w) h).1 rest
 
 -- a text has one cut into such words
-pub same_words : (w v : List ℕ) (ws vs : List (List ℕ)) → all_solid (w ∷ ws) ≡ true → all_solid (v ∷ vs) ≡ true → line_of w ws ≡ line_of v vs → (w ≡ v) × (ws ≡ vs)
+pub same_words : (w v : List ℕ) (ws vs : List (List ℕ)) → all_solid (w ∷ ws) ≡ true → all_solid (v ∷ vs) ≡ true
+    → line_of w ws ≡ line_of v vs → (w ≡ v) × (ws ≡ vs)
 same_words w v [] [] hw hv e = (e, refl)
 same_words w v [] (y ∷ vs) hw hv e = absurd (no_space w v (line_of y vs) (and_parts (is_solid w) true hw).0 e)
 same_words w v (x ∷ ws) [] hw hv e = absurd (no_space v w (line_of x ws) (and_parts (is_solid v) true hv).0 (sym e))
@@ -144,8 +148,10 @@ plain_apart c h = (grind (arith, nat_tests), grind (arith, nat_tests))
 solid_escaped : (bytes : List ℕ) → is_solid (flat_map word_byte bytes) ≡ true
 solid_escaped [] = refl
 solid_escaped (b ∷ bytes) = either b
-    (λ p. ap (λ t. is_solid (t ++ flat_map word_byte bytes)) (plain_byte b p) ∙ rw (apart_space b (plain_apart b p).0) (solid_escaped bytes))
-    (λ p. ap (λ t. is_solid (t ++ flat_map word_byte bytes)) (other_byte b p) ∙ rw (solid_digit (b / 16), solid_digit (b % 16)) (solid_escaped bytes))
+    (λ p. ap (λ t. is_solid (t ++ flat_map word_byte bytes)) (plain_byte b p)
+    ∙ rw (apart_space b (plain_apart b p).0) (solid_escaped bytes))
+    (λ p. ap (λ t. is_solid (t ++ flat_map word_byte bytes)) (other_byte b p)
+    ∙ rw (solid_digit (b / 16), solid_digit (b % 16)) (solid_escaped bytes))
 
 pub solid-word : (bytes : List ℕ) → is_solid (word bytes) ≡ true
 solid-word [] = refl
@@ -156,11 +162,14 @@ byte_then : (c d : ℕ) (r s : List ℕ) → word_byte c ++ r ≡ word_byte d ++
 byte_then c d r s e = either c
     (λ pc. either d
     (λ pd. let text : c ∷ r ≡ d ∷ s = ap (λ t. t ++ r) (sym (plain_byte c pc)) ∙ e ∙ ap (λ t. t ++ s) (plain_byte d pd) in (cc, cc))
-    (λ pd. absurd (let text : c ∷ r ≡ 92 ∷ hex_digit (d / 16) ∷ hex_digit (d % 16) ∷ s = ap (λ t. t ++ r) (sym (plain_byte c pc)) ∙ e ∙ ap (λ t. t ++ s) (other_byte d pd) in (plain_apart c pc).1 (cc))))
+    (λ pd. absurd (let text : c ∷ r ≡ 92 ∷ hex_digit (d / 16) ∷ hex_digit (d % 16) ∷ s = ap (λ t. t ++ r) (sym (plain_byte c pc)) ∙ e
+    ∙ ap (λ t. t ++ s) (other_byte d pd) in (plain_apart c pc).1 (cc))))
     (λ pc. either d
-    (λ pd. absurd (let text : d ∷ s ≡ 92 ∷ hex_digit (c / 16) ∷ hex_digit (c % 16) ∷ r = ap (λ t. t ++ s) (sym (plain_byte d pd)) ∙ sym e ∙ ap (λ t. t ++ r) (other_byte c pc) in (plain_apart d pd).1 (cc)))
+    (λ pd. absurd (let text : d ∷ s ≡ 92 ∷ hex_digit (c / 16) ∷ hex_digit (c % 16) ∷ r = ap (λ t. t ++ s) (sym (plain_byte d pd)) ∙ sym e
+    ∙ ap (λ t. t ++ r) (other_byte c pc) in (plain_apart d pd).1 (cc)))
     (λ pd.
-    let text : 92 ∷ hex_digit (c / 16) ∷ hex_digit (c % 16) ∷ r ≡ 92 ∷ hex_digit (d / 16) ∷ hex_digit (d % 16) ∷ s = ap (λ t. t ++ r) (sym (other_byte c pc)) ∙ e ∙ ap (λ t. t ++ s) (other_byte d pd) in
+    let text : 92 ∷ hex_digit (c / 16) ∷ hex_digit (c % 16) ∷ r ≡ 92 ∷ hex_digit (d / 16) ∷ hex_digit (d % 16) ∷ s =
+    ap (λ t. t ++ r) (sym (other_byte c pc)) ∙ e ∙ ap (λ t. t ++ s) (other_byte d pd) in
     (byte_once c d (cc) (cc), cc)))
 
 some_byte : (c : ℕ) (r : List ℕ) → word_byte c ++ r ≡ [] → ⊥

@@ -24,7 +24,8 @@ pointer_word s i lt = number_word 128 0 0 s i (omega arith) lt ∙ ap (word s) (
 -- a block of these addresses has them at its words
 pub pointers_are : (s ns : List ℕ) → FitsPointers ns → s ≡ pointer_sector ns → (i : ℕ) → i < 128 → word s i ≡ get_or ns i 0
 pointers_are s ns fits is i lt =
-    sym (pointer_word s i lt) ∙ ap (λ (b : List ℕ). get_or (pointers_of b) i 0) is ∙ ap (λ (l : List ℕ). get_or l i 0) (pointers_back ns fits)
+    sym (pointer_word s i lt) ∙ ap (λ (b : List ℕ). get_or (pointers_of b) i 0) is
+    ∙ ap (λ (l : List ℕ). get_or l i 0) (pointers_back ns fits)
 
 -- what an inode's words are
 pub record InodeWords (s : List ℕ) (v : InodeValue) : Type 0 where
@@ -58,7 +59,8 @@ use_words s i = record {
 }
 
 -- a block of these entries has them at its words
-pub uses_are : (s : List ℕ) (n : ℕ) (us : List SegmentUse) → IsBytes s → length s ≡ 512 → usage_in n s ≡ Some us → (i : ℕ) → i < 64 → UseWords s i (get_or us i no_use)
+pub uses_are : (s : List ℕ) (n : ℕ) (us : List SegmentUse) → IsBytes s → length s ≡ 512 → usage_in n s ≡ Some us → (i : ℕ) → i < 64
+    → UseWords s i (get_or us i no_use)
 unfolding usage_in
 uses_are s n us bytes long spelt i lt =
     let is : usage_of s ≡ us = (value_found usage_of (may_be_usage n) usage_sector s us spelt).0 in
@@ -76,7 +78,8 @@ usage_block_found s n us bytes long spelt =
     let fits = (usage_found s n us bytes long spelt).0 in record {
       fit = λ i lt. let w = (uses_are s n us bytes long spelt i lt).used in let f = (fits.each i lt).used in omega arith;
       less = λ i lt. few (uses_are s n us bytes long spelt i lt).used (uses_are s n us bytes long spelt i lt).live (fits.each i lt);
-      both = λ i lt none. let w = uses_are s n us bytes long spelt i lt in let f = (fits.each i lt).both in w.live ∙ f.0 (sym w.used ∙ none);
+      both = λ i lt none. let w = uses_are s n us bytes long spelt i lt in let f = (fits.each i lt).both in
+          w.live ∙ f.0 (sym w.used ∙ none);
       past = λ i le lt. let w = uses_are s n us bytes long spelt i lt in let f = fits.past i le lt in (w.used ∙ f.used, w.age ∙ f.age);
     }
   where
@@ -97,7 +100,11 @@ use_is n s bytes long b i lt =
     let wl = w.live in
     let fit = b.fit i lt in record {
       used = omega arith;
-      both = ((λ z. sym wl ∙ b.both i lt (wu ∙ z)), (λ z. elim (b.less i lt) [ inl e ↦ sym wu ∙ e | inr some ↦ let lt' = some.0 in absurd (omega arith) ]));
+      both = (
+        (λ z. sym wl ∙ b.both i lt (wu ∙ z)),
+        (λ z. elim (b.less i lt)
+            [ inl e ↦ sym wu ∙ e | inr some ↦ let lt' = some.0 in absurd (omega arith) ]),
+      );
       live = elim (b.less i lt) [ inl e ↦ let z = b.both i lt e in omega arith | inr some ↦ let lt' = some.1 in omega arith ];
       fewer = λ some. elim (b.less i lt) [ inl e ↦ absurd (omega arith) | inr f ↦ let lt' = f.1 in omega arith ];
       age = read32-lt (8 * i + 4) s bytes (omega arith);

@@ -6,7 +6,8 @@ use Rattle.std.specs.Ordering.{nat_cmp}
 use Rattle.std.proofs.lemmas.Cmp.{nat_cmp_total}
 use Rattle.std.specs.FinMap.{find}
 use Rattle.std.specs.FinMap.Entries.{is_sorted-put}
-use Rattle.lfs_model.specs.Tree.{Tree, Names, Node, File, Dir, Link, State, node, with_node, names_of, is_dir, entry, byte_cmp, names, links, links_at}
+use Rattle.lfs_model.specs.Tree.{Tree, Names, Node, File, Dir, Link, State, node, with_node, names_of, is_dir, entry, byte_cmp, names}
+use Rattle.lfs_model.specs.Tree.{links, links_at}
 use Rattle.lfs_model.specs.Need.{need}
 use Rattle.lfs_model.specs.Sound.{Sound, IsReachable, root, below, IsWithinLimits, IsOfVersion, IsFile}
 use Rattle.lfs_model.specs.Step.{with_tree}
@@ -15,7 +16,8 @@ use Rattle.lfs_model.proofs.Sums.{total_put, weight}
 use Rattle.lfs_model.proofs.Trees.{find_here, find_other}
 use Rattle.lfs_model.proofs.Growing.{same_or_not, gives}
 
-module _ (N : ℕ) (s : State) (n : ℕ) (old new : List ℕ) (sound : Sound N s) (is : node s.tree n ≡ Some (File old)) (good : IsWithinLimits (File new)) (fits : need (with_node s.tree n (File new)) ≤ 47 * N) where
+module _ (N : ℕ) (s : State) (n : ℕ) (old new : List ℕ) (sound : Sound N s) (is : node s.tree n ≡ Some (File old))
+    (good : IsWithinLimits (File new)) (fits : need (with_node s.tree n (File new)) ≤ 47 * N) where
   abbrev t : Tree
   t = s.tree
 
@@ -28,7 +30,8 @@ module _ (N : ℕ) (s : State) (n : ℕ) (old new : List ℕ) (sound : Sound N s
   kept : (q : ℕ) → q ≢ n → node t' q ≡ node t q
   kept q ne = find_other t n (File new) q ne
 
-  each_kept : (P : Node → Type 0) → ((q : ℕ) (x : Node) → node t q ≡ Some x → P x) → P (File new) → (q : ℕ) (x : Node) → node t' q ≡ Some x → P x
+  each_kept : (P : Node → Type 0) → ((q : ℕ) (x : Node) → node t q ≡ Some x → P x) → P (File new) → (q : ℕ) (x : Node) → node t' q ≡ Some x
+      → P x
   each_kept P was file q x h = same_or_not q n
       (λ e. subst P (Some-injective _ _ (sym now_is ∙ subst (λ y. node t' y ≡ Some x) e h)) file)
       (λ b. was q x (sym (kept q b) ∙ h))
@@ -55,7 +58,8 @@ module _ (N : ℕ) (s : State) (n : ℕ) (old new : List ℕ) (sound : Sound N s
       omega (arith, all, was)
 
   subdirs : (ms : Names) → count_by (λ x. is_dir (node t' x.1)) ms ≡ count_by (λ x. is_dir (node t x.1)) ms
-  subdirs ms = let f : (λ (q : ℕ). is_dir (node t' q)) ≡ (λ (q : ℕ). is_dir (node t q)) = fun_ext dirs in ap (λ (f : ℕ → Bool). count_by (λ (x : List ℕ × ℕ). f x.1) ms) f
+  subdirs ms = let f : (λ (q : ℕ). is_dir (node t' q)) ≡ (λ (q : ℕ). is_dir (node t q)) = fun_ext dirs in
+      ap (λ (f : ℕ → Bool). count_by (λ (x : List ℕ × ℕ). f x.1) ms) f
 
   same_links : (q : ℕ) → links t' q ≡ links t q
   same_links q = unseen (links_at t' q) refl q ∙ by (node t q)
@@ -99,7 +103,8 @@ module _ (N : ℕ) (s : State) (n : ℕ) (old new : List ℕ) (sound : Sound N s
     root_unnamed = same_names 1 ∙ sound.root_unnamed;
     one_name = λ q ne dir. same_names q ∙ sound.one_name q ne (sym (dirs q) ∙ dir);
     reached = λ q dir. reached_kept (sound.reached q (sym (dirs q) ∙ dir));
-    held = λ q ne some none. (let was = sound.held q ne (there q some) (sym (same_names q) ∙ none) in record { file = file_kept q was.file; handle = was.handle });
+    held = λ q ne some none. (let was = sound.held q ne (there q some) (sym (same_names q) ∙ none) in
+        record { file = file_kept q was.file; handle = was.handle });
     handles = λ h q e. ((sound.handles h q e).0, file_kept q (sound.handles h q e).1);
     room = fits;
   }

@@ -49,7 +49,8 @@ pub record IsRewriting (m : LogMap) (M : Memory) (n i : ℕ) (bytes : List ℕ) 
   pub kept : (y : Entry) → (y ≡ Data n i → ⊥) → M'.bytes y ≡ M.bytes y
 
 abbrev pub Rewriting : Type 0
-Rewriting = (e : Content) (m : LogMap) (M : Memory) (opened_at n i : ℕ) (bytes : List ℕ) (m' : LogMap) (M' : Memory) → IsLaid e m M opened_at → IsRewriting m M n i bytes m' M' → IsLaid e m' M' opened_at
+Rewriting = (e : Content) (m : LogMap) (M : Memory) (opened_at n i : ℕ) (bytes : List ℕ) (m' : LogMap) (M' : Memory)
+    → IsLaid e m M opened_at → IsRewriting m M n i bytes m' M' → IsLaid e m' M' opened_at
 
 -- a data block where none was
 pub record IsAdding (m : LogMap) (M : Memory) (n i : ℕ) (bytes : List ℕ) (m' : LogMap) (M' : Memory) : Type 0 where
@@ -61,7 +62,8 @@ pub record IsAdding (m : LogMap) (M : Memory) (n i : ℕ) (bytes : List ℕ) (m'
   pub own : M'.bytes (Data n i) ≡ bytes
 
 abbrev pub Adding : Type 0
-Adding = (e : Content) (m : LogMap) (M : Memory) (opened_at n i : ℕ) (bytes : List ℕ) (m' : LogMap) (M' : Memory) → IsLaid e m M opened_at → IsAdding m M n i bytes m' M' → IsLaid e m' M' opened_at
+Adding = (e : Content) (m : LogMap) (M : Memory) (opened_at n i : ℕ) (bytes : List ℕ) (m' : LogMap) (M' : Memory) → IsLaid e m M opened_at
+    → IsAdding m M n i bytes m' M' → IsLaid e m' M' opened_at
 
 -- a data block, in memory or not, that is none
 pub record IsRemoving (m : LogMap) (M : Memory) (n i : ℕ) (m' : LogMap) (M' : Memory) : Type 0 where
@@ -71,7 +73,8 @@ pub record IsRemoving (m : LogMap) (M : Memory) (n i : ℕ) (m' : LogMap) (M' : 
   pub pointed : IsPointed M (Data n i) 0 M'
 
 abbrev pub Removing : Type 0
-Removing = (e : Content) (m : LogMap) (M : Memory) (opened_at n i : ℕ) (m' : LogMap) (M' : Memory) → IsLaid e m M opened_at → IsRemoving m M n i m' M' → IsLaid e m' M' opened_at
+Removing = (e : Content) (m : LogMap) (M : Memory) (opened_at n i : ℕ) (m' : LogMap) (M' : Memory) → IsLaid e m M opened_at
+    → IsRemoving m M n i m' M' → IsLaid e m' M' opened_at
 
 -- an empty block of pointers where none was
 pub record IsGrowing (M : Memory) (x : Entry) (M' : Memory) : Type 0 where
@@ -84,7 +87,8 @@ pub record IsGrowing (M : Memory) (x : Entry) (M' : Memory) : Type 0 where
   pub empty : (i : ℕ) → i < 128 → word (M'.bytes x) i ≡ 0
 
 abbrev pub Growing : Type 0
-Growing = (e : Content) (m : LogMap) (M : Memory) (opened_at : ℕ) (x : Entry) (M' : Memory) → IsLaid e m M opened_at → IsGrowing M x M' → IsLaid e m M' opened_at
+Growing = (e : Content) (m : LogMap) (M : Memory) (opened_at : ℕ) (x : Entry) (M' : Memory) → IsLaid e m M opened_at → IsGrowing M x M'
+    → IsLaid e m M' opened_at
 
 -- a block of pointers that has become empty goes
 pub record IsShrinking (M : Memory) (x : Entry) (M' : Memory) : Type 0 where
@@ -95,7 +99,8 @@ pub record IsShrinking (M : Memory) (x : Entry) (M' : Memory) : Type 0 where
   pub empty : (i : ℕ) → i < 128 → word (M.bytes x) i ≡ 0
 
 abbrev pub Shrinking : Type 0
-Shrinking = (e : Content) (m : LogMap) (M : Memory) (opened_at : ℕ) (x : Entry) (M' : Memory) → IsLaid e m M opened_at → IsShrinking M x M' → IsLaid e m M' opened_at
+Shrinking = (e : Content) (m : LogMap) (M : Memory) (opened_at : ℕ) (x : Entry) (M' : Memory) → IsLaid e m M opened_at → IsShrinking M x M'
+    → IsLaid e m M' opened_at
 
 -- an inode in memory with another header and the same pointers
 pub record IsRelabeling (m : LogMap) (M : Memory) (n : ℕ) (m' : LogMap) (M' : Memory) : Type 0 where
@@ -108,7 +113,8 @@ pub record IsRelabeling (m : LogMap) (M : Memory) (n : ℕ) (m' : LogMap) (M' : 
   pub kept : (y : Entry) → (y ≡ Inode n → ⊥) → M'.bytes y ≡ M.bytes y
 
 abbrev pub Relabeling : Type 0
-Relabeling = (e : Content) (m : LogMap) (M : Memory) (opened_at n : ℕ) (m' : LogMap) (M' : Memory) → IsLaid e m M opened_at → IsRelabeling m M n m' M' → IsLaid e m' M' opened_at
+Relabeling = (e : Content) (m : LogMap) (M : Memory) (opened_at n : ℕ) (m' : LogMap) (M' : Memory) → IsLaid e m M opened_at
+    → IsRelabeling m M n m' M' → IsLaid e m' M' opened_at
 
 -- a new file, without blocks
 pub record IsCreating (m : LogMap) (M : Memory) (n : ℕ) (m' : LogMap) (M' : Memory) : Type 0 where
@@ -121,7 +127,8 @@ pub record IsCreating (m : LogMap) (M : Memory) (n : ℕ) (m' : LogMap) (M' : Me
   pub kept : (y : Entry) → (y ≡ Inode n → ⊥) → M'.bytes y ≡ M.bytes y
 
 abbrev pub Creating : Type 0
-Creating = (e : Content) (m : LogMap) (M : Memory) (opened_at n : ℕ) (m' : LogMap) (M' : Memory) → IsLaid e m M opened_at → IsCreating m M n m' M' → IsLaid e m' M' opened_at
+Creating = (e : Content) (m : LogMap) (M : Memory) (opened_at n : ℕ) (m' : LogMap) (M' : Memory) → IsLaid e m M opened_at
+    → IsCreating m M n m' M' → IsLaid e m' M' opened_at
 
 -- a file that is there no more, with all its blocks
 pub record IsForgetting (m : LogMap) (M : Memory) (n : ℕ) (m' : LogMap) (M' : Memory) : Type 0 where
@@ -138,7 +145,8 @@ pub record IsForgetting (m : LogMap) (M : Memory) (n : ℕ) (m' : LogMap) (M' : 
   pub rows : M'.rows ≡ M.rows
 
 abbrev pub Forgetting : Type 0
-Forgetting = (e : Content) (m : LogMap) (M : Memory) (opened_at n : ℕ) (m' : LogMap) (M' : Memory) → IsLaid e m M opened_at → IsForgetting m M n m' M' → IsLaid e m' M' opened_at
+Forgetting = (e : Content) (m : LogMap) (M : Memory) (opened_at n : ℕ) (m' : LogMap) (M' : Memory) → IsLaid e m M opened_at
+    → IsForgetting m M n m' M' → IsLaid e m' M' opened_at
 
 -- What is read: a block at its address is the log map's, no address means no block, and an entry's address is its parent's pointer to it.
 pub record IsRead (e : Content) (m : LogMap) (M : Memory) : Type 0 where
@@ -146,7 +154,8 @@ pub record IsRead (e : Content) (m : LogMap) (M : Memory) : Type 0 where
   pub no_block : (n i : ℕ) → M.at (Data n i) ≡ 0 → m.block n i ≡ []
   pub header : (n : ℕ) → 0 < M.at (Inode n) → m.header n ≡ Some (header (M.bytes (Inode n)))
   pub no_header : (n : ℕ) → M.at (Inode n) ≡ 0 → m.header n ≡ None
-  pub pointer : (x : Entry) → (parent x ≡ x → ⊥) → ((n q : ℕ) → x ≡ Leaf n q → q ≤ 128) → 0 < M.at (parent x) → word (M.bytes (parent x)) (pointer x) ≡ M.at x
+  pub pointer : (x : Entry) → (parent x ≡ x → ⊥) → ((n q : ℕ) → x ≡ Leaf n q → q ≤ 128) → 0 < M.at (parent x)
+      → word (M.bytes (parent x)) (pointer x) ≡ M.at x
   pub no_pointer : (x : Entry) → M.at (parent x) ≡ 0 → M.at x ≡ 0
 
 abbrev pub Reading : Type 0

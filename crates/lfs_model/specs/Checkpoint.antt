@@ -42,7 +42,8 @@ checkpoint_sector c = checkpoint_sector_of (layout_version c) c
 
 -- what stands at the places of a checkpoint
 abbrev pub checkpoint_of : List ℕ → CheckpointValue
-checkpoint_of s = record { number = read64 8 s; segments = read32 16 s; version = read32 20 s; map = numbers 32 32 s; usage = numbers 16 160 s }
+checkpoint_of s =
+    record { number = read64 8 s; segments = read32 16 s; version = read32 20 s; map = numbers 32 32 s; usage = numbers 16 160 s }
 
 -- how many segments a volume may have: a multiple of 8 in 64..=1,024
 pub record IsSegmentCount (n : ℕ) : Type 0 where

@@ -1,7 +1,9 @@
 -- A commit, one step at a time: blocks of files, of the inode map and of the usage table go to the open segment, which is sealed as it is
 -- full and followed by another; and then the checkpoint.
--- That what changed goes to the log first, and the checkpoint last, is the Sprite LFS paper's (1992, section 4.1); the steps are an own choice.
-use Rattle.std.specs.Prelude.{◌≡◌, ◌<◌, ◌≤◌, ◌⊎◌, ◌+◌, ◌*◌, ◌-◌, ◌/◌, ◌%◌, ◌==◌, ℕ, suc, true, false, List, [], ◌∷◌, ◌++◌, length, get_or, Option, Some, None}
+-- That what changed goes to the log first, and the checkpoint last, is the
+-- Sprite LFS paper's (1992, section 4.1); the steps are an own choice.
+use Rattle.std.specs.Prelude.{◌≡◌, ◌<◌, ◌≤◌, ◌⊎◌, ◌+◌, ◌*◌, ◌-◌, ◌/◌, ◌%◌, ◌==◌, ℕ, suc, true, false, List, [], ◌∷◌, ◌++◌, length, get_or}
+use Rattle.std.specs.Prelude.{Option, Some, None}
 use Rattle.lfs_model.specs.Entry.{Entry, Inode, Map, Usage, entries_in, word}
 use Rattle.lfs_model.specs.Checkpoint.{CheckpointValue, checkpoint_in, layout_version}
 use Rattle.lfs_model.specs.Device.{DeviceState, CrashWrites, IsUntouched, put}
@@ -14,7 +16,8 @@ use Rattle.lfs_model.specs.TreeOf.{dropped}
 use Rattle.lfs_model.specs.Memory.{parent, IsPointers, HasPointer, shown}
 use Rattle.lfs_model.specs.Counting.{segment_of}
 use Rattle.lfs_model.specs.Settled.{IsSettled, IsPlanned}
-use Rattle.lfs_model.specs.Running.{Dirty, IsTight, Tables, SpellsUsage, Running, IsLowest, Moves, IsNoted, IsLifted, IsTakenFrom, GoesOnIn, IsFresh, IsReaddressed, used_saved}
+use Rattle.lfs_model.specs.Running.{Dirty, IsTight, Tables, SpellsUsage, Running, IsLowest, Moves, IsNoted, IsLifted, IsTakenFrom, GoesOnIn}
+use Rattle.lfs_model.specs.Running.{IsFresh, IsReaddressed, used_saved}
 
 -- the first sector behind the used part of a segment
 abbrev pub place_of : Tables → ℕ → ℕ
@@ -37,15 +40,18 @@ GoingOn = (d : DeviceState) (dirty : Dirty) (t t' : Tables) (k : CheckpointValue
 
 -- A block of a file goes out.
 abbrev pub Stepping : Type 1
-Stepping = (d d' : DeviceState) (dirty dirty' : Dirty) (t t' : Tables) (k : CheckpointValue) (m0 m : LogMap) (seg : ℕ) (es : List Entry) (x : Entry) (bytes : List ℕ)
+Stepping = (d d' : DeviceState) (dirty dirty' : Dirty) (t t' : Tables) (k : CheckpointValue) (m0 m : LogMap) (seg : ℕ) (es : List Entry)
+    (x : Entry) (bytes : List ℕ)
     → Running d dirty t k m0 m seg (Some es) → t.used seg < 64 → IsLowest dirty x → dirty x ≡ Some bytes → (IsPointers x → HasPointer bytes)
     → IsWritten d d' (place_of t seg) bytes → Moves dirty dirty' x (place_of t seg) → IsNoted m t t' x (place_of t seg) seg
     → Running d' dirty' t' k m0 m seg (Some (es ++ x ∷ []))
 
 -- No block of pointers that is left becomes empty by that.
 abbrev pub SteppingTight : Type 1
-SteppingTight = (d : DeviceState) (dirty dirty' : Dirty) (t : Tables) (k : CheckpointValue) (m0 m : LogMap) (seg : ℕ) (es : List Entry) (x : Entry) (bytes : List ℕ)
-    → Running d dirty t k m0 m seg (Some es) → t.used seg < 64 → dirty x ≡ Some bytes → Moves dirty dirty' x (place_of t seg) → IsTight dirty → IsTight dirty'
+SteppingTight = (d : DeviceState) (dirty dirty' : Dirty) (t : Tables) (k : CheckpointValue) (m0 m : LogMap) (seg : ℕ) (es : List Entry)
+    (x : Entry) (bytes : List ℕ)
+    → Running d dirty t k m0 m seg (Some es) → t.used seg < 64 → dirty x ≡ Some bytes → Moves dirty dirty' x (place_of t seg)
+    → IsTight dirty → IsTight dirty'
 
 -- the bytes are inode map block j
 pub record SpellsMap (m : LogMap) (t : Tables) (j : ℕ) (bytes : List ℕ) : Type 0 where
@@ -56,27 +62,31 @@ pub record SpellsMap (m : LogMap) (t : Tables) (j : ℕ) (bytes : List ℕ) : Ty
 
 -- An inode map block goes out.
 abbrev pub MapStepping : Type 1
-MapStepping = (d d' : DeviceState) (dirty : Dirty) (t t' : Tables) (k : CheckpointValue) (m0 m : LogMap) (seg : ℕ) (es : List Entry) (j : ℕ) (bytes : List ℕ)
+MapStepping = (d d' : DeviceState) (dirty : Dirty) (t t' : Tables) (k : CheckpointValue) (m0 m : LogMap) (seg : ℕ) (es : List Entry) (j : ℕ)
+    (bytes : List ℕ)
     → Running d dirty t k m0 m seg (Some es) → t.used seg < 64 → t.at (Map j) ≡ 1 → SpellsMap m t j bytes
     → IsWritten d d' (place_of t seg) bytes → IsNoted m t t' (Map j) (place_of t seg) seg
     → Running d' dirty t' k m0 m seg (Some (es ++ Map j ∷ []))
 
 -- One that shows no inode isn't stored.
 abbrev pub MapDropping : Type 1
-MapDropping = (d : DeviceState) (dirty : Dirty) (t t' : Tables) (k : CheckpointValue) (m0 m : LogMap) (seg : ℕ) (chunk : Option (List Entry)) (j : ℕ)
+MapDropping =
+    (d : DeviceState) (dirty : Dirty) (t t' : Tables) (k : CheckpointValue) (m0 m : LogMap) (seg : ℕ) (chunk : Option (List Entry)) (j : ℕ)
     → Running d dirty t k m0 m seg chunk → t.at (Map j) ≡ 1 → ((i : ℕ) → i < 128 → shown m t.at (Inode (128 * j + i)) ≡ 0)
     → IsReaddressed t t' (Map j) 0 → Running d dirty t' k m0 m seg chunk
 
 -- A usage block that is stale is to be written, so it lives no more where it was.
 abbrev pub UsageLeaving : Type 1
-UsageLeaving = (d : DeviceState) (dirty : Dirty) (t t' : Tables) (k : CheckpointValue) (m0 m : LogMap) (seg : ℕ) (chunk : Option (List Entry)) (j : ℕ)
+UsageLeaving =
+    (d : DeviceState) (dirty : Dirty) (t t' : Tables) (k : CheckpointValue) (m0 m : LogMap) (seg : ℕ) (chunk : Option (List Entry)) (j : ℕ)
     → Running d dirty t k m0 m seg chunk → 2 ≤ t.at (Usage j) → t.stale j ≡ true → IsLifted m t t' (Usage j) 1 (segment_of (t.at (Usage j)))
     → Running d dirty t' k m0 m seg chunk
 
 -- It gets its place before its bytes are known, for it may count itself.
 abbrev pub UsageSettling : Type 1
 UsageSettling = (d : DeviceState) (dirty : Dirty) (t t' : Tables) (k : CheckpointValue) (m0 m : LogMap) (seg : ℕ) (es : List Entry) (j : ℕ)
-    → Running d dirty t k m0 m seg (Some es) → t.used seg < 64 → t.at (Usage j) ≡ 1 → t.stale j ≡ true → IsNoted m t t' (Usage j) (place_of t seg) seg
+    → Running d dirty t k m0 m seg (Some es) → t.used seg < 64 → t.at (Usage j) ≡ 1 → t.stale j ≡ true
+    → IsNoted m t t' (Usage j) (place_of t seg) seg
     → Running d dirty t' k m0 m seg (Some (es ++ Usage j ∷ []))
 
 -- the acknowledged checkpoint needs nothing at an address
@@ -85,14 +95,17 @@ IsUnkept t at = t.kept (segment_of at) ≤ (at - 2) % 64
 
 -- And it is written there, once all counts are final.
 abbrev pub UsageFilling : Type 1
-UsageFilling = (d d' : DeviceState) (dirty : Dirty) (t t' : Tables) (k : CheckpointValue) (m0 m : LogMap) (seg : ℕ) (chunk : Option (List Entry)) (j : ℕ) (bytes : List ℕ)
+UsageFilling = (d d' : DeviceState) (dirty : Dirty) (t t' : Tables) (k : CheckpointValue) (m0 m : LogMap) (seg : ℕ)
+    (chunk : Option (List Entry)) (j : ℕ) (bytes : List ℕ)
     → Running d dirty t k m0 m seg chunk → 2 ≤ t.at (Usage j) → IsUnkept t (t.at (Usage j)) → SpellsUsage t j bytes
     → IsWritten d d' (t.at (Usage j)) bytes → IsFresh t t' j → Running d' dirty t' k m0 m seg chunk
 
 -- The open chunk's summary is written, at its start in the segment.
 abbrev pub Closing : Type 1
-Closing = (d d' : DeviceState) (dirty : Dirty) (t : Tables) (k : CheckpointValue) (m0 m : LogMap) (seg start : ℕ) (es : List Entry) (bytes : List ℕ) (none : ℕ)
-    → Running d dirty t k m0 m seg (Some es) → t.used seg ≡ start + suc (length es) → entries_in bytes ≡ Some es → IsWritten d d' (2 + 64 * seg + start) bytes → k.segments ≤ none
+Closing = (d d' : DeviceState) (dirty : Dirty) (t : Tables) (k : CheckpointValue) (m0 m : LogMap) (seg start : ℕ) (es : List Entry)
+    (bytes : List ℕ) (none : ℕ)
+    → Running d dirty t k m0 m seg (Some es) → t.used seg ≡ start + suc (length es) → entries_in bytes ≡ Some es
+    → IsWritten d d' (2 + 64 * seg + start) bytes → k.segments ≤ none
     → Running d' dirty t k m0 m none None
 
 -- All is out: nothing is left in memory, and the usage table is on the device.
@@ -117,7 +130,8 @@ pub record LeadsTo (t : Tables) (version : ℕ) (k next : CheckpointValue) : Typ
 -- So its slot may be written.
 abbrev pub Planning : Type 1
 Planning = (d : DeviceState) (dirty : Dirty) (t : Tables) (k next : CheckpointValue) (m0 m : LogMap) (none slot : ℕ) (bytes : List ℕ)
-    → Running d dirty t k m0 m none None → IsLogMap (dropped m) → IsOut dirty t k.segments → ManyClean t k.segments → LeadsTo t m.version k next
+    → Running d dirty t k m0 m none None → IsLogMap (dropped m) → IsOut dirty t k.segments → ManyClean t k.segments
+    → LeadsTo t m.version k next
     → checkpoint_in bytes ≡ Some next → slot ≡ next.number % 2 → IsPlanned k d.content slot bytes next (dropped m)
 
 -- the segments where nothing lives and that nothing holds are clean, and what is in use is kept
@@ -134,7 +148,8 @@ pub record IsReleased (t t' : Tables) : Type 0 where
 -- And once it is acknowledged, the log runs on from there.
 abbrev pub Resting : Type 1
 Resting = (d d' : DeviceState) (dirty : Dirty) (t t' : Tables) (k next : CheckpointValue) (m0 m : LogMap) (none slot : ℕ) (bytes : List ℕ)
-    → Running d dirty t k m0 m none None → IsOut dirty t k.segments → ManyClean t k.segments → LeadsTo t m.version k next → slot < 2 → d'.content ≡ put d.content slot bytes
+    → Running d dirty t k m0 m none None → IsOut dirty t k.segments → ManyClean t k.segments → LeadsTo t m.version k next → slot < 2
+    → d'.content ≡ put d.content slot bytes
     → IsSettled d' next (dropped m) → IsReleased t t' → Running d' dirty t' next (dropped m) m none None
 
 -- A call that leaves the content, and leaves no more to a stop, changes nothing of it.
@@ -142,8 +157,8 @@ abbrev pub Staying : Type 1
 Staying = (d d' : DeviceState) (dirty : Dirty) (t : Tables) (k : CheckpointValue) (m0 m : LogMap) (seg : ℕ) (chunk : Option (List Entry))
     → Running d dirty t k m0 m seg chunk → IsUntouched d d' → Running d' dirty t k m0 m seg chunk
 
--- What a mount puts into the tables: what the usage table and the inode map of the content say. A usage block in which a segment where nothing
--- lives has an age isn't as a commit would write it, so it is stale.
+-- What a mount puts into the tables: what the usage table and the inode map of the content say. A usage
+-- block in which a segment where nothing lives has an age isn't as a commit would write it, so it is stale.
 pub record IsMountedTables (c : Content) (k : CheckpointValue) (t : Tables) : Type 0 where
   pub at : (x : Entry) → parent x ≡ x → t.at x ≡ address c k x
   pub used : (s : ℕ) → t.used s ≡ used_in (view c k) s
@@ -155,5 +170,6 @@ pub record IsMountedTables (c : Content) (k : CheckpointValue) (t : Tables) : Ty
 
 -- With nothing in memory, and once all that it found is durable, the log runs.
 abbrev pub Starting : Type 1
-Starting = (d : DeviceState) (t : Tables) (k : CheckpointValue) (m : LogMap) (none : ℕ) → k.segments ≤ 1024 → IsSized d.content → IsSettled d k m → IsMountedTables d.content k t → k.segments ≤ none
+Starting = (d : DeviceState) (t : Tables) (k : CheckpointValue) (m : LogMap) (none : ℕ) → k.segments ≤ 1024 → IsSized d.content
+    → IsSettled d k m → IsMountedTables d.content k t → k.segments ≤ none
     → Running d (λ x. None) t k m m none None

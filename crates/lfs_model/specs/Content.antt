@@ -38,4 +38,5 @@ newest content = newer (slot content 0) (slot content 1)
 
 -- It is the one that the slots' contents determine.
 abbrev pub NewestFits : Type 0
-NewestFits = (c : Content) → AllByRecursion IsSector c → ((k : CheckpointValue) → newest c ≡ Some k ↔ IsNewest c k) × (newest c ≡ None ↔ HasNoCheckpoint c)
+NewestFits = (c : Content) → AllByRecursion IsSector c → ((k : CheckpointValue) → newest c ≡ Some k ↔ IsNewest c k)
+    × (newest c ≡ None ↔ HasNoCheckpoint c)

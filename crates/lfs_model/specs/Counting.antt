@@ -15,7 +15,8 @@ segment_of at = (at - 2) / 64
 
 -- As x goes to the open segment, that one's count goes up by one if x is one of those that are counted.
 abbrev pub MovedCounts : Type 0
-MovedCounts = (e : Content) (m : LogMap) (M : Memory) (opened_at : ℕ) (x : Entry) (M' : Memory) → IsLaid e m M opened_at → IsMoved M opened_at x M'
+MovedCounts = (e : Content) (m : LogMap) (M : Memory) (opened_at : ℕ) (x : Entry) (M' : Memory) → IsLaid e m M opened_at
+    → IsMoved M opened_at x M'
     → (is : Entry → Bool)
     → (is x ≡ true → count_of is M' opened_at ≡ suc (count_of is M opened_at))
     × ((s : ℕ) → (s ≡ opened_at → ⊥) → count_of is M' s ≡ count_of is M s)
@@ -23,7 +24,8 @@ MovedCounts = (e : Content) (m : LogMap) (M : Memory) (opened_at : ℕ) (x : Ent
 
 -- As x leaves its address, its segment's count goes down by one if x is one of those.
 abbrev pub TakenCounts : Type 0
-TakenCounts = (e : Content) (m : LogMap) (M : Memory) (opened_at : ℕ) (x : Entry) (v : ℕ) (M' : Memory) → IsLaid e m M opened_at → 2 ≤ M.at x → IsTaken M x v M'
+TakenCounts = (e : Content) (m : LogMap) (M : Memory) (opened_at : ℕ) (x : Entry) (v : ℕ) (M' : Memory) → IsLaid e m M opened_at
+    → 2 ≤ M.at x → IsTaken M x v M'
     → (is : Entry → Bool)
     → (is x ≡ true → count_of is M (segment_of (M.at x)) ≡ suc (count_of is M' (segment_of (M.at x))))
     × ((s : ℕ) → (s ≡ segment_of (M.at x) → ⊥) → count_of is M' s ≡ count_of is M s)
@@ -31,7 +33,8 @@ TakenCounts = (e : Content) (m : LogMap) (M : Memory) (opened_at : ℕ) (x : Ent
 
 -- What had no address takes none from a count.
 abbrev pub UnplacedCounts : Type 0
-UnplacedCounts = (e : Content) (m : LogMap) (M : Memory) (opened_at : ℕ) (x : Entry) (v : ℕ) (M' : Memory) → IsLaid e m M opened_at → M.at x ≤ 1 → IsTaken M x v M' → (is : Entry → Bool) (s : ℕ) → count_of is M' s ≡ count_of is M s
+UnplacedCounts = (e : Content) (m : LogMap) (M : Memory) (opened_at : ℕ) (x : Entry) (v : ℕ) (M' : Memory) → IsLaid e m M opened_at
+    → M.at x ≤ 1 → IsTaken M x v M' → (is : Entry → Bool) (s : ℕ) → count_of is M' s ≡ count_of is M s
 
 -- One entry more is counted: its segment's count goes up by one, if it has an address.
 abbrev pub OneMoreCounted : Type 0

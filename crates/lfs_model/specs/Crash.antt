@@ -1,5 +1,6 @@
 -- What a crash may do to a content, and what of it can't hurt.
--- That a checkpoint alone leads to a consistent state, and blocks that it needs aren't overwritten: the Sprite LFS paper (1992, section 4.1).
+-- That a checkpoint alone leads to a consistent state, and blocks that
+-- it needs aren't overwritten: the Sprite LFS paper (1992, section 4.1).
 use Rattle.std.specs.Prelude.{◌≡◌, ◌<◌, ◌≤◌, ◌⊎◌, ◌+◌, ◌*◌, ◌%◌, ℕ, List, length, Some}
 use Rattle.lfs_model.specs.Checkpoint.{CheckpointValue, checkpoint_in}
 use Rattle.lfs_model.specs.Content.{Content, newest}
@@ -47,9 +48,12 @@ SingleLog = (c : Content) (m m' : LogMap) → StandsLog c m → StandsLog c m' �
 
 -- A write to a sector that is free for the acknowledged checkpoint leaves it as it is, at each crash.
 abbrev pub FreeWrites : Type 0
-FreeWrites = (c : Content) (m : LogMap) (s : StandsLog c m) (at : ℕ) (bytes : List ℕ) → IsFreeSector c s.checkpoint at → (d d' : Content) → Keeps c s.checkpoint d → MayWrite at bytes d d' → Keeps c s.checkpoint d'
+FreeWrites = (c : Content) (m : LogMap) (s : StandsLog c m) (at : ℕ) (bytes : List ℕ) → IsFreeSector c s.checkpoint at → (d d' : Content)
+    → Keeps c s.checkpoint d → MayWrite at bytes d d' → Keeps c s.checkpoint d'
 
 -- The write of the next checkpoint to its slot. Each content is left with as many segments as the checkpoint that it stands by.
 abbrev pub SlotWrite : Type 0
-SlotWrite = (c : Content) (m : LogMap) (s : StandsLog c m) (e : Content) → Keeps c s.checkpoint e → (next : CheckpointValue) (bytes : List ℕ) (m' : LogMap) → IsReadyFor e s.checkpoint next bytes m'
-    → ((d : Content) → MayWrite (next.number % 2) bytes e d → StandsOn s.checkpoint.segments d m ⊎ StandsOn next.segments d m') × (newest (put e (next.number % 2) bytes) ≡ Some next) × StandsAt (put e (next.number % 2) bytes) next m'
+SlotWrite = (c : Content) (m : LogMap) (s : StandsLog c m) (e : Content) → Keeps c s.checkpoint e
+    → (next : CheckpointValue) (bytes : List ℕ) (m' : LogMap) → IsReadyFor e s.checkpoint next bytes m'
+    → ((d : Content) → MayWrite (next.number % 2) bytes e d → StandsOn s.checkpoint.segments d m ⊎ StandsOn next.segments d m')
+    × (newest (put e (next.number % 2) bytes) ≡ Some next) × StandsAt (put e (next.number % 2) bytes) next m'

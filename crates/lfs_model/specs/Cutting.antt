@@ -42,7 +42,8 @@ pub record LeavesOut (old new : Dirty) (n : ℕ) : Type 0 where
 
 -- A file goes, with all its blocks, of which there were so many in each segment.
 abbrev pub FileRemoving : Type 1
-FileRemoving = (d : DeviceState) (dirty dirty' : Dirty) (t t' : Tables) (k : CheckpointValue) (m0 m m' : LogMap) (seg : ℕ) (chunk : Option (List Entry)) (n : ℕ) (counts : ℕ → ℕ)
+FileRemoving = (d : DeviceState) (dirty dirty' : Dirty) (t t' : Tables) (k : CheckpointValue) (m0 m m' : LogMap) (seg : ℕ)
+    (chunk : Option (List Entry)) (n : ℕ) (counts : ℕ → ℕ)
     → (r : Running d dirty t k m0 m seg chunk) → (HasInode m n → is_nameless m n ≡ false → t.at (Map (n / 128)) ≡ 1)
     → ((s : ℕ) → counts s ≡ count_of (is_of n) r.memory s)
     → IsWithoutFile m n m' → LeavesOut dirty dirty' n → IsDetachedFrom m t t' n (is_of n) counts → Running d dirty' t' k m0 m' seg chunk

@@ -1,4 +1,5 @@
--- Entries of one file that leave at once, with all that is below them: a cut of a file, or a whole file; and a file that loses its last name.
+-- Entries of one file that leave at once, with all that is below them: a
+-- cut of a file, or a whole file; and a file that loses its last name.
 use Rattle.std.specs.Prelude.{◌≡◌, ◌<◌, ◌≤◌, ◌+◌, ◌/◌, ◌==◌, ◌&&◌, cond, ℕ, Bool, true, false, List, [], length, Option, Some, None}
 use Rattle.lfs_model.specs.Changing.{IsWithHeader, WillBeMapped}
 use Rattle.lfs_model.specs.Checkpoint.{CheckpointValue}
@@ -33,7 +34,8 @@ pub record IsWithout (m : LogMap) (n : ℕ) (gone : Entry → Bool) (m' : LogMap
 pub record IsCleared (gone : Entry → Bool) (y : Entry) (old new : List ℕ) : Type 0 where
   pub long : length new ≡ 512
   pub same : (n i : ℕ) → y ≡ Data n i → new ≡ old
-  pub pointers : (c : Entry) → parent c ≡ y → (c ≡ y → ⊥) → ((n q : ℕ) → c ≡ Leaf n q → q ≤ 128) → word new (pointer c) ≡ cond (gone c) 0 (word old (pointer c))
+  pub pointers : (c : Entry) → parent c ≡ y → (c ≡ y → ⊥) → ((n q : ℕ) → c ≡ Leaf n q → q ≤ 128)
+      → word new (pointer c) ≡ cond (gone c) 0 (word old (pointer c))
   pub formed : (n : ℕ) → y ≡ Inode n → HoldsInode n new
   pub header : (n : ℕ) → y ≡ Inode n → header new ≡ header old
 
@@ -52,7 +54,8 @@ pub record IsDetaching (m : LogMap) (M : Memory) (n : ℕ) (gone : Entry → Boo
   pub rows : M'.rows ≡ M.rows
 
 abbrev pub Detaching : Type 0
-Detaching = (e : Content) (m : LogMap) (M : Memory) (opened_at n : ℕ) (gone : Entry → Bool) (m' : LogMap) (M' : Memory) → IsLaid e m M opened_at → IsDetaching m M n gone m' M' → IsLaid e m' M' opened_at
+Detaching = (e : Content) (m : LogMap) (M : Memory) (opened_at n : ℕ) (gone : Entry → Bool) (m' : LogMap) (M' : Memory)
+    → IsLaid e m M opened_at → IsDetaching m M n gone m' M' → IsLaid e m' M' opened_at
 
 -- Each count falls by those of them that it counted.
 abbrev pub DetachedCounts : Type 0
@@ -61,7 +64,8 @@ DetachedCounts = (m : LogMap) (M : Memory) (n : ℕ) (gone : Entry → Bool) (m'
 
 -- So the live counts fall by all of them, if the file has a name, and else the held counts; the other counts stay.
 abbrev pub DetachedLive : Type 0
-DetachedLive = (e : Content) (m : LogMap) (M : Memory) (opened_at n : ℕ) (gone : Entry → Bool) (m' : LogMap) (M' : Memory) → IsLaid e m M opened_at → IsDetaching m M n gone m' M'
+DetachedLive = (e : Content) (m : LogMap) (M : Memory) (opened_at n : ℕ) (gone : Entry → Bool) (m' : LogMap) (M' : Memory)
+    → IsLaid e m M opened_at → IsDetaching m M n gone m' M'
     → (is_nameless m n ≡ false → (s : ℕ) → (live_of m' M' s + count_of gone M s ≡ live_of m M s) × (held_of m' M' s ≡ held_of m M s))
     × (is_nameless m n ≡ true → (s : ℕ) → (live_of m' M' s ≡ live_of m M s) × (held_of m' M' s + count_of gone M s ≡ held_of m M s))
 
@@ -71,7 +75,8 @@ DetachedLive = (e : Content) (m : LogMap) (M : Memory) (opened_at n : ℕ) (gone
 pub record Detaches (old new : Dirty) (n : ℕ) (gone : Entry → Bool) : Type 0 where
   pub none : (x : Entry) → gone x ≡ true → new x ≡ None
   pub absent : (x : Entry) → old x ≡ None → new x ≡ None
-  pub cleared : (x : Entry) (b : List ℕ) → gone x ≡ false → file_of x ≡ Some n → old x ≡ Some b → (c : List ℕ) × (new x ≡ Some c) × IsCleared gone x b c
+  pub cleared : (x : Entry) (b : List ℕ) → gone x ≡ false → file_of x ≡ Some n → old x ≡ Some b
+      → (c : List ℕ) × (new x ≡ Some c) × IsCleared gone x b c
   pub kept : (x : Entry) → (file_of x ≡ Some n → ⊥) → new x ≡ old x
 
 -- the tables without them, of which there were so many in each segment
@@ -88,7 +93,8 @@ pub record IsDetachedFrom (m : LogMap) (t t' : Tables) (n : ℕ) (gone : Entry �
 
 -- Entries of a file go.
 abbrev pub FileCutting : Type 1
-FileCutting = (d : DeviceState) (dirty dirty' : Dirty) (t t' : Tables) (k : CheckpointValue) (m0 m m' : LogMap) (seg : ℕ) (chunk : Option (List Entry)) (n : ℕ) (gone : Entry → Bool) (counts : ℕ → ℕ)
+FileCutting = (d : DeviceState) (dirty dirty' : Dirty) (t t' : Tables) (k : CheckpointValue) (m0 m m' : LogMap) (seg : ℕ)
+    (chunk : Option (List Entry)) (n : ℕ) (gone : Entry → Bool) (counts : ℕ → ℕ)
     → (r : Running d dirty t k m0 m seg chunk) → IsCut n gone
     → ((x : Entry) → gone x ≡ true → 0 < r.memory.at x → (parent x ≡ x → ⊥) → gone (parent x) ≡ false → r.memory.at (parent x) ≡ 1)
     → (gone (Inode n) ≡ true → HasInode m n → is_nameless m n ≡ false → t.at (Map (n / 128)) ≡ 1)
@@ -107,8 +113,10 @@ pub record IsHeldFrom (t t' : Tables) (counts : ℕ → ℕ) : Type 0 where
   pub stale : (j : ℕ) → t'.stale j ≡ false → t.stale j ≡ false
 
 abbrev pub LinkLosing : Type 1
-LinkLosing = (d : DeviceState) (dirty dirty' : Dirty) (t t' : Tables) (k : CheckpointValue) (m0 m m' : LogMap) (seg : ℕ) (chunk : Option (List Entry)) (n : ℕ) (old bytes : List ℕ) (counts : ℕ → ℕ)
-    → (r : Running d dirty t k m0 m seg chunk) → dirty (Inode n) ≡ Some old → HoldsInode n bytes → ((w : ℕ) → 8 ≤ w → w < 122 → word bytes w ≡ word old w)
+LinkLosing = (d : DeviceState) (dirty dirty' : Dirty) (t t' : Tables) (k : CheckpointValue) (m0 m m' : LogMap) (seg : ℕ)
+    (chunk : Option (List Entry)) (n : ℕ) (old bytes : List ℕ) (counts : ℕ → ℕ)
+    → (r : Running d dirty t k m0 m seg chunk) → dirty (Inode n) ≡ Some old → HoldsInode n bytes
+    → ((w : ℕ) → 8 ≤ w → w < 122 → word bytes w ≡ word old w)
     → IsWithHeader m n (Some (header bytes)) m' → is_nameless m n ≡ false → is_nameless m' n ≡ true
     → ((s : ℕ) → counts s ≡ count_of (is_of n) r.memory s)
     → ChangesTo dirty dirty' (Inode n) (Some bytes) → IsHeldFrom t t' counts → Running d dirty' t' k m0 m' seg chunk

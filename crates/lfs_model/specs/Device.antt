@@ -1,6 +1,7 @@
 -- What contracts see of a sector device, what its calls do, and what a stop leaves.
 -- All of it is an own choice: it is what is assumed of a disk.
-use Rattle.std.specs.Prelude.{◌≡◌, ◌⊎◌, ℕ, ◌+◌, ◌^◌, ◌<◌, ◌≤◌, Option, Some, None, List, [], ◌∷◌, length, slice_set, slice_index, slice_index_or}
+use Rattle.std.specs.Prelude.{◌≡◌, ◌⊎◌, ℕ, ◌+◌, ◌^◌, ◌<◌, ◌≤◌, Option, Some, None, List, [], ◌∷◌, length, slice_set, slice_index}
+use Rattle.std.specs.Prelude.{slice_index_or}
 use Rattle.std.specs.List.{AllByRecursion}
 use Rattle.lfs_model.specs.declared.Order.{Order}
 
@@ -50,7 +51,8 @@ put content sector bytes = slice_set content sector (Some bytes)
 abbrev pub lose : List Cell → ℕ → List Cell
 lose content sector = slice_set content sector None
 
--- what a stop, or a write that fails, makes of a content in which the bytes are written: the sector as it was, with the bytes, or unreadable
+-- what a stop, or a write that fails, makes of a content in which the
+-- bytes are written: the sector as it was, with the bytes, or unreadable
 pub data MayWrite (sector : ℕ) (bytes : List ℕ) (old new : List Cell) : Type 0 where
   left_old : new ≡ old → MayWrite sector bytes old new
   left_new : new ≡ put old sector bytes → MayWrite sector bytes old new
@@ -88,7 +90,8 @@ pub record Carries (old new : DeviceState) : Type 0 where
   pub start : new.start ≡ old.start
   pub told : Grows old.told new.told
 
--- What holds of one call: a stop since an earlier moment might have left what it might have left before the call, or what it may leave after it.
+-- What holds of one call: a stop since an earlier moment might have left
+-- what it might have left before the call, or what it may leave after it.
 abbrev pub Elapses : DeviceState → DeviceState → Type 0
 Elapses old new = (t : ℕ) (c : List Cell) → t ≤ old.moment → new.left_since t c → old.left_since t c ⊎ new.may_leave c
 

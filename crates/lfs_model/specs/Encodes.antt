@@ -76,7 +76,8 @@ pub record Encodes (c : Content) (k : CheckpointValue) (A : Entry → ℕ) (m : 
   pub rows : IsRows (view_by c k A)
   pub named : AreNamed (view_by c k A)
   pub fit : (s : ℕ) → used_in (view_by c k A) s ≤ 64
-  pub less : (s : ℕ) → (used_in (view_by c k A) s ≡ 0) ⊎ ((0 < live_in (view_by c k A) s) × (live_in (view_by c k A) s < used_in (view_by c k A) s))
+  pub less : (s : ℕ)
+      → (used_in (view_by c k A) s ≡ 0) ⊎ ((0 < live_in (view_by c k A) s) × (live_in (view_by c k A) s < used_in (view_by c k A) s))
   pub both : (s : ℕ) → used_in (view_by c k A) s ≡ 0 → live_in (view_by c k A) s ≡ 0
   pub past : (s : ℕ) → k.segments ≤ s → (used_in (view_by c k A) s ≡ 0) × (age_in (view_by c k A) s ≡ 0)
   pub counted : AreCounted (view_by c k A)

@@ -1,5 +1,6 @@
 -- The blocks of a log, by name, and what their sectors say.
--- Segment summaries that name each block's file and place are those of the Sprite LFS paper (1992, section 3.3); the kinds are an own choice.
+-- Segment summaries that name each block's file and place are those of
+-- the Sprite LFS paper (1992, section 3.3); the kinds are an own choice.
 use Rattle.std.specs.Prelude.{◌≡◌, ◌*◌, ℕ, List, map, Option, Some}
 use Rattle.std.specs.Option.{option_map}
 use Rattle.lfs_model.specs.declared.Kind.{Kind}

@@ -1,6 +1,7 @@
 -- How the fields of a sector are spelled and read. A sector is a list of 512 bytes, each a number below 256.
 -- All of it is an own choice: the lowest byte first, as most machines keep numbers.
-use Rattle.std.specs.Prelude.{◌<◌, ◌+◌, ◌*◌, ◌^◌, ◌&&◌, Bool, cond, ℕ, zero, suc, Option, Some, None, List, ◌++◌, [], ◌∷◌, take, drop, replicate, get_or}
+use Rattle.std.specs.Prelude.{◌<◌, ◌+◌, ◌*◌, ◌^◌, ◌&&◌, Bool, cond, ℕ, zero, suc, Option, Some, None, List, ◌++◌, [], ◌∷◌, take, drop}
+use Rattle.std.specs.Prelude.{replicate, get_or}
 use Rattle.std.specs.Int.{bytes_low_first}
 use Rattle.std.specs.List.{flat_map}
 use Rattle.std.specs.Str.{bytes_eq}

@@ -33,7 +33,8 @@ pub record IsDone (e : Content) (m : LogMap) (M : Memory) (opened_at : ℕ) (nex
 
 -- So the content stands, by that checkpoint, for the log map without its files of no links.
 abbrev pub Finishing : Type 0
-Finishing = (e : Content) (m : LogMap) (M : Memory) (opened_at : ℕ) (next : CheckpointValue) → IsLogMap (dropped m) → IsLaid e m M opened_at → IsDone e m M opened_at next
+Finishing = (e : Content) (m : LogMap) (M : Memory) (opened_at : ℕ) (next : CheckpointValue) → IsLogMap (dropped m) → IsLaid e m M opened_at
+    → IsDone e m M opened_at next
     → StandsAt e next (dropped m)
 
 -- Once it is acknowledged: segments where nothing lives and that nothing holds are clean.
@@ -45,12 +46,14 @@ pub record IsReleasing (m : LogMap) (M M' : Memory) : Type 0 where
   pub kept : (s : ℕ) → (0 < live_of m M s) ⊎ (0 < held_of m M s) → M'.rows s ≡ M.rows s
 
 abbrev pub Releasing : Type 0
-Releasing = (e : Content) (m : LogMap) (M M' : Memory) (opened_at : ℕ) → IsLaid e m M opened_at → M.segments ≤ opened_at → IsReleasing m M M'
+Releasing = (e : Content) (m : LogMap) (M M' : Memory) (opened_at : ℕ) → IsLaid e m M opened_at → M.segments ≤ opened_at
+    → IsReleasing m M M'
     → IsLaid e m M' opened_at × ((s : ℕ) → live_of m M' s ≡ live_of m M s) × ((s : ℕ) → held_of m M' s ≡ held_of m M s)
 
 -- And the sectors of a segment in which nothing lives are free for the checkpoint.
 abbrev pub ReleasedFree : Type 0
-ReleasedFree = (e : Content) (m : LogMap) (M : Memory) (opened_at : ℕ) (next : CheckpointValue) → IsLaid e m M opened_at → IsDone e m M opened_at next
+ReleasedFree = (e : Content) (m : LogMap) (M : Memory) (opened_at : ℕ) (next : CheckpointValue) → IsLaid e m M opened_at
+    → IsDone e m M opened_at next
     → StandsAt e next (dropped m) → (s o : ℕ) → s < M.segments → o < 64 → live_of m M s ≡ 0 → IsFreeSector e next (2 + 64 * s + o)
 
 -- what a mount has in memory
@@ -59,7 +62,8 @@ row_or_none None = []
 row_or_none (Some r) = r
 
 abbrev pub mounted_memory : Content → CheckpointValue → Memory
-mounted_memory c k = record { segments = k.segments; at = address c k; bytes = λ x. block c (address c k x); rows = λ s. row_or_none (row c k s) }
+mounted_memory c k =
+    record { segments = k.segments; at = address c k; bytes = λ x. block c (address c k x); rows = λ s. row_or_none (row c k s) }
 
 -- A mount begins with what is there: so there is such a memory wherever a content stands for a log map, and it is at the end of a commit.
 abbrev pub Mounting : Type 0

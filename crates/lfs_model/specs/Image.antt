@@ -1,5 +1,6 @@
 -- A new volume of a version of the layout: an empty root, in the version's last form. The layout is this project's own.
-use Rattle.std.specs.Prelude.{◌≡◌, ◌<◌, ◌≤◌, ◌+◌, ◌-◌, ◌*◌, ◌/◌, ◌==◌, nat_lt, ℕ, zero, suc, cond, List, [], ◌∷◌, ◌++◌, map, length, replicate, Some, None}
+use Rattle.std.specs.Prelude.{◌≡◌, ◌<◌, ◌≤◌, ◌+◌, ◌-◌, ◌*◌, ◌/◌, ◌==◌, nat_lt, ℕ, zero, suc, cond, List, [], ◌∷◌, ◌++◌, map, length}
+use Rattle.std.specs.Prelude.{replicate, Some, None}
 use Rattle.std.specs.List.{range_with_len}
 use Rattle.lfs_model.specs.declared.Kind.TheVariants.{Directory}
 use Rattle.lfs_model.specs.declared.BlockKind.TheVariants as kind
@@ -28,7 +29,8 @@ abbrev pub first_usage_address : ℕ → ℕ → ℕ
 first_usage_address N j = cond (nat_lt j (usage_blocks N)) (5 + j) 0
 
 abbrev pub first_checkpoint : ℕ → ℕ → CheckpointValue
-first_checkpoint version N = record { number = 1; segments = N; version = version; map = 4 ∷ blank 31; usage = map (first_usage_address N) (range_with_len 0 16) }
+first_checkpoint version N =
+    record { number = 1; segments = N; version = version; map = 4 ∷ blank 31; usage = map (first_usage_address N) (range_with_len 0 16) }
 
 -- what the blocks of the first chunk are, one after the other: the root's inode, the inode map block, the usage blocks
 abbrev pub first_name : ℕ → BlockNameValue
@@ -45,7 +47,8 @@ new_form version = version - 1
 
 -- the root, without entries
 abbrev pub root_inode : ℕ → InodeValue
-root_inode version = record { kind = Directory; form = new_form version; number = 1; links = 2; size = 0; direct = blank 112; single = 0; double = 0 }
+root_inode version =
+    record { kind = Directory; form = new_form version; number = 1; links = 2; size = 0; direct = blank 112; single = 0; double = 0 }
 
 -- number 1 has its inode at sector 3
 abbrev pub first_pointers : List ℕ
@@ -83,12 +86,15 @@ Formatted = (version N : ℕ) (c : Content) → IsNew version N c
 
 abbrev pub new_image : ℕ → ℕ → Content
 new_image version N =
-    Some (blank 512) ∷ Some (checkpoint_sector (first_checkpoint version N)) ∷ Some (summary_sector (first_names N)) ∷ Some (inode_sector (root_inode version)) ∷ Some (pointer_sector first_pointers)
-    ∷ map (λ j. Some (usage_sector (first_uses N j))) (range_with_len 0 (usage_blocks N)) ++ replicate (64 * N - 3 - usage_blocks N) (Some (blank 512))
+    Some (blank 512) ∷ Some (checkpoint_sector (first_checkpoint version N)) ∷ Some (summary_sector (first_names N))
+    ∷ Some (inode_sector (root_inode version)) ∷ Some (pointer_sector first_pointers)
+    ∷ map (λ j. Some (usage_sector (first_uses N j))) (range_with_len 0 (usage_blocks N))
+    ++ replicate (64 * N - 3 - usage_blocks N) (Some (blank 512))
 
 -- of 64 segments, byte by byte
 abbrev pub checkpoint_bytes : ℕ → List ℕ
-checkpoint_bytes version = 83 ∷ 76 ∷ 70 ∷ 83 ∷ 67 ∷ 75 ∷ 80 ∷ 49 ∷ 1 ∷ 0 ∷ 0 ∷ 0 ∷ 0 ∷ 0 ∷ 0 ∷ 0 ∷ 64 ∷ 0 ∷ 0 ∷ 0 ∷ version ∷ blank 11 ++ 4 ∷ blank 127 ++ 5 ∷ blank 351
+checkpoint_bytes version = 83 ∷ 76 ∷ 70 ∷ 83 ∷ 67 ∷ 75 ∷ 80 ∷ 49 ∷ 1 ∷ 0 ∷ 0 ∷ 0 ∷ 0 ∷ 0 ∷ 0 ∷ 0 ∷ 64 ∷ 0 ∷ 0 ∷ 0 ∷ version ∷ blank 11 ++ 4
+    ∷ blank 127 ++ 5 ∷ blank 351
 
 abbrev pub summary_bytes : List ℕ
 summary_bytes = 3 ∷ blank 7 ++ 1 ∷ 0 ∷ 4 ∷ 0 ∷ 0 ∷ 0 ∷ 0 ∷ 0 ∷ 0 ∷ 0 ∷ 5 ∷ 0 ∷ 0 ∷ 0 ∷ 0 ∷ 0 ∷ 0 ∷ 0 ∷ 6 ∷ blank 485
@@ -104,8 +110,10 @@ usage_bytes = 4 ∷ 0 ∷ 3 ∷ 0 ∷ 1 ∷ 0 ∷ 0 ∷ 0 ∷ blank 504
 
 -- 4,098 sectors
 abbrev pub image : ℕ → Content
-image version = Some (blank 512) ∷ Some (checkpoint_bytes version) ∷ Some summary_bytes ∷ Some (inode_bytes version) ∷ Some map_bytes ∷ Some usage_bytes ∷ replicate 4092 (Some (blank 512))
+image version = Some (blank 512) ∷ Some (checkpoint_bytes version) ∷ Some summary_bytes ∷ Some (inode_bytes version) ∷ Some map_bytes
+    ∷ Some usage_bytes ∷ replicate 4092 (Some (blank 512))
 
 -- There is such a content for each version and each count of segments, and for 64 it is this one.
 abbrev pub NewImages : Type 0
-NewImages = (version : ℕ) → IsVersion version → ((N : ℕ) → IsSegmentCount N → IsNew version N (new_image version N)) × IsNew version 64 (image version)
+NewImages = (version : ℕ) → IsVersion version → ((N : ℕ) → IsSegmentCount N → IsNew version N (new_image version N))
+    × IsNew version 64 (image version)

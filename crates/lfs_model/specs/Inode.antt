@@ -1,6 +1,8 @@
 -- The inode of a file, a directory or a link, which is one sector.
--- Inodes with addresses of blocks and of blocks of addresses are those of the Sprite LFS paper (1992, section 3.1); the bytes and limits are an own choice.
-use Rattle.std.specs.Prelude.{◌≡◌, ◌<◌, ◌≤◌, ◌^◌, ◌%◌, ◌*◌, ◌&&◌, ◌==◌, Bool, nat_le, ℕ, zero, suc, Option, List, [], ◌∷◌, length, get_or, nat_eq, if◌then◌else◌}
+-- Inodes with addresses of blocks and of blocks of addresses are those of the
+-- Sprite LFS paper (1992, section 3.1); the bytes and limits are an own choice.
+use Rattle.std.specs.Prelude.{◌≡◌, ◌<◌, ◌≤◌, ◌^◌, ◌%◌, ◌*◌, ◌&&◌, ◌==◌, Bool, nat_le, ℕ, zero, suc, Option, List, [], ◌∷◌, length, get_or}
+use Rattle.std.specs.Prelude.{nat_eq, if◌then◌else◌}
 use Rattle.lfs_model.specs.declared.Kind.{Kind}
 use Rattle.lfs_model.specs.declared.Kind.TheVariants.{File, Directory, Link}
 use Rattle.lfs_model.specs.Fields.{le32, words, zeros, join, Are32, read32, numbers, value_in}
@@ -91,7 +93,8 @@ is_form Directory form = nat_le form 1
 is_form Link form = form == 0
 
 abbrev pub may_be_inode : InodeValue → Bool
-may_be_inode i = (nat_le 1 i.number && nat_le i.number 4095) && ((nat_le 1 i.links && nat_le i.links 1000) && (is_form i.kind i.form && is_size i.form i.kind i.size))
+may_be_inode i = (nat_le 1 i.number && nat_le i.number 4095)
+    && ((nat_le 1 i.links && nat_le i.links 1000) && (is_form i.kind i.form && is_size i.form i.kind i.size))
 
 -- the inode that a sector spells, if it spells one
 unfoldable pub inode_in : List ℕ → Option InodeValue

@@ -1,5 +1,6 @@
 -- Blocks that come into memory as they are: the start of each change of a file, of a segment's cleaning and of a table block's way out.
--- That live blocks are read and written again elsewhere is cleaning in the Sprite LFS paper (1992, section 3.3); the steps are an own choice.
+-- That live blocks are read and written again elsewhere is cleaning in
+-- the Sprite LFS paper (1992, section 3.3); the steps are an own choice.
 use Rattle.std.specs.Prelude.{◌≡◌, ◌≤◌, ◌/◌, ℕ, true}
 use Rattle.lfs_model.specs.Entry.{Entry, Inode, Map, Usage}
 use Rattle.lfs_model.specs.Content.{Content}
@@ -15,7 +16,8 @@ pub record IsTaken (M : Memory) (x : Entry) (v : ℕ) (M' : Memory) : Type 0 whe
   pub others : (y : Entry) → (y ≡ x → ⊥) → M'.at y ≡ M.at y
   pub rows : M'.rows ≡ M.rows
 
--- a block of a file, whose parent is in memory and points to it there from now on; for an inode that is shown, its inode map block will be written
+-- a block of a file, whose parent is in memory and points to it there from
+-- now on; for an inode that is shown, its inode map block will be written
 pub record IsLifting (m : LogMap) (M : Memory) (x : Entry) (M' : Memory) : Type 0 where
   pub taken : IsTaken M x 1 M'
   pub was : 2 ≤ M.at x
@@ -27,7 +29,8 @@ pub record IsLifting (m : LogMap) (M : Memory) (x : Entry) (M' : Memory) : Type 
   pub kept : (y : Entry) → (y ≡ x → ⊥) → (y ≡ parent x → ⊥) → M'.bytes y ≡ M.bytes y
 
 abbrev pub Lifting : Type 0
-Lifting = (e : Content) (m : LogMap) (M : Memory) (opened_at : ℕ) (x : Entry) (M' : Memory) → IsLaid e m M opened_at → IsLifting m M x M' → IsLaid e m M' opened_at
+Lifting = (e : Content) (m : LogMap) (M : Memory) (opened_at : ℕ) (x : Entry) (M' : Memory) → IsLaid e m M opened_at → IsLifting m M x M'
+    → IsLaid e m M' opened_at
 
 -- An inode map block will be written, whether it is stored now or not.
 pub record IsMapLifting (M : Memory) (j : ℕ) (M' : Memory) : Type 0 where
@@ -35,7 +38,8 @@ pub record IsMapLifting (M : Memory) (j : ℕ) (M' : Memory) : Type 0 where
   pub bytes : M'.bytes ≡ M.bytes
 
 abbrev pub MapLifting : Type 0
-MapLifting = (e : Content) (m : LogMap) (M : Memory) (opened_at j : ℕ) (M' : Memory) → IsLaid e m M opened_at → IsMapLifting M j M' → IsLaid e m M' opened_at
+MapLifting = (e : Content) (m : LogMap) (M : Memory) (opened_at j : ℕ) (M' : Memory) → IsLaid e m M opened_at → IsMapLifting M j M'
+    → IsLaid e m M' opened_at
 
 -- A usage block of the volume will be written.
 pub record IsUsageLifting (M : Memory) (j : ℕ) (M' : Memory) : Type 0 where
@@ -44,4 +48,5 @@ pub record IsUsageLifting (M : Memory) (j : ℕ) (M' : Memory) : Type 0 where
   pub bytes : M'.bytes ≡ M.bytes
 
 abbrev pub UsageLifting : Type 0
-UsageLifting = (e : Content) (m : LogMap) (M : Memory) (opened_at j : ℕ) (M' : Memory) → IsLaid e m M opened_at → IsUsageLifting M j M' → IsLaid e m M' opened_at
+UsageLifting = (e : Content) (m : LogMap) (M : Memory) (opened_at j : ℕ) (M' : Memory) → IsLaid e m M opened_at → IsUsageLifting M j M'
+    → IsLaid e m M' opened_at

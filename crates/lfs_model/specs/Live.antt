@@ -45,7 +45,8 @@ PlacedCounts = (v w : View) → AreNamed v → AreNamed w → (x : Entry) (s o :
 
 -- A chunk in a segment is read from its summary, whatever its blocks are.
 abbrev pub ChunkRead : Type 0
-ChunkRead = (c : Content) (s from : ℕ) (bytes : List ℕ) (es : List Entry) → cell_at c (2 + 64 * s + from) ≡ Some bytes → entries_in bytes ≡ Some es
+ChunkRead = (c : Content) (s from : ℕ) (bytes : List ℕ) (es : List Entry) → cell_at c (2 + 64 * s + from) ≡ Some bytes
+    → entries_in bytes ≡ Some es
     → 2 + 64 * s + from + 1 + length es ≤ length c → chunks_between c s from (from + 1 + length es) ≡ Some (None ∷ map Some es)
 
 -- A row begins with a summary, which isn't live: so fewer sectors are live than are in use.

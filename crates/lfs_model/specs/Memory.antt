@@ -1,6 +1,7 @@
 -- What memory holds of a volume between two commits and in one: each block is in memory, or on the device, and its pointers lead to
 -- the blocks below it. A write-back cache of the log, whose end in memory the Sprite LFS paper (1992, section 3.1) calls the file cache.
-use Rattle.std.specs.Prelude.{◌≡◌, ◌<◌, ◌+◌, ◌*◌, ◌-◌, ◌/◌, ◌%◌, ◌==◌, not, nat_lt, ℕ, zero, suc, Bool, true, false, cond, List, [], ◌++◌, take, drop, length, Option, Some, None}
+use Rattle.std.specs.Prelude.{◌≡◌, ◌<◌, ◌+◌, ◌*◌, ◌-◌, ◌/◌, ◌%◌, ◌==◌, not, nat_lt, ℕ, zero, suc, Bool, true, false, cond, List, [], ◌++◌}
+use Rattle.std.specs.Prelude.{take, drop, length, Option, Some, None}
 use Rattle.lfs_model.specs.Entry.{Entry, Data, Leaf, Double, Inode, Map, Usage, Header, word}
 use Rattle.lfs_model.specs.Checkpoint.{CheckpointValue}
 use Rattle.lfs_model.specs.Fields.{le32}
@@ -99,7 +100,8 @@ no_checkpoint = record { number = 0; segments = 0; version = 1; map = []; usage 
 
 -- what memory knows of the device, of such entries alone
 abbrev pub memory_view : (Entry → Bool) → Memory → View
-memory_view is M = record { checkpoint = no_checkpoint; address = λ x. settled_at (those is M.at x); block = M.bytes; row = λ s. Some (M.rows s) }
+memory_view is M =
+    record { checkpoint = no_checkpoint; address = λ x. settled_at (those is M.at x); block = M.bytes; row = λ s. Some (M.rows s) }
 
 -- how many such entries have their block in segment s
 abbrev pub count_of : (Entry → Bool) → Memory → ℕ → ℕ

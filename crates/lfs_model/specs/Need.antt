@@ -1,5 +1,6 @@
 -- How much room a tree needs: own choice, over blocks of 512 bytes as the volume's layout cuts them.
-use Rattle.std.specs.Prelude.{ℕ, ◌+◌, ◌*◌, ◌/◌, Bool, not, ◌&&◌, List, ◌==◌, if◌then◌else◌, nat_lt, nat_le, length, take, drop, filter, count_by, sum_by, Option, Some, None}
+use Rattle.std.specs.Prelude.{ℕ, ◌+◌, ◌*◌, ◌/◌, Bool, not, ◌&&◌, List, ◌==◌, if◌then◌else◌, nat_lt, nat_le, length, take, drop, filter}
+use Rattle.std.specs.Prelude.{count_by, sum_by, Option, Some, None}
 use Rattle.std.specs.List.{list_any, range_with_len}
 use Rattle.lfs_model.specs.Tree.{Node, File, Dir, Link, Tree, slot_len}
 

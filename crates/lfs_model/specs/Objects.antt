@@ -1,6 +1,7 @@
 -- What changes of a log map's blocks and headers do to the bytes of its objects, to its tree and to the tree's need.
 -- All of it is an own choice: it joins the changes of the log to the words of the calls.
-use Rattle.std.specs.Prelude.{◌≡◌, ◌≢◌, ◌<◌, ◌≤◌, ◌+◌, ◌*◌, ◌/◌, ◌%◌, ◌-◌, max, min, nat_lt, cond, ◌&&◌, ◌↔◌, ℕ, suc, Bool, true, List, [], ◌++◌, length, filter, Option, Some, None, slice_index}
+use Rattle.std.specs.Prelude.{◌≡◌, ◌≢◌, ◌<◌, ◌≤◌, ◌+◌, ◌*◌, ◌/◌, ◌%◌, ◌-◌, max, min, nat_lt, cond, ◌&&◌, ◌↔◌, ℕ, suc, Bool, true, List, []}
+use Rattle.std.specs.Prelude.{◌++◌, length, filter, Option, Some, None, slice_index}
 use Rattle.std.specs.List.{AllByRecursion, list_any, range_with_len}
 use Rattle.std.specs.Ordering.{nat_cmp}
 use Rattle.lfs_model.specs.declared.Kind.TheVariants as kind
@@ -27,11 +28,13 @@ byte_in m n p = slice_index (m.block n (p / 512)) (p % 512)
 
 -- An object's bytes are those of its blocks.
 abbrev pub ObjectBytes : Type 0
-ObjectBytes = (m : LogMap) (n : ℕ) (h : Header) → (length (object m n h) ≡ h.size) × ((p : ℕ) → p < h.size → slice_index (object m n h) p ≡ byte_in m n p)
+ObjectBytes = (m : LogMap) (n : ℕ) (h : Header)
+    → (length (object m n h) ≡ h.size) × ((p : ℕ) → p < h.size → slice_index (object m n h) p ≡ byte_in m n p)
 
 -- Two objects of one size are the same where each byte is.
 abbrev pub SameObjects : Type 0
-SameObjects = (m m' : LogMap) (n n' : ℕ) (h h' : Header) → h.size ≡ h'.size → ((p : ℕ) → p < h.size → byte_in m n p ≡ byte_in m' n' p) → object m n h ≡ object m' n' h'
+SameObjects = (m m' : LogMap) (n n' : ℕ) (h h' : Header) → h.size ≡ h'.size → ((p : ℕ) → p < h.size → byte_in m n p ≡ byte_in m' n' p)
+    → object m n h ≡ object m' n' h'
 
 -- What is read of an object from a place on: at most so many bytes, none past its end, each the block's.
 abbrev pub ObjectPart : Type 0
@@ -59,7 +62,8 @@ OverlaidByBlocks = (m m' : LogMap) (n o : ℕ) (w : List ℕ)
 
 -- What is laid over in two pieces, the one behind the other, is laid over.
 abbrev pub OverlaysJoin : Type 0
-OverlaysJoin = (o : ℕ) (u w : List ℕ) (old mid new : ℕ → ℕ) → Overlays o u old mid → Overlays (o + length u) w mid new → Overlays o (u ++ w) old new
+OverlaysJoin = (o : ℕ) (u w : List ℕ) (old mid new : ℕ → ℕ) → Overlays o u old mid → Overlays (o + length u) w mid new
+    → Overlays o (u ++ w) old new
 
 -- a file with w written from o on, which makes it as long as that needs
 pub record WritesBytes (m m' : LogMap) (n : ℕ) (h h' : Header) (o : ℕ) (w : List ℕ) : Type 0 where
@@ -69,7 +73,8 @@ pub record WritesBytes (m m' : LogMap) (n : ℕ) (h h' : Header) (o : ℕ) (w : 
 
 -- It is what pwrite makes of the file; a gap before o reads as zeros, since no byte past the old size is another.
 abbrev pub ObjectWritten : Type 0
-ObjectWritten = (m m' : LogMap) (n : ℕ) (h h' : Header) → IsLogMap m → m.header n ≡ Some h → (o : ℕ) (w : List ℕ) → WritesBytes m m' n h h' o w → object m' n h' ≡ put (object m n h) o w
+ObjectWritten = (m m' : LogMap) (n : ℕ) (h h' : Header) → IsLogMap m → m.header n ≡ Some h → (o : ℕ) (w : List ℕ)
+    → WritesBytes m m' n h h' o w → object m' n h' ≡ put (object m n h) o w
 
 -- a file that ends at len: the blocks from there on are gone, and the bytes of the last block behind it are zeros
 pub record CutsBytes (m m' : LogMap) (n : ℕ) (h h' : Header) (len : ℕ) : Type 0 where
@@ -81,11 +86,13 @@ pub record CutsBytes (m m' : LogMap) (n : ℕ) (h h' : Header) (len : ℕ) : Typ
 
 -- It is what ftruncate makes of the file, shorter or longer.
 abbrev pub ObjectCut : Type 0
-ObjectCut = (m m' : LogMap) (n : ℕ) (h h' : Header) → IsLogMap m → m.header n ≡ Some h → (len : ℕ) → CutsBytes m m' n h h' len → object m' n h' ≡ cut (object m n h) len
+ObjectCut = (m m' : LogMap) (n : ℕ) (h h' : Header) → IsLogMap m → m.header n ≡ Some h → (len : ℕ) → CutsBytes m m' n h h' len
+    → object m' n h' ≡ cut (object m n h) len
 
 -- A file that is made longer keeps its blocks.
 abbrev pub Lengthened : Type 0
-Lengthened = (m m' : LogMap) (n : ℕ) (h h' : Header) → IsLogMap m → m.header n ≡ Some h → (len : ℕ) → h.size ≤ len → h'.size ≡ len → ((i : ℕ) → m'.block n i ≡ m.block n i) → CutsBytes m m' n h h' len
+Lengthened = (m m' : LogMap) (n : ℕ) (h h' : Header) → IsLogMap m → m.header n ≡ Some h → (len : ℕ) → h.size ≤ len → h'.size ≡ len
+    → ((i : ℕ) → m'.block n i ≡ m.block n i) → CutsBytes m m' n h h' len
 
 -- And no byte past that end is other than zero.
 abbrev pub CutEnds : Type 0
@@ -105,7 +112,8 @@ NodeOfHeader = (m : LogMap) (n : ℕ) → 1 ≤ n → n ≤ 4095 → node (tree_
 
 -- An object that is there afterwards, whether it was before or not, is put into the tree.
 abbrev pub ObjectPut : Type 0
-ObjectPut = (m m' : LogMap) (n : ℕ) (h : Header) → IsChangedAt m n m' → 1 ≤ n → n ≤ 4095 → m'.header n ≡ Some h → tree_in m' ≡ with_node (tree_in m) n (node_by m' h.kind n h)
+ObjectPut = (m m' : LogMap) (n : ℕ) (h : Header) → IsChangedAt m n m' → 1 ≤ n → n ≤ 4095 → m'.header n ≡ Some h
+    → tree_in m' ≡ with_node (tree_in m) n (node_by m' h.kind n h)
 
 -- One that isn't there afterwards is taken from the tree.
 abbrev pub ObjectTaken : Type 0
@@ -113,16 +121,20 @@ ObjectTaken = (m m' : LogMap) (n : ℕ) → IsChangedAt m n m' → m'.header n �
 
 -- Where only its links are others, the tree is the same.
 abbrev pub LinksApart : Type 0
-LinksApart = (m m' : LogMap) (n : ℕ) (h h' : Header) → IsWithHeader m n (Some h') m' → m.header n ≡ Some h → h'.kind ≡ h.kind → h'.form ≡ h.form → h'.size ≡ h.size → tree_in m' ≡ tree_in m
+LinksApart = (m m' : LogMap) (n : ℕ) (h h' : Header) → IsWithHeader m n (Some h') m' → m.header n ≡ Some h → h'.kind ≡ h.kind
+    → h'.form ≡ h.form → h'.size ≡ h.size → tree_in m' ≡ tree_in m
 
 -- A file that is written is what pwrite makes of the tree.
 abbrev pub FileWritten : Type 0
-FileWritten = (m m' : LogMap) (n : ℕ) (h h' : Header) → IsLogMap m → IsChangedAt m n m' → 1 ≤ n → n ≤ 4095 → m.header n ≡ Some h → m'.header n ≡ Some h' → h.kind ≡ kind.File → h'.kind ≡ kind.File
-    → (o : ℕ) (w : List ℕ) → WritesBytes m m' n h h' o w → tree_in m' ≡ with_node (tree_in m) n (File (put (file_bytes (the_node (tree_in m) n)) o w))
+FileWritten = (m m' : LogMap) (n : ℕ) (h h' : Header) → IsLogMap m → IsChangedAt m n m' → 1 ≤ n → n ≤ 4095 → m.header n ≡ Some h
+    → m'.header n ≡ Some h' → h.kind ≡ kind.File → h'.kind ≡ kind.File
+    → (o : ℕ) (w : List ℕ) → WritesBytes m m' n h h' o w
+    → tree_in m' ≡ with_node (tree_in m) n (File (put (file_bytes (the_node (tree_in m) n)) o w))
 
 -- One that is cut, or made longer, is what ftruncate makes of it.
 abbrev pub FileCut : Type 0
-FileCut = (m m' : LogMap) (n : ℕ) (h h' : Header) → IsLogMap m → IsChangedAt m n m' → 1 ≤ n → n ≤ 4095 → m.header n ≡ Some h → m'.header n ≡ Some h' → h.kind ≡ kind.File → h'.kind ≡ kind.File
+FileCut = (m m' : LogMap) (n : ℕ) (h h' : Header) → IsLogMap m → IsChangedAt m n m' → 1 ≤ n → n ≤ 4095 → m.header n ≡ Some h
+    → m'.header n ≡ Some h' → h.kind ≡ kind.File → h'.kind ≡ kind.File
     → (len : ℕ) → CutsBytes m m' n h h' len → tree_in m' ≡ with_node (tree_in m) n (File (cut (file_bytes (the_node (tree_in m) n)) len))
 
 -- ---- the need
@@ -169,16 +181,19 @@ pub record IsDirectory (m : LogMap) (n : ℕ) (h : Header) : Type 0 where
 
 -- An object costs what its stored blocks do.
 abbrev pub ObjectCosts : Type 0
-ObjectCosts = (m : LogMap) (n : ℕ) (h : Header) → IsLogMap m → AreLong m n → m.header n ≡ Some h → (h.kind ≡ kind.Directory → IsDirectory m n h) → HasCosts (node_by m h.kind n h) (stored_blocks m n)
+ObjectCosts = (m : LogMap) (n : ℕ) (h : Header) → IsLogMap m → AreLong m n → m.header n ≡ Some h
+    → (h.kind ≡ kind.Directory → IsDirectory m n h) → HasCosts (node_by m h.kind n h) (stored_blocks m n)
 
 -- So the node of an object in the tree adds as many data blocks as are stored for it, and an inode and its blocks of pointers.
 abbrev pub CostsInTree : Type 0
-CostsInTree = (m : LogMap) (n : ℕ) (h : Header) → IsLogMap m → AreLong m n → 1 ≤ n → n ≤ 4095 → m.header n ≡ Some h → (h.kind ≡ kind.Directory → IsDirectory m n h)
+CostsInTree = (m : LogMap) (n : ℕ) (h : Header) → IsLogMap m → AreLong m n → 1 ≤ n → n ≤ 4095 → m.header n ≡ Some h
+    → (h.kind ≡ kind.Directory → IsDirectory m n h)
     → (data_at (node (tree_in m) n) ≡ length (stored_blocks m n)) × (meta_at (node (tree_in m) n) ≡ 1 + pointers (stored_blocks m n))
 
 -- A directory has a block in each of its pieces.
 abbrev pub DirectoryBlocks : Type 0
-DirectoryBlocks = (m : LogMap) (n : ℕ) (h : Header) → IsLogMap m → m.header n ≡ Some h → IsDirectory m n h → stored_blocks m n ≡ pieces h.size
+DirectoryBlocks = (m : LogMap) (n : ℕ) (h : Header) → IsLogMap m → m.header n ≡ Some h → IsDirectory m n h
+    → stored_blocks m n ≡ pieces h.size
 
 abbrev pub one_if : Bool → ℕ
 one_if b = cond {A = ℕ} b 1 0
@@ -197,7 +212,8 @@ BlocksOfChange = (m m' : LogMap) (n : ℕ) → IsChangedAt m n m'
 
 -- And so does its need.
 abbrev pub NeedOfObject : Type 0
-NeedOfObject = (m m' : LogMap) (n : ℕ) → IsChangedAt m n m' → need (tree_in m') + cost_at (node (tree_in m) n) ≡ need (tree_in m) + cost_at (node (tree_in m') n)
+NeedOfObject = (m m' : LogMap) (n : ℕ) → IsChangedAt m n m'
+    → need (tree_in m') + cost_at (node (tree_in m) n) ≡ need (tree_in m) + cost_at (node (tree_in m') n)
 
 -- ---- what a volume's log map keeps
 
@@ -225,15 +241,18 @@ ObjectKept = (m m' : LogMap) (n : ℕ) (h : Header) → IsLogMap m → IsChanged
 
 -- Without an object that isn't the root it does too.
 abbrev pub ObjectLost : Type 0
-ObjectLost = (m m' : LogMap) (n : ℕ) → IsLogMap m → IsChangedAt m n m' → m'.header n ≡ None → ((i : ℕ) → m'.block n i ≡ []) → n ≢ 1 → IsLogMap m'
+ObjectLost = (m m' : LogMap) (n : ℕ) → IsLogMap m → IsChangedAt m n m' → m'.header n ≡ None → ((i : ℕ) → m'.block n i ≡ []) → n ≢ 1
+    → IsLogMap m'
 
 -- A block that is none, or a sector with a byte that isn't zero, leaves the file's blocks whole.
 abbrev pub BlockWhole : Type 0
-BlockWhole = (m m' : LogMap) (n i : ℕ) (bytes : List ℕ) → IsWithBlock m n i bytes m' → AreStoredWhole m n → (0 < length bytes → (length bytes ≡ 512) × ((k : ℕ) × (0 < slice_index bytes k))) → AreStoredWhole m' n
+BlockWhole = (m m' : LogMap) (n i : ℕ) (bytes : List ℕ) → IsWithBlock m n i bytes m' → AreStoredWhole m n
+    → (0 < length bytes → (length bytes ≡ 512) × ((k : ℕ) × (0 < slice_index bytes k))) → AreStoredWhole m' n
 
 -- No byte past the end that a write leaves is other than zero.
 abbrev pub WriteEnds : Type 0
-WriteEnds = (m m' : LogMap) (n : ℕ) (h h' : Header) → IsLogMap m → m.header n ≡ Some h → (o : ℕ) (w : List ℕ) → WritesBytes m m' n h h' o w → (p : ℕ) → h'.size ≤ p → byte_in m' n p ≡ 0
+WriteEnds = (m m' : LogMap) (n : ℕ) (h h' : Header) → IsLogMap m → m.header n ≡ Some h → (o : ℕ) (w : List ℕ) → WritesBytes m m' n h h' o w
+    → (p : ℕ) → h'.size ≤ p → byte_in m' n p ≡ 0
 
 -- what an inode may say of object n
 pub record IsHeaderOf (n : ℕ) (h : Header) : Type 0 where
@@ -247,7 +266,8 @@ pub record IsHeaderOf (n : ℕ) (h : Header) : Type 0 where
 
 -- What is laid out in memory and on the device has such headers.
 abbrev pub LaidHeaders : Type 0
-LaidHeaders = (e : Content) (m : LogMap) (M : Memory) (opened_at : ℕ) → IsLaid e m M opened_at → (n : ℕ) (h : Header) → m.header n ≡ Some h → IsHeaderOf n h
+LaidHeaders = (e : Content) (m : LogMap) (M : Memory) (opened_at : ℕ) → IsLaid e m M opened_at → (n : ℕ) (h : Header) → m.header n ≡ Some h
+    → IsHeaderOf n h
 
 -- ---- blocks of pointers
 
@@ -265,10 +285,12 @@ LeafTests = (m : LogMap) (n : ℕ) → ((q : ℕ) → (has_leaf m n q ≡ true) 
 
 -- The blocks of pointers that a file's cost counts are those that a log map stores for it.
 abbrev pub PointerBlocks : Type 0
-PointerBlocks = (m : LogMap) (n : ℕ) → pointers (stored_blocks m n) ≡ one_if (has_leaf m n 0) + count_up (λ q. has_leaf m n (suc q)) 128 + one_if (has_double m n)
+PointerBlocks = (m : LogMap) (n : ℕ)
+    → pointers (stored_blocks m n) ≡ one_if (has_leaf m n 0) + count_up (λ q. has_leaf m n (suc q)) 128 + one_if (has_double m n)
 
 -- With one block changed they change by the leaf above it, and by the double root above that.
 abbrev pub PointersChanged : Type 0
 PointersChanged = (m m' : LogMap) (n i : ℕ) (bytes : List ℕ) → IsWithBlock m n i bytes m'
     → (i < 112 → pointers (stored_blocks m' n) ≡ pointers (stored_blocks m n))
-    × ((q : ℕ) → q ≤ 128 → 112 + 128 * q ≤ i → i < 240 + 128 * q → pointers (stored_blocks m' n) + one_if (has_leaf m n q) + one_if (nat_lt 0 q && has_double m n) ≡ pointers (stored_blocks m n) + one_if (has_leaf m' n q) + one_if (nat_lt 0 q && has_double m' n))
+    × ((q : ℕ) → q ≤ 128 → 112 + 128 * q ≤ i → i < 240 + 128 * q → pointers (stored_blocks m' n) + one_if (has_leaf m n q) + one_if
+    (nat_lt 0 q && has_double m n) ≡ pointers (stored_blocks m n) + one_if (has_leaf m' n q) + one_if (nat_lt 0 q && has_double m' n))

@@ -38,4 +38,5 @@ last ps = last_or None ps
 
 -- what refuses a path's text, or a link's: empty (POSIX.1-2017, 4.13), more than 1,023 bytes (PATH_MAX), a zero byte (own choice)
 abbrev pub text_refusal : List ℕ → Option Refusal
-text_refusal p = if nat_lt 0 (length p) then (if nat_lt 1023 (length p) then Some NameTooLong else (if list_any (λ c. nat_lt c 1) p then Some Inval else None)) else Some NoEntry
+text_refusal p = if nat_lt 0 (length p) then (if nat_lt 1023 (length p) then Some NameTooLong
+    else (if list_any (λ c. nat_lt c 1) p then Some Inval else None)) else Some NoEntry

@@ -36,7 +36,8 @@ pub record IsPlacing (M : Memory) (opened_at : ℕ) (x : Entry) (M' : Memory) : 
   pub kept : (y : Entry) → (y ≡ x → ⊥) → (y ≡ parent x → ⊥) → M'.bytes y ≡ M.bytes y
 
 abbrev pub Placing : Type 0
-Placing = (e : Content) (m : LogMap) (M : Memory) (opened_at : ℕ) (x : Entry) (M' : Memory) → IsLaid e m M opened_at → IsPlacing M opened_at x M'
+Placing = (e : Content) (m : LogMap) (M : Memory) (opened_at : ℕ) (x : Entry) (M' : Memory) → IsLaid e m M opened_at
+    → IsPlacing M opened_at x M'
     → IsLaid (put e (next_place M opened_at) (M.bytes x)) m M' opened_at
 
 -- an inode map block goes out, once the inodes that it shows are out
@@ -50,7 +51,8 @@ pub record IsMapPlacing (m : LogMap) (M : Memory) (opened_at j : ℕ) (bytes : L
   pub kept : (y : Entry) → (y ≡ Map j → ⊥) → M'.bytes y ≡ M.bytes y
 
 abbrev pub MapPlacing : Type 0
-MapPlacing = (e : Content) (m : LogMap) (M : Memory) (opened_at j : ℕ) (bytes : List ℕ) (M' : Memory) → IsLaid e m M opened_at → IsMapPlacing m M opened_at j bytes M'
+MapPlacing = (e : Content) (m : LogMap) (M : Memory) (opened_at j : ℕ) (bytes : List ℕ) (M' : Memory) → IsLaid e m M opened_at
+    → IsMapPlacing m M opened_at j bytes M'
     → IsLaid (put e (next_place M opened_at) bytes) m M' opened_at
 
 -- an inode map block that shows no inode isn't stored
@@ -64,7 +66,8 @@ pub record IsMapLeaving (m : LogMap) (M : Memory) (j : ℕ) (M' : Memory) : Type
   pub rows : M'.rows ≡ M.rows
 
 abbrev pub MapLeaving : Type 0
-MapLeaving = (e : Content) (m : LogMap) (M : Memory) (opened_at j : ℕ) (M' : Memory) → IsLaid e m M opened_at → IsMapLeaving m M j M' → IsLaid e m M' opened_at
+MapLeaving = (e : Content) (m : LogMap) (M : Memory) (opened_at j : ℕ) (M' : Memory) → IsLaid e m M opened_at → IsMapLeaving m M j M'
+    → IsLaid e m M' opened_at
 
 -- A usage block gets its place before it is written, for the usage blocks count themselves: until then it is what stands there.
 pub record IsSettling (e : Content) (M : Memory) (opened_at j : ℕ) (M' : Memory) : Type 0 where
@@ -73,7 +76,8 @@ pub record IsSettling (e : Content) (M : Memory) (opened_at j : ℕ) (M' : Memor
   pub kept : (y : Entry) → (y ≡ Usage j → ⊥) → M'.bytes y ≡ M.bytes y
 
 abbrev pub Settling : Type 0
-Settling = (e : Content) (m : LogMap) (M : Memory) (opened_at j : ℕ) (M' : Memory) → IsLaid e m M opened_at → IsSettling e M opened_at j M' → IsLaid e m M' opened_at
+Settling = (e : Content) (m : LogMap) (M : Memory) (opened_at j : ℕ) (M' : Memory) → IsLaid e m M opened_at → IsSettling e M opened_at j M'
+    → IsLaid e m M' opened_at
 
 -- And then it is written.
 pub record IsFilling (M : Memory) (j : ℕ) (bytes : List ℕ) (M' : Memory) : Type 0 where
@@ -85,7 +89,8 @@ pub record IsFilling (M : Memory) (j : ℕ) (bytes : List ℕ) (M' : Memory) : T
   pub rows : M'.rows ≡ M.rows
 
 abbrev pub Filling : Type 0
-Filling = (e : Content) (m : LogMap) (M : Memory) (opened_at j : ℕ) (bytes : List ℕ) (M' : Memory) → IsLaid e m M opened_at → IsFilling M j bytes M'
+Filling = (e : Content) (m : LogMap) (M : Memory) (opened_at j : ℕ) (bytes : List ℕ) (M' : Memory) → IsLaid e m M opened_at
+    → IsFilling M j bytes M'
     → IsLaid (put e (M.at (Usage j)) bytes) m M' opened_at
 
 -- A clean segment is opened: its first sector is kept for the summary.
@@ -99,7 +104,8 @@ pub record IsOpening (M : Memory) (s : ℕ) (M' : Memory) : Type 0 where
   pub rows : (t : ℕ) → (t ≡ s → ⊥) → M'.rows t ≡ M.rows t
 
 abbrev pub Opening : Type 0
-Opening = (e : Content) (m : LogMap) (M : Memory) (opened_at s : ℕ) (M' : Memory) → IsLaid e m M opened_at → M.segments ≤ opened_at → IsOpening M s M' → IsLaid e m M' s
+Opening = (e : Content) (m : LogMap) (M : Memory) (opened_at s : ℕ) (M' : Memory) → IsLaid e m M opened_at → M.segments ≤ opened_at
+    → IsOpening M s M' → IsLaid e m M' s
     × ((is : Entry → Bool) (t : ℕ) → count_of is M' t ≡ count_of is M t)
 
 -- A segment with room is opened again: its next sector is kept for a summary.
@@ -114,11 +120,14 @@ pub record IsReopening (M : Memory) (s : ℕ) (M' : Memory) : Type 0 where
   pub rows : (t : ℕ) → (t ≡ s → ⊥) → M'.rows t ≡ M.rows t
 
 abbrev pub Reopening : Type 0
-Reopening = (e : Content) (m : LogMap) (M : Memory) (opened_at s : ℕ) (M' : Memory) → IsLaid e m M opened_at → M.segments ≤ opened_at → IsReopening M s M' → IsLaid e m M' s
+Reopening = (e : Content) (m : LogMap) (M : Memory) (opened_at s : ℕ) (M' : Memory) → IsLaid e m M opened_at → M.segments ≤ opened_at
+    → IsReopening M s M' → IsLaid e m M' s
     × ((is : Entry → Bool) (t : ℕ) → count_of is M' t ≡ count_of is M t)
 
 -- The summary of the last chunk is written, behind the chunks before it: no segment is open.
 abbrev pub Sealing : Type 0
-Sealing = (e : Content) (m : LogMap) (M : Memory) (opened_at : ℕ) (before : Row) (bytes : List ℕ) (es : List Entry) → IsLaid e m M opened_at → opened_at < M.segments
-    → M.rows opened_at ≡ before ++ None ∷ map Some es → row_by e (length before) opened_at ≡ Some before → entries_in bytes ≡ Some es → (none : ℕ) → M.segments ≤ none
+Sealing = (e : Content) (m : LogMap) (M : Memory) (opened_at : ℕ) (before : Row) (bytes : List ℕ) (es : List Entry) → IsLaid e m M opened_at
+    → opened_at < M.segments
+    → M.rows opened_at ≡ before ++ None ∷ map Some es → row_by e (length before) opened_at ≡ Some before → entries_in bytes ≡ Some es
+    → (none : ℕ) → M.segments ≤ none
     → IsLaid (put e (2 + 64 * opened_at + length before) bytes) m M none

@@ -1,6 +1,7 @@
 -- The plain, slow program: it computes the ends of walks, and so what a list of calls answers. All of it is an own choice: the
 -- walk and the steps are what says what is right, and the laws say that this program keeps to them.
-use Rattle.std.specs.Prelude.{ℕ, zero, suc, Bool, true, false, ◌||◌, List, [], ◌∷◌, ◌++◌, length, if◌then◌else◌, nat_lt, Option, Some, None, option_map, option_and_then}
+use Rattle.std.specs.Prelude.{ℕ, zero, suc, Bool, true, false, ◌||◌, List, [], ◌∷◌, ◌++◌, length, if◌then◌else◌, nat_lt, Option, Some, None}
+use Rattle.std.specs.Prelude.{option_map, option_and_then}
 use Rattle.lfs_model.specs.Tree.{Tree, Node, File, Dir, Link, State, node, entry, up, same_name, name_limit}
 use Rattle.lfs_model.specs.PathText.{comps, slash, but_last, text_refusal}
 use Rattle.lfs_model.specs.Refusal.{Refusal, NameTooLong, NoEntry, NotDir, Loop}
@@ -33,7 +34,8 @@ seen_entry t (Some n) = seen_node n (node t n)
 
 -- what piece p is in d
 abbrev pub look : Tree → ℕ → List ℕ → Seen
-look t d p = if same_name p dot then Here else (if same_name p dot_dot then Above else (if nat_lt (name_limit t d) (length p) then TooLong else seen_entry t (entry t d p)))
+look t d p = if same_name p dot then Here
+    else (if same_name p dot_dot then Above else (if nat_lt (name_limit t d) (length p) then TooLong else seen_entry t (entry t d p)))
 
 -- one piece: `go` walks the pieces after it, and `again` walks on from a link's text
 abbrev pub turn : Tree → Bool → (ℕ → List (List ℕ) → Bool → Option End) → (ℕ → Option End) → ℕ → List (List ℕ) → Bool → Seen → Option End
@@ -43,7 +45,8 @@ turn t follow again go d ps s TooLong = Some (Refused NameTooLong)
 turn t follow again go d ps s Absent = Some (Refused NoEntry)
 turn t follow again go d ps s (ADir n) = go n
 turn t follow again go d ps s (AFile n) = Some (if more ps s then Refused NotDir else At n)
-turn t follow again go d ps s (ALink n text) = elim (more ps s || follow) [ true ↦ again (start text d) (comps text ++ ps) (slash_with text ps s) | false ↦ Some (At n) ]
+turn t follow again go d ps s (ALink n text) = elim (more ps s || follow)
+    [ true ↦ again (start text d) (comps text ++ ps) (slash_with text ps s) | false ↦ Some (At n) ]
 turn t follow again go d ps s Nowhere = None
 
 -- the pieces in order
@@ -69,7 +72,8 @@ path_to t NoPath = Some (At 1)
 
 -- a call's answer and the state after it
 abbrev pub step_to : ℕ → State → Call → Option (Answer × State)
-step_to N s call = option_and_then (λ e. option_map (λ f. outcome N s call e f) (path_to s.tree (second_path_of call))) (path_to s.tree (path_of call))
+step_to N s call =
+    option_and_then (λ e. option_map (λ f. outcome N s call e f) (path_to s.tree (second_path_of call))) (path_to s.tree (path_of call))
 
 -- one more answer before the others
 abbrev pub onto : Answer → Option (List Answer × State) → Option (List Answer × State)

@@ -1,5 +1,6 @@
 -- The block of addresses: a pointer leaf, a double root or a block of the inode map.
--- Blocks of addresses under an inode, and an inode map in blocks, are those of the Sprite LFS paper (1992, section 3.1); the bytes are an own choice.
+-- Blocks of addresses under an inode, and an inode map in blocks, are those
+-- of the Sprite LFS paper (1992, section 3.1); the bytes are an own choice.
 use Rattle.std.specs.Prelude.{◌≡◌, ℕ, List, length}
 use Rattle.lfs_model.specs.Fields.{words, Are32, numbers}
 

@@ -17,11 +17,13 @@ raised is m = record { header = m.header; block = m.block; version = cond is 2 m
 
 -- Memory and device are laid out as before: nothing there says the version, before the next checkpoint does.
 abbrev pub RaisedLaid : Type 0
-RaisedLaid = (e : Content) (m : LogMap) (M : Memory) (opened_at : ℕ) (is : Bool) → IsLaid e m M opened_at → IsLaid e (raised is m) M opened_at
+RaisedLaid = (e : Content) (m : LogMap) (M : Memory) (opened_at : ℕ) (is : Bool) → IsLaid e m M opened_at
+    → IsLaid e (raised is m) M opened_at
 
 -- So the log runs on with it.
 abbrev pub RaisedRuns : Type 1
-RaisedRuns = (d : DeviceState) (dirty : Dirty) (t : Tables) (k : CheckpointValue) (m0 m : LogMap) (seg : ℕ) (chunk : Option (List Entry)) (is : Bool)
+RaisedRuns =
+    (d : DeviceState) (dirty : Dirty) (t : Tables) (k : CheckpointValue) (m0 m : LogMap) (seg : ℕ) (chunk : Option (List Entry)) (is : Bool)
     → Running d dirty t k m0 m seg chunk → Running d dirty t k m0 (raised is m) seg chunk
 
 -- A volume may keep it, for each form of an older version is one of version 2.

@@ -1,5 +1,6 @@
 -- What a checkpoint reaches, as a function from entries to addresses, 0 for none.
--- From the checkpoint over the inode map to inodes and their blocks: the Sprite LFS paper (1992, section 3.1); the tree's shape is an own choice.
+-- From the checkpoint over the inode map to inodes and their blocks: the
+-- Sprite LFS paper (1992, section 3.1); the tree's shape is an own choice.
 use Rattle.std.specs.Prelude.{ℕ, zero, suc, ◌+◌, ◌-◌, ◌*◌, ◌/◌, ◌%◌, nat_lt, cond, List, [], ◌∷◌, get_or, take, drop, Option, Some, None}
 use Rattle.lfs_model.specs.Entry.{Entry, Data, Leaf, Double, Inode, Map, Usage, word, half, entries_in}
 use Rattle.lfs_model.specs.Checkpoint.{CheckpointValue}
@@ -44,7 +45,8 @@ address content k (Usage j) = get_or k.usage j 0
 
 -- The same, one step at a time: where an entry's address stands, if `blocks` are the blocks of the entries.
 abbrev pub linked : CheckpointValue → (Entry → List ℕ) → Entry → ℕ
-linked k blocks (Data n i) = cond (nat_lt i 112) (word (blocks (Inode n)) (8 + i)) (word (blocks (Leaf n ((i - 112) / 128))) ((i - 112) % 128))
+linked k blocks (Data n i) =
+    cond (nat_lt i 112) (word (blocks (Inode n)) (8 + i)) (word (blocks (Leaf n ((i - 112) / 128))) ((i - 112) % 128))
 linked k blocks (Leaf n zero) = word (blocks (Inode n)) 120
 linked k blocks (Leaf n (suc q)) = word (blocks (Double n)) q
 linked k blocks (Double n) = word (blocks (Inode n)) 121

@@ -13,13 +13,16 @@ use Rattle.lfs_model.specs.Stands.{LogMap}
 
 -- A data block on the device is another, which is in memory.
 abbrev pub BlockReplacing : Type 1
-BlockReplacing = (d : DeviceState) (dirty dirty' : Dirty) (t t' : Tables) (k : CheckpointValue) (m0 m m' : LogMap) (seg : ℕ) (chunk : Option (List Entry)) (n i address : ℕ) (bytes : List ℕ)
-    → Running d dirty t k m0 m seg chunk → IsAtAddress dirty t (Data n i) address → 2 ≤ address → length bytes ≡ 512 → IsWithBlock m n i bytes m'
+BlockReplacing = (d : DeviceState) (dirty dirty' : Dirty) (t t' : Tables) (k : CheckpointValue) (m0 m m' : LogMap) (seg : ℕ)
+    (chunk : Option (List Entry)) (n i address : ℕ) (bytes : List ℕ)
+    → Running d dirty t k m0 m seg chunk → IsAtAddress dirty t (Data n i) address → 2 ≤ address → length bytes ≡ 512
+    → IsWithBlock m n i bytes m'
     → Fetches dirty dirty' (Data n i) bytes → IsLifted m t t' (Data n i) 1 (segment_of address) → Running d dirty' t' k m0 m' seg chunk
 
 -- A data block on the device is none.
 abbrev pub BlockLeaving : Type 1
-BlockLeaving = (d : DeviceState) (dirty dirty' : Dirty) (t t' : Tables) (k : CheckpointValue) (m0 m m' : LogMap) (seg : ℕ) (chunk : Option (List Entry)) (n i address : ℕ)
+BlockLeaving = (d : DeviceState) (dirty dirty' : Dirty) (t t' : Tables) (k : CheckpointValue) (m0 m m' : LogMap) (seg : ℕ)
+    (chunk : Option (List Entry)) (n i address : ℕ)
     → Running d dirty t k m0 m seg chunk → IsAtAddress dirty t (Data n i) address → 2 ≤ address → IsWithBlock m n i [] m'
     → Moves dirty dirty' (Data n i) 0 → IsLifted m t t' (Data n i) 1 (segment_of address) → Running d dirty' t' k m0 m' seg chunk
 
@@ -27,14 +30,19 @@ BlockLeaving = (d : DeviceState) (dirty dirty' : Dirty) (t t' : Tables) (k : Che
 
 -- as a block comes from the device
 abbrev pub FetchingTight : Type 1
-FetchingTight = (d : DeviceState) (dirty dirty' : Dirty) (t : Tables) (k : CheckpointValue) (m0 m : LogMap) (seg : ℕ) (chunk : Option (List Entry)) (x : Entry) (address : ℕ) (bytes : List ℕ)
-    → Running d dirty t k m0 m seg chunk → IsOfFile x → IsAtAddress dirty t x address → 2 ≤ address → block d.content address ≡ bytes → Fetches dirty dirty' x bytes → IsTight dirty → IsTight dirty'
+FetchingTight = (d : DeviceState) (dirty dirty' : Dirty) (t : Tables) (k : CheckpointValue) (m0 m : LogMap) (seg : ℕ)
+    (chunk : Option (List Entry)) (x : Entry) (address : ℕ) (bytes : List ℕ)
+    → Running d dirty t k m0 m seg chunk → IsOfFile x → IsAtAddress dirty t x address → 2 ≤ address → block d.content address ≡ bytes
+    → Fetches dirty dirty' x bytes → IsTight dirty → IsTight dirty'
 
 -- as a data block comes, where none was or where another was
 abbrev pub BlockTight : Type 1
-BlockTight = (d : DeviceState) (dirty dirty' : Dirty) (t : Tables) (k : CheckpointValue) (m0 m : LogMap) (seg : ℕ) (chunk : Option (List Entry)) (n i address : ℕ) (bytes : List ℕ)
-    → Running d dirty t k m0 m seg chunk → IsAtAddress dirty t (Data n i) address → Fetches dirty dirty' (Data n i) bytes → IsTight dirty → IsTight dirty'
+BlockTight = (d : DeviceState) (dirty dirty' : Dirty) (t : Tables) (k : CheckpointValue) (m0 m : LogMap) (seg : ℕ)
+    (chunk : Option (List Entry)) (n i address : ℕ) (bytes : List ℕ)
+    → Running d dirty t k m0 m seg chunk → IsAtAddress dirty t (Data n i) address → Fetches dirty dirty' (Data n i) bytes → IsTight dirty
+    → IsTight dirty'
 
 -- as a data block in memory, or an inode, changes
 abbrev pub ChangingTight : Type 0
-ChangingTight = (dirty dirty' : Dirty) (x : Entry) (value : Option (List ℕ)) → (IsPointers x → ⊥) → ChangesTo dirty dirty' x value → IsTight dirty → IsTight dirty'
+ChangingTight = (dirty dirty' : Dirty) (x : Entry) (value : Option (List ℕ)) → (IsPointers x → ⊥) → ChangesTo dirty dirty' x value
+    → IsTight dirty → IsTight dirty'

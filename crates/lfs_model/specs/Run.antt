@@ -2,7 +2,9 @@
 use Rattle.std.specs.Prelude.{ℕ, ◌<◌, ◌≤◌, ◌+◌, ◌/◌, ◌^◌, ◌≡◌, ◌⊎◌, Bool, true, false, ◌&&◌, IsTrue, Some, List, [], ◌∷◌, drop, slice_get}
 use Rattle.lfs_model.specs.Tree.{State}
 use Rattle.lfs_model.specs.Refusal.{Refusal, NoMemory, Device, Halted, Stuck, Worn}
-use Rattle.lfs_model.specs.Call.{Call, Open, Create, Close, Pread, Pwrite, Truncate, Mkdir, LinkTo, Symlink, Readlink, Unlink, Rmdir, Rename, StatOf, LstatOf, Readdir, Fsync, Sync, Clean, Space, Version, Upgrade, Widen, ListTree, Answer, Refuse, is_ok, changes, cleans, commits, may_write, takes_no_memory, never_for_device}
+use Rattle.lfs_model.specs.Call.{Call, Open, Create, Close, Pread, Pwrite, Truncate, Mkdir, LinkTo, Symlink, Readlink, Unlink, Rmdir}
+use Rattle.lfs_model.specs.Call.{Rename, StatOf, LstatOf, Readdir, Fsync, Sync, Clean, Space, Version, Upgrade, Widen, ListTree, Answer}
+use Rattle.lfs_model.specs.Call.{Refuse, is_ok, changes, cleans, commits, may_write, takes_no_memory, never_for_device}
 use Rattle.lfs_model.specs.Step.{Step}
 use Rattle.lfs_model.specs.Script.{Line, Plain, Fill, call_of}
 
@@ -83,7 +85,8 @@ has_word (Plain ListTree) = false
 
 -- What one line of a script does: its call; or nothing, where memory for its word was refused.
 abbrev pub LineAnswers : ℕ → Line → Point → Answer → Point → Type 0
-LineAnswers N line old answer new = Answers N (call_of line) old answer new ⊎ (IsTrue (has_word line) × (answer ≡ Refuse NoMemory) × (new ≡ old))
+LineAnswers N line old answer new = Answers N (call_of line) old answer new
+    ⊎ (IsTrue (has_word line) × (answer ≡ Refuse NoMemory) × (new ≡ old))
 
 -- Each of these answers, one for each thing that is done, leads from one point to the next.
 abbrev pub RunOf : {A : Type 0} → (A → Point → Answer → Point → Type 0) → Point → List A → List Answer → List Point → Type 0

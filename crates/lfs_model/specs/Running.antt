@@ -1,6 +1,7 @@
 -- The log as it runs: what its tables and its table of blocks in memory have to do with the log's memory and the device.
 -- All of it is an own choice: it says of the code's tables what the laws about memory need.
-use Rattle.std.specs.Prelude.{◌≡◌, ◌<◌, ◌≤◌, ◌+◌, ◌*◌, ◌/◌, ◌==◌, cond, ℕ, suc, Bool, true, false, List, ◌∷◌, ◌++◌, map, length, Option, Some, None, option_map}
+use Rattle.std.specs.Prelude.{◌≡◌, ◌<◌, ◌≤◌, ◌+◌, ◌*◌, ◌/◌, ◌==◌, cond, ℕ, suc, Bool, true, false, List, ◌∷◌, ◌++◌, map, length, Option}
+use Rattle.std.specs.Prelude.{Some, None, option_map}
 use Rattle.lfs_model.specs.Entry.{Entry, Usage, half, word}
 use Rattle.lfs_model.specs.Checkpoint.{CheckpointValue}
 use Rattle.lfs_model.specs.Content.{Content}
@@ -74,7 +75,8 @@ IsOpenAt e M t seg (Some es) = IsOpenFrom e M t seg es
 
 -- The log: k is the acknowledged checkpoint, of the log map m0; m is the present log map; `chunk` are the entries of the chunk
 -- that is being written to segment seg, if there is one.
-pub record Running (d : DeviceState) (dirty : Dirty) (t : Tables) (k : CheckpointValue) (m0 m : LogMap) (seg : ℕ) (chunk : Option (List Entry)) : Type 0 where
+pub record Running (d : DeviceState) (dirty : Dirty) (t : Tables) (k : CheckpointValue) (m0 m : LogMap) (seg : ℕ)
+    (chunk : Option (List Entry)) : Type 0 where
   pub memory : Memory
   pub laid : IsLaid d.content m memory seg
   pub segments : memory.segments ≡ k.segments

@@ -1,7 +1,13 @@
 -- The text of a script: its lines, the call that a line is, and the reply to an answer. All of it is an own choice.
-use Rattle.std.specs.Prelude.{ℕ, ◌+◌, ◌/◌, ◌%◌, ◌<◌, ◌≤◌, ◌≡◌, ◌^◌, ◌&&◌, not, List, [], ◌∷◌, ◌++◌, length, ◌==◌, if◌then◌else◌, nat_lt, nat_le, replicate, codes, decimal, flat_map}
-use Rattle.lfs_model.specs.Refusal.{Refusal, NoEntry, NotDir, IsDir, Exist, NotEmpty, Inval, NameTooLong, Loop, Perm, Busy, BadHandle, TooManyOpen, TooManyLinks, FileTooBig, NoSpace, NoNumber, DirFull, NoMemory, Device, Halted, Stuck, Worn}
-use Rattle.lfs_model.specs.Call.{Call, Open, Create, Close, Pread, Pwrite, Truncate, Mkdir, LinkTo, Symlink, Readlink, Unlink, Rmdir, Rename, StatOf, LstatOf, Readdir, Fsync, Sync, Clean, Space, Version, Upgrade, Widen, ListTree, AreArguments, DirectoryEntry, TreeRow, Answer, Refuse, Done, Handle, Count, Data, Text, Status, Entries, Room, FormatVersion, Rows}
+use Rattle.std.specs.Prelude.{ℕ, ◌+◌, ◌/◌, ◌%◌, ◌<◌, ◌≤◌, ◌≡◌, ◌^◌, ◌&&◌, not, List, [], ◌∷◌, ◌++◌, length, ◌==◌, if◌then◌else◌, nat_lt}
+use Rattle.std.specs.Prelude.{nat_le, replicate, codes, decimal, flat_map}
+use Rattle.lfs_model.specs.Refusal.{Refusal, NoEntry, NotDir, IsDir, Exist, NotEmpty, Inval, NameTooLong, Loop, Perm, Busy, BadHandle}
+use Rattle.lfs_model.specs.Refusal.{TooManyOpen, TooManyLinks, FileTooBig, NoSpace, NoNumber, DirFull, NoMemory, Device, Halted, Stuck}
+use Rattle.lfs_model.specs.Refusal.{Worn}
+use Rattle.lfs_model.specs.Call.{Call, Open, Create, Close, Pread, Pwrite, Truncate, Mkdir, LinkTo, Symlink, Readlink, Unlink, Rmdir}
+use Rattle.lfs_model.specs.Call.{Rename, StatOf, LstatOf, Readdir, Fsync, Sync, Clean, Space, Version, Upgrade, Widen, ListTree}
+use Rattle.lfs_model.specs.Call.{AreArguments, DirectoryEntry, TreeRow, Answer, Refuse, Done, Handle, Count, Data, Text, Status, Entries}
+use Rattle.lfs_model.specs.Call.{Room, FormatVersion, Rows}
 use Rattle.lfs_model.specs.declared.Kind.{Kind}
 use Rattle.lfs_model.specs.declared.Kind.TheVariants as kinds
 
@@ -150,7 +156,8 @@ entry_line e = ended (line_of (word e.name) (decimal e.number ∷ kind_name e.ki
 
 -- a line for a row of the tree
 abbrev pub row_line : TreeRow → List ℕ
-row_line r = ended (line_of (decimal r.directory) (word r.name ∷ kind_name r.stat.kind ∷ decimal r.stat.number ∷ decimal r.stat.links ∷ decimal r.stat.size ∷ head_text r.stat.kind r.head ∷ []))
+row_line r = ended (line_of (decimal r.directory) (word r.name ∷ kind_name r.stat.kind ∷ decimal r.stat.number ∷ decimal r.stat.links
+    ∷ decimal r.stat.size ∷ head_text r.stat.kind r.head ∷ []))
 
 -- the reply to an answer
 abbrev pub reply : Answer → List ℕ

@@ -26,11 +26,13 @@ pub record IsPlanned (k : CheckpointValue) (e : Content) (slot : ℕ) (bytes : L
 
 -- All that a stop may leave stands for the log map on as many segments as k has.
 abbrev pub SettledStands : Type 1
-SettledStands = (d : DeviceState) (k : CheckpointValue) (m : LogMap) → IsSettled d k m → (c : Content) → d.may_leave c → StandsOn k.segments c m
+SettledStands = (d : DeviceState) (k : CheckpointValue) (m : LogMap) → IsSettled d k m → (c : Content) → d.may_leave c
+    → StandsOn k.segments c m
 
 -- A write to a free sector, done or failed, keeps it so, and the segments that k doesn't use are the same.
 abbrev pub SettledWrite : Type 1
-SettledWrite = (d d' : DeviceState) (k : CheckpointValue) (m : LogMap) (at : ℕ) (bytes : List ℕ) → IsSettled d k m → IsFreeSector d.content k at
+SettledWrite = (d d' : DeviceState) (k : CheckpointValue) (m : LogMap) (at : ℕ) (bytes : List ℕ) → IsSettled d k m
+    → IsFreeSector d.content k at
     → MayWrite at bytes d.content d'.content → CrashWrites at bytes d d'
     → IsSettled d' k m × ((s : ℕ) → used_in (view d'.content k) s ≡ used_in (view d.content k) s)
 
@@ -40,10 +42,13 @@ SettledStill = (d d' : DeviceState) (k : CheckpointValue) (m : LogMap) → IsSet
 
 -- Once all is durable, the write of the next checkpoint's slot leaves, at each stop, the one log map or the other, on as many segments.
 abbrev pub SlotTorn : Type 1
-SlotTorn = (d d' : DeviceState) (k next : CheckpointValue) (m m' : LogMap) (slot : ℕ) (bytes : List ℕ) → IsSettled d k m → IsPlanned k d.content slot bytes next m'
-    → next.segments ≡ k.segments → Only d.content d → CrashWrites slot bytes d d' → (c : Content) → d'.may_leave c → StandsForOn k.segments m m' c
+SlotTorn = (d d' : DeviceState) (k next : CheckpointValue) (m m' : LogMap) (slot : ℕ) (bytes : List ℕ) → IsSettled d k m
+    → IsPlanned k d.content slot bytes next m'
+    → next.segments ≡ k.segments → Only d.content d → CrashWrites slot bytes d d' → (c : Content) → d'.may_leave c
+    → StandsForOn k.segments m m' c
 
 -- And once that is durable, the other.
 abbrev pub Acknowledged : Type 1
-Acknowledged = (d d' : DeviceState) (k next : CheckpointValue) (m m' : LogMap) (slot : ℕ) (bytes : List ℕ) → IsSettled d k m → IsPlanned k d.content slot bytes next m'
+Acknowledged = (d d' : DeviceState) (k next : CheckpointValue) (m m' : LogMap) (slot : ℕ) (bytes : List ℕ) → IsSettled d k m
+    → IsPlanned k d.content slot bytes next m'
     → d'.content ≡ put d.content slot bytes → Only d'.content d' → IsSettled d' next m'

@@ -1,5 +1,6 @@
 -- The slot of a directory, which names an object. How wide it is, the directory's form says: 64 bytes in form 0.
--- A directory entry and a filename are those of POSIX.1-2017 (Definitions: Directory Entry, Filename); the bytes and limits are an own choice.
+-- A directory entry and a filename are those of POSIX.1-2017 (Definitions:
+-- Directory Entry, Filename); the bytes and limits are an own choice.
 use Rattle.std.specs.Prelude.{◌<◌, ◌≤◌, ◌-◌, ◌≢◌, ◌&&◌, ◌==◌, Bool, not, nat_le, ℕ, Option, List, [], ◌∷◌, length, get_or}
 use Rattle.std.specs.List.{list_all}
 use Rattle.std.specs.Str.{bytes_eq}

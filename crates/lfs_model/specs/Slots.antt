@@ -1,5 +1,6 @@
 -- The two checkpoint slots, sectors 0 and 1, and the newest checkpoint of a content.
--- Two regions written in turn, of which the newer counts, are those of the Sprite LFS paper (1992, section 4.1); which slot a number has is an own choice.
+-- Two regions written in turn, of which the newer counts, are those of the Sprite
+-- LFS paper (1992, section 4.1); which slot a number has is an own choice.
 use Rattle.std.specs.Prelude.{◌≡◌, ◌⊎◌, ◌<◌, ◌≤◌, ◌%◌, ℕ, Option, Some, None, List}
 use Rattle.lfs_model.specs.Checkpoint.{CheckpointValue, FitsCheckpoint, checkpoint_sector}
 use Rattle.lfs_model.specs.Device.{Cell, cell_at}

@@ -26,19 +26,23 @@ pub record Fetches (old new : Dirty) (x : Entry) (bytes : List ℕ) : Type 0 whe
 
 -- A block of a file is read and comes into memory; the inode map block of an inode that is shown will be written.
 abbrev pub Fetching : Type 1
-Fetching = (d : DeviceState) (dirty dirty' : Dirty) (t t' : Tables) (k : CheckpointValue) (m0 m : LogMap) (seg : ℕ) (chunk : Option (List Entry)) (x : Entry) (address : ℕ) (bytes : List ℕ)
+Fetching = (d : DeviceState) (dirty dirty' : Dirty) (t t' : Tables) (k : CheckpointValue) (m0 m : LogMap) (seg : ℕ)
+    (chunk : Option (List Entry)) (x : Entry) (address : ℕ) (bytes : List ℕ)
     → Running d dirty t k m0 m seg chunk → IsOfFile x → IsAtAddress dirty t x address → 2 ≤ address → block d.content address ≡ bytes
     → ((n : ℕ) → x ≡ Inode n → is_shown m x ≡ true → t.at (Map (n / 128)) ≡ 1)
     → Fetches dirty dirty' x bytes → IsLifted m t t' x 1 (segment_of address) → Running d dirty' t' k m0 m seg chunk
 
 -- An inode map block that is on the device will be written.
 abbrev pub MapFetching : Type 1
-MapFetching = (d : DeviceState) (dirty : Dirty) (t t' : Tables) (k : CheckpointValue) (m0 m : LogMap) (seg : ℕ) (chunk : Option (List Entry)) (j : ℕ)
-    → Running d dirty t k m0 m seg chunk → 2 ≤ t.at (Map j) → IsLifted m t t' (Map j) 1 (segment_of (t.at (Map j))) → Running d dirty t' k m0 m seg chunk
+MapFetching =
+    (d : DeviceState) (dirty : Dirty) (t t' : Tables) (k : CheckpointValue) (m0 m : LogMap) (seg : ℕ) (chunk : Option (List Entry)) (j : ℕ)
+    → Running d dirty t k m0 m seg chunk → 2 ≤ t.at (Map j) → IsLifted m t t' (Map j) 1 (segment_of (t.at (Map j)))
+    → Running d dirty t' k m0 m seg chunk
 
 -- One that isn't stored will be.
 abbrev pub MapAdding : Type 1
-MapAdding = (d : DeviceState) (dirty : Dirty) (t t' : Tables) (k : CheckpointValue) (m0 m : LogMap) (seg : ℕ) (chunk : Option (List Entry)) (j : ℕ)
+MapAdding =
+    (d : DeviceState) (dirty : Dirty) (t t' : Tables) (k : CheckpointValue) (m0 m : LogMap) (seg : ℕ) (chunk : Option (List Entry)) (j : ℕ)
     → Running d dirty t k m0 m seg chunk → t.at (Map j) ≡ 0 → IsReaddressed t t' (Map j) 1 → Running d dirty t' k m0 m seg chunk
 
 -- x changes to this, or leaves memory
@@ -50,31 +54,37 @@ pub record ChangesTo (old new : Dirty) (x : Entry) (value : Option (List ℕ)) :
 
 -- a data block in memory is another
 abbrev pub BlockRewriting : Type 1
-BlockRewriting = (d : DeviceState) (dirty dirty' : Dirty) (t : Tables) (k : CheckpointValue) (m0 m m' : LogMap) (seg : ℕ) (chunk : Option (List Entry)) (n i : ℕ) (old bytes : List ℕ)
+BlockRewriting = (d : DeviceState) (dirty dirty' : Dirty) (t : Tables) (k : CheckpointValue) (m0 m m' : LogMap) (seg : ℕ)
+    (chunk : Option (List Entry)) (n i : ℕ) (old bytes : List ℕ)
     → Running d dirty t k m0 m seg chunk → dirty (Data n i) ≡ Some old → length bytes ≡ 512 → IsWithBlock m n i bytes m'
     → ChangesTo dirty dirty' (Data n i) (Some bytes) → Running d dirty' t k m0 m' seg chunk
 
 -- a data block where none was
 abbrev pub BlockAdding : Type 1
-BlockAdding = (d : DeviceState) (dirty dirty' : Dirty) (t : Tables) (k : CheckpointValue) (m0 m m' : LogMap) (seg : ℕ) (chunk : Option (List Entry)) (n i : ℕ) (bytes : List ℕ)
+BlockAdding = (d : DeviceState) (dirty dirty' : Dirty) (t : Tables) (k : CheckpointValue) (m0 m m' : LogMap) (seg : ℕ)
+    (chunk : Option (List Entry)) (n i : ℕ) (bytes : List ℕ)
     → Running d dirty t k m0 m seg chunk → IsAtAddress dirty t (Data n i) 0 → length bytes ≡ 512 → IsWithBlock m n i bytes m'
     → Fetches dirty dirty' (Data n i) bytes → Running d dirty' t k m0 m' seg chunk
 
 -- a data block in memory that is none
 abbrev pub BlockRemoving : Type 1
-BlockRemoving = (d : DeviceState) (dirty dirty' : Dirty) (t : Tables) (k : CheckpointValue) (m0 m m' : LogMap) (seg : ℕ) (chunk : Option (List Entry)) (n i : ℕ) (old : List ℕ)
+BlockRemoving = (d : DeviceState) (dirty dirty' : Dirty) (t : Tables) (k : CheckpointValue) (m0 m m' : LogMap) (seg : ℕ)
+    (chunk : Option (List Entry)) (n i : ℕ) (old : List ℕ)
     → Running d dirty t k m0 m seg chunk → dirty (Data n i) ≡ Some old → IsWithBlock m n i [] m'
     → Moves dirty dirty' (Data n i) 0 → Running d dirty' t k m0 m' seg chunk
 
 -- an empty block of pointers where none was
 abbrev pub PointersGrowing : Type 1
-PointersGrowing = (d : DeviceState) (dirty dirty' : Dirty) (t : Tables) (k : CheckpointValue) (m0 m : LogMap) (seg : ℕ) (chunk : Option (List Entry)) (x : Entry) (bytes : List ℕ)
-    → Running d dirty t k m0 m seg chunk → IsPointers x → IsAtAddress dirty t x 0 → length bytes ≡ 512 → ((w : ℕ) → w < 128 → word bytes w ≡ 0)
+PointersGrowing = (d : DeviceState) (dirty dirty' : Dirty) (t : Tables) (k : CheckpointValue) (m0 m : LogMap) (seg : ℕ)
+    (chunk : Option (List Entry)) (x : Entry) (bytes : List ℕ)
+    → Running d dirty t k m0 m seg chunk → IsPointers x → IsAtAddress dirty t x 0 → length bytes ≡ 512
+    → ((w : ℕ) → w < 128 → word bytes w ≡ 0)
     → Fetches dirty dirty' x bytes → Running d dirty' t k m0 m seg chunk
 
 -- a block of pointers that has become empty goes
 abbrev pub PointersShrinking : Type 1
-PointersShrinking = (d : DeviceState) (dirty dirty' : Dirty) (t : Tables) (k : CheckpointValue) (m0 m : LogMap) (seg : ℕ) (chunk : Option (List Entry)) (x : Entry) (bytes : List ℕ)
+PointersShrinking = (d : DeviceState) (dirty dirty' : Dirty) (t : Tables) (k : CheckpointValue) (m0 m : LogMap) (seg : ℕ)
+    (chunk : Option (List Entry)) (x : Entry) (bytes : List ℕ)
     → Running d dirty t k m0 m seg chunk → IsPointers x → dirty x ≡ Some bytes → ((w : ℕ) → w < 128 → word bytes w ≡ 0)
     → Moves dirty dirty' x 0 → Running d dirty' t k m0 m seg chunk
 
@@ -82,14 +92,17 @@ PointersShrinking = (d : DeviceState) (dirty dirty' : Dirty) (t : Tables) (k : C
 
 -- an inode in memory with another header and the same pointers; it has a name after it exactly where it had one
 abbrev pub HeaderChanging : Type 1
-HeaderChanging = (d : DeviceState) (dirty dirty' : Dirty) (t : Tables) (k : CheckpointValue) (m0 m m' : LogMap) (seg : ℕ) (chunk : Option (List Entry)) (n : ℕ) (old bytes : List ℕ)
-    → Running d dirty t k m0 m seg chunk → dirty (Inode n) ≡ Some old → HoldsInode n bytes → ((w : ℕ) → 8 ≤ w → w < 122 → word bytes w ≡ word old w)
+HeaderChanging = (d : DeviceState) (dirty dirty' : Dirty) (t : Tables) (k : CheckpointValue) (m0 m m' : LogMap) (seg : ℕ)
+    (chunk : Option (List Entry)) (n : ℕ) (old bytes : List ℕ)
+    → Running d dirty t k m0 m seg chunk → dirty (Inode n) ≡ Some old → HoldsInode n bytes
+    → ((w : ℕ) → 8 ≤ w → w < 122 → word bytes w ≡ word old w)
     → IsWithHeader m n (Some (header bytes)) m' → is_nameless m' n ≡ is_nameless m n → (is_nameless m' n ≡ false → t.at (Map (n / 128)) ≡ 1)
     → ChangesTo dirty dirty' (Inode n) (Some bytes) → Running d dirty' t k m0 m' seg chunk
 
 -- a new file
 abbrev pub FileCreating : Type 1
-FileCreating = (d : DeviceState) (dirty dirty' : Dirty) (t t' : Tables) (k : CheckpointValue) (m0 m m' : LogMap) (seg : ℕ) (chunk : Option (List Entry)) (n : ℕ) (bytes : List ℕ)
+FileCreating = (d : DeviceState) (dirty dirty' : Dirty) (t t' : Tables) (k : CheckpointValue) (m0 m m' : LogMap) (seg : ℕ)
+    (chunk : Option (List Entry)) (n : ℕ) (bytes : List ℕ)
     → Running d dirty t k m0 m seg chunk → t.at (Inode n) ≡ 0 → HoldsInode n bytes → ((w : ℕ) → 8 ≤ w → w < 122 → word bytes w ≡ 0)
     → IsWithHeader m n (Some (header bytes)) m' → (is_nameless m' n ≡ false → t.at (Map (n / 128)) ≡ 1)
     → ChangesTo dirty dirty' (Inode n) (Some bytes) → IsReaddressed t t' (Inode n) 1 → Running d dirty' t' k m0 m' seg chunk

@@ -1,6 +1,7 @@
 -- What it is for a content to stand for a log map: the stages of a walk, each by itself.
 -- The conditions are an own choice; the segment usage table that they speak of is that of the Sprite LFS paper (1992, section 3.6).
-use Rattle.std.specs.Prelude.{◌≡◌, ◌<◌, ◌≤◌, ◌⊎◌, ◌↔◌, ◌+◌, ◌*◌, ◌-◌, ◌/◌, ◌%◌, ◌==◌, nat_lt, ℕ, zero, suc, Bool, true, false, cond, List, length, count_by, Option, Some, None, slice_index}
+use Rattle.std.specs.Prelude.{◌≡◌, ◌<◌, ◌≤◌, ◌⊎◌, ◌↔◌, ◌+◌, ◌*◌, ◌-◌, ◌/◌, ◌%◌, ◌==◌, nat_lt, ℕ, zero, suc, Bool, true, false, cond, List}
+use Rattle.std.specs.Prelude.{length, count_by, Option, Some, None, slice_index}
 use Rattle.std.specs.List.{range_with_len}
 use Rattle.lfs_model.specs.declared.Kind.TheVariants.{Directory}
 use Rattle.lfs_model.specs.Entry.{Entry, Data, Leaf, Double, Inode, Map, Usage, Header, IsInode, header, word, half}
@@ -95,7 +96,8 @@ module _ (v : View) where
     pub fresh : Fresh 7
     pub nonzero : (n i : ℕ) → Reached (Data n i) → (o : ℕ) × (0 < slice_index (v.block (Data n i)) o)
     pub within : (n i : ℕ) → Reached (Data n i) → 512 * i < (header (v.block (Inode n))).size
-    pub past : (n i : ℕ) → Reached (Data n i) → (o : ℕ) → (header (v.block (Inode n))).size ≤ 512 * i + o → slice_index (v.block (Data n i)) o ≡ 0
+    pub past : (n i : ℕ) → Reached (Data n i) → (o : ℕ) → (header (v.block (Inode n))).size ≤ 512 * i + o
+        → slice_index (v.block (Data n i)) o ≡ 0
 
   -- the stages that speak of whole segments
   abbrev pub IsRows : Type 0

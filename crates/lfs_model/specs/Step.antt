@@ -1,16 +1,23 @@
 -- The calls, row by row: what refuses each, in the order in which it is checked, and then its answer and its change.
 -- The meanings are those of POSIX.1-2017 for the call named beside each row; the order of the refusals is an own choice.
-use Rattle.std.specs.Prelude.{ℕ, ◌+◌, ◌-◌, ◌*◌, ◌≡◌, Bool, true, false, not, ◌&&◌, ◌||◌, List, [], ◌∷◌, ◌++◌, map, length, take, ◌==◌, if◌then◌else◌, nat_lt, nat_le, is_some, is_none, unwrap_or, option_map, flat_map, suc, zero}
+use Rattle.std.specs.Prelude.{ℕ, ◌+◌, ◌-◌, ◌*◌, ◌≡◌, Bool, true, false, not, ◌&&◌, ◌||◌, List, [], ◌∷◌, ◌++◌, map, length, take, ◌==◌}
+use Rattle.std.specs.Prelude.{if◌then◌else◌, nat_lt, nat_le, is_some, is_none, unwrap_or, option_map, flat_map, suc, zero}
 use Rattle.std.specs.List.{list_any}
 use Rattle.std.specs.Ordering.{nat_cmp}
 use Rattle.std.specs.FinMap.{find, put}
 use Rattle.lfs_model.specs.Bytes as bytes
-use Rattle.lfs_model.specs.Tree.{Node, File, Dir, Link, Tree, Handles, State, node, with_node, without, is_dir, names_of, names_in, entry, with_name, without_name, same_name, names, links, up, least, least_handle, opened, slot_len, form_of, name_limit}
+use Rattle.lfs_model.specs.Tree.{Node, File, Dir, Link, Tree, Handles, State, node, with_node, without, is_dir, names_of, names_in, entry}
+use Rattle.lfs_model.specs.Tree.{with_name, without_name, same_name, names, links, up, least, least_handle, opened, slot_len, form_of}
+use Rattle.lfs_model.specs.Tree.{name_limit}
 use Rattle.lfs_model.specs.PathText.{comps, slash, last, text_refusal}
-use Rattle.lfs_model.specs.Refusal.{Refusal, NoEntry, NotDir, IsDir, Exist, NotEmpty, Inval, NameTooLong, Perm, Busy, BadHandle, TooManyOpen, TooManyLinks, FileTooBig, NoSpace, NoNumber, DirFull}
+use Rattle.lfs_model.specs.Refusal.{Refusal, NoEntry, NotDir, IsDir, Exist, NotEmpty, Inval, NameTooLong, Perm, Busy, BadHandle}
+use Rattle.lfs_model.specs.Refusal.{TooManyOpen, TooManyLinks, FileTooBig, NoSpace, NoNumber, DirFull}
 use Rattle.lfs_model.specs.Walk.{End, At, Refused, dot, dot_dot, Resolve, Parent}
 use Rattle.lfs_model.specs.Need.{need, data_blocks, meta_blocks}
-use Rattle.lfs_model.specs.Call.{Call, Open, Create, Close, Pread, Pwrite, Truncate, Mkdir, LinkTo, Symlink, Readlink, Unlink, Rmdir, Rename, StatOf, LstatOf, Readdir, Fsync, Sync, Clean, Space, Version, Upgrade, Widen, ListTree, Stat, DirectoryEntry, TreeRow, Answer, Refuse, Done, Handle, Count, Data, Text, Status, Entries, Room, FormatVersion, Rows}
+use Rattle.lfs_model.specs.Call.{Call, Open, Create, Close, Pread, Pwrite, Truncate, Mkdir, LinkTo, Symlink, Readlink, Unlink, Rmdir}
+use Rattle.lfs_model.specs.Call.{Rename, StatOf, LstatOf, Readdir, Fsync, Sync, Clean, Space, Version, Upgrade, Widen, ListTree, Stat}
+use Rattle.lfs_model.specs.Call.{DirectoryEntry, TreeRow, Answer, Refuse, Done, Handle, Count, Data, Text, Status, Entries, Room}
+use Rattle.lfs_model.specs.Call.{FormatVersion, Rows}
 use Rattle.lfs_model.specs.declared.Kind.{Kind}
 use Rattle.lfs_model.specs.declared.Kind.TheVariants as kinds
 
@@ -46,7 +53,8 @@ head_of (Link text) = text
 
 -- every entry of every directory, by the directory's number and then by the name's bytes
 abbrev pub rows_of : Tree → List TreeRow
-rows_of t = flat_map (λ d. map (λ e. record { directory = d.0; name = e.0; stat = stat_of t e.1; head = head_of (the_node t e.1) }) (names_of d.1)) t
+rows_of t = flat_map
+    (λ d. map (λ e. record { directory = d.0; name = e.0; stat = stat_of t e.1; head = head_of (the_node t e.1) }) (names_of d.1)) t
 
 -- whether it is a link
 abbrev pub is_link : Node → Bool
@@ -196,13 +204,15 @@ truncates s h n = let f = file_at s h in
 -- mkdir, with the parent d; the form of a new directory is the version's
 abbrev pub makes_dir : ℕ → State → List ℕ → ℕ → Answer × State
 makes_dir N s p d = let t' = with_new s.tree d p (Dir (s.version - 1) []) in
-    checked s (new_entry s.tree d p true ++ when (nat_le 1000 (links s.tree d)) TooManyLinks ∷ no_number s.tree ∷ no_space N t' ∷ []) (Done, with_tree s t')
+    checked s (new_entry s.tree d p true ++ when (nat_le 1000 (links s.tree d)) TooManyLinks ∷ no_number s.tree ∷ no_space N t' ∷ [])
+    (Done, with_tree s t')
 
 -- link: b names what a names; the second path is walked after a's refusals
 abbrev pub links_to : ℕ → State → List ℕ → List ℕ → ℕ → End → Answer × State
 links_to N s a b da eb = checked s (old_entry s.tree da a) (reached s eb (λ db.
     let n = target s.tree da a in let t' = with_name s.tree db (name b) n in
-    checked s (new_entry s.tree db b false ++ when (nat_le 1000 (links s.tree n)) TooManyLinks ∷ no_space N t' ∷ []) (Done, with_tree s t')))
+    checked s (new_entry s.tree db b false ++ when (nat_le 1000 (links s.tree n)) TooManyLinks ∷ no_space N t' ∷ [])
+    (Done, with_tree s t')))
 
 -- symlink, with the parent d
 abbrev pub makes_link : ℕ → State → List ℕ → List ℕ → ℕ → Answer × State
@@ -221,7 +231,8 @@ unlinks s p d = let n = target s.tree d p in
 -- rmdir, with the parent d
 abbrev pub removes_dir : State → List ℕ → ℕ → Answer × State
 removes_dir s p d = let n = target s.tree d p in
-    checked s (when (no_last p) Busy ∷ when (last_dots p) Inval ∷ when (is_long s.tree d p) NameTooLong ∷ when (not (is_there s.tree d p)) NoEntry
+    checked s
+    (when (no_last p) Busy ∷ when (last_dots p) Inval ∷ when (is_long s.tree d p) NameTooLong ∷ when (not (is_there s.tree d p)) NoEntry
     ∷ when (not (gives_dir s.tree d p)) NotDir ∷ when (nat_lt 0 (length (names_in s.tree n))) NotEmpty ∷ [])
     (Done, with_tree s (let_go (without_name s.tree d (name p)) s.handles n))
 
@@ -262,7 +273,8 @@ widened t n = with_node t n (Dir 1 (names_in t n))
 -- widen, at node n: version 1 has no form 1, and a directory of form 1 stays as it is
 abbrev pub widens : ℕ → State → ℕ → Answer × State
 widens N s n = let t' = widened s.tree n in
-    checked s (when (not (is_dir (node s.tree n))) NotDir ∷ when (s.version == 1) Inval ∷ (form_of (node s.tree n) == 1, Done) ∷ no_space N t' ∷ [])
+    checked s (when (not (is_dir (node s.tree n))) NotDir ∷ when (s.version == 1) Inval ∷ (form_of (node s.tree n) == 1, Done)
+    ∷ no_space N t' ∷ [])
     (Done, with_tree s t')
 
 -- space

@@ -1,6 +1,7 @@
 -- The summary of a chunk, which is one sector.
 -- Segment summaries are those of the Sprite LFS paper (1992, section 3.3); the bytes are an own choice.
-use Rattle.std.specs.Prelude.{◌≡◌, ◌<◌, ◌≤◌, ◌+◌, ◌*◌, ◌-◌, ◌&&◌, ◌==◌, Bool, nat_le, ℕ, Option, List, [], ◌∷◌, ◌++◌, length, get_or, nat_eq, if◌then◌else◌}
+use Rattle.std.specs.Prelude.{◌≡◌, ◌<◌, ◌≤◌, ◌+◌, ◌*◌, ◌-◌, ◌&&◌, ◌==◌, Bool, nat_le, ℕ, Option, List, [], ◌∷◌, ◌++◌, length, get_or}
+use Rattle.std.specs.Prelude.{nat_eq, if◌then◌else◌}
 use Rattle.std.specs.List.{flat_map, list_all}
 use Rattle.lfs_model.specs.declared.BlockKind.{BlockKind}
 use Rattle.lfs_model.specs.declared.BlockKind.TheVariants.{Data, Leaf, Double, Inode, Map, Usage}
@@ -47,7 +48,8 @@ summary_sector bs = join (
     )
 
 unfoldable pub block_kind_of : ℕ → BlockKind
-block_kind_of b = if nat_eq b 1 then Data else (if nat_eq b 2 then Leaf else (if nat_eq b 3 then Double else (if nat_eq b 4 then Inode else (if nat_eq b 5 then Map else Usage))))
+block_kind_of b = if nat_eq b 1 then Data
+    else (if nat_eq b 2 then Leaf else (if nat_eq b 3 then Double else (if nat_eq b 4 then Inode else (if nat_eq b 5 then Map else Usage))))
 
 -- what stands at the places of an entry, and the entries of a summary
 unfoldable pub block_at : ℕ → List ℕ → BlockNameValue

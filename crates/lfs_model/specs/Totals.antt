@@ -63,9 +63,11 @@ pub record HasMeasure (m : LogMap) (n from to blocks others : ℕ) : Type 0 wher
 abbrev pub TotalsOfChange : Type 0
 TotalsOfChange = (m m' : LogMap) (n from to : ℕ) → IsChangedAt m n m' → 1 ≤ n → n ≤ 4095 → from ≤ to → to ≤ 16624
     → ((i : ℕ) → (i < from) ⊎ (to ≤ i) → m'.block n i ≡ m.block n i)
-    → (data_in m' + stored_in m n from to ≡ data_in m + stored_in m' n from to) × (meta_in m' + meta_of_file m n ≡ meta_in m + meta_of_file m' n)
+    → (data_in m' + stored_in m n from to ≡ data_in m + stored_in m' n from to)
+    × (meta_in m' + meta_of_file m n ≡ meta_in m + meta_of_file m' n)
 
 -- These sums are those over the nodes of the tree.
 abbrev pub TotalsOfTree : Type 0
-TotalsOfTree = (m : LogMap) → IsLogMap m → ((n : ℕ) → AreLong m n) → ((n : ℕ) (h : Header) → m.header n ≡ Some h → h.kind ≡ kind.Directory → IsDirectory m n h)
+TotalsOfTree = (m : LogMap) → IsLogMap m → ((n : ℕ) → AreLong m n)
+    → ((n : ℕ) (h : Header) → m.header n ≡ Some h → h.kind ≡ kind.Directory → IsDirectory m n h)
     → (data_blocks (tree_in m) ≡ data_in m) × (meta_blocks (tree_in m) ≡ meta_in m)

@@ -1,6 +1,7 @@
 -- The state of a volume: a tree of numbered nodes, and the open handles.
 -- Numbers are POSIX's file serial numbers, handles its file descriptors (POSIX.1-2017, Definitions).
-use Rattle.std.specs.Prelude.{ℕ, zero, suc, ◌+◌, ◌-◌, Bool, true, false, not, ◌&&◌, ◌||◌, List, [], ◌∷◌, ◌==◌, if◌then◌else◌, Option, Some, unwrap_or, option_map, sum_by, count_by}
+use Rattle.std.specs.Prelude.{ℕ, zero, suc, ◌+◌, ◌-◌, Bool, true, false, not, ◌&&◌, ◌||◌, List, [], ◌∷◌, ◌==◌, if◌then◌else◌, Option, Some}
+use Rattle.std.specs.Prelude.{unwrap_or, option_map, sum_by, count_by}
 use Rattle.std.specs.List.{list_any, filter, find as first_that}
 use Rattle.std.specs.Ordering.{nat_cmp, eq_by_cmp}
 use Rattle.std.specs.declared.cmp.Ordering.{Ordering}
@@ -103,7 +104,8 @@ same_name _ _ = false
 abbrev pub names : Tree → ℕ → ℕ
 names t n = sum_by (λ e. count_by (λ x. x.1 == n) (names_of e.1)) t
 
--- a file's or a link's names (POSIX.1-2017, Definitions: Link Count); of a directory 2 and its subdirectories, as if dot and dot-dot were entries
+-- a file's or a link's names (POSIX.1-2017, Definitions: Link Count); of a
+-- directory 2 and its subdirectories, as if dot and dot-dot were entries
 abbrev pub links_at : Tree → ℕ → Option Node → ℕ
 links_at t n (Some (Dir form m)) = 2 + count_by (λ x. is_dir (node t x.1)) m
 links_at t n _ = names t n

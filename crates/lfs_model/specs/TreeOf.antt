@@ -1,6 +1,7 @@
 -- The tree of a log map, and what it is for a content to stand for it.
 -- All of it is an own choice: it joins this layout to the tree of the calls.
-use Rattle.std.specs.Prelude.{◌≡◌, ◌≢◌, ◌⊎◌, ◌<◌, ◌≤◌, ◌+◌, ◌*◌, ◌/◌, ◌%◌, ◌==◌, nat_lt, ℕ, zero, suc, true, cond, List, [], ◌∷◌, length, map, take, drop, Option, Some, None, MatchBool, slice_index}
+use Rattle.std.specs.Prelude.{◌≡◌, ◌≢◌, ◌⊎◌, ◌<◌, ◌≤◌, ◌+◌, ◌*◌, ◌/◌, ◌%◌, ◌==◌, nat_lt, ℕ, zero, suc, true, cond, List, [], ◌∷◌, length}
+use Rattle.std.specs.Prelude.{map, take, drop, Option, Some, None, MatchBool, slice_index}
 use Rattle.std.specs.List.{AllByRecursion, Contains, range_with_len}
 use Rattle.std.specs.FinMap.{put}
 use Rattle.lfs_model.specs.declared.Kind.{Kind}
@@ -132,4 +133,5 @@ kept None some none = none
 kept (Some h) some none = cond (nat_lt 0 h.links) some none
 
 abbrev pub dropped : LogMap → LogMap
-dropped m = record { header = λ n. kept (m.header n) (m.header n) None; block = λ n i. kept (m.header n) (m.block n i) []; version = m.version }
+dropped m =
+    record { header = λ n. kept (m.header n) (m.header n) None; block = λ n i. kept (m.header n) (m.block n i) []; version = m.version }

@@ -1,6 +1,7 @@
 -- The usage block: an entry for each of 64 segments.
 -- The segment usage table is that of the Sprite LFS paper (1992, section 3.6); the bytes, and counting blocks, are an own choice.
-use Rattle.std.specs.Prelude.{◌≡◌, ◌<◌, ◌≤◌, ◌^◌, ◌↔◌, ◌+◌, ◌&&◌, ◌==◌, Bool, cond, nat_le, nat_lt, ℕ, Option, List, drop, ◌++◌, length, get_or}
+use Rattle.std.specs.Prelude.{◌≡◌, ◌<◌, ◌≤◌, ◌^◌, ◌↔◌, ◌+◌, ◌&&◌, ◌==◌, Bool, cond, nat_le, nat_lt, ℕ, Option, List, drop, ◌++◌, length}
+use Rattle.std.specs.Prelude.{get_or}
 use Rattle.std.specs.List.{flat_map, list_all}
 use Rattle.lfs_model.specs.Fields.{le16, le32, read16, read32, run, value_in}
 

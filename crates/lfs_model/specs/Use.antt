@@ -29,14 +29,15 @@ AreUnstuck = AllByRecursion (λ (a : Answer). a ≡ Refuse Stuck → ⊥)
 abbrev pub IsNumbered : ℕ → Content → Type 0
 IsNumbered number c = (k : CheckpointValue) × (newest c ≡ Some k) × (number ≡ k.number)
 
--- A use that goes on after an earlier run, of which a stop may have left only states that were pending then: it begins with one of them, and
--- what a stop leaves meanwhile stands for such a state or for one of its own.
-pub record Continues (d d' : DeviceState) (before : List Point) (calls : List Call) (given : List Answer) (first : Point) (points : List Point) : Type 0 where
+-- A use that goes on after an earlier run, of which a stop may have left only states that were pending then:
+-- it begins with one of them, and what a stop leaves meanwhile stands for such a state or for one of its own.
+pub record Continues (d d' : DeviceState) (before : List Point) (calls : List Call) (given : List Answer) (first : Point)
+    (points : List Point) : Type 0 where
   pub began : (s : State) × IsPending before calls given s × (first.state ≡ drop_nameless s)
   pub moments : LeavesOnly d d' (λ c. StandsForPrefix c before calls given ⊎ StandsForSome (first ∷ points) c)
 
--- A use of a volume by these lines, from the device before its mount to the device at the end. It begins with the state that the device's content
--- stands for, on the segments and with the number of its checkpoint, and its answers are a run of the model from there.
+-- A use of a volume by these lines, from the device before its mount to the device at the end. It begins with the state that the
+-- device's content stands for, on the segments and with the number of its checkpoint, and its answers are a run of the model from there.
 pub record UsesVolume (d d' : DeviceState) (lines : List Line) (answers : List Answer) : Type 0 where
   -- what is seen of the volume after the mount, and after each line
   pub first : Point
@@ -57,4 +58,5 @@ pub record UsesVolume (d d' : DeviceState) (lines : List Line) (answers : List A
   pub moments : LeavesOnly d d' (λ c. d.may_leave c ⊎ StandsForSome (first ∷ points) c)
   -- and one at the end the state after lines that hold every line up to the last acknowledged sync
   pub pending : LeavesPrefix d' (first ∷ points) (map call_of lines) answers
-  pub continues : (before : List Point) (calls : List Call) (given : List Answer) → LeavesPrefix d before calls given → Continues d d' before calls given first points
+  pub continues : (before : List Point) (calls : List Call) (given : List Answer) → LeavesPrefix d before calls given
+      → Continues d d' before calls given first points

@@ -18,7 +18,8 @@ use Rattle.lfs_model.specs.Volume.{LeavesPrefix, mounted}
 
 -- what a new volume of a version is: an empty root, and checkpoint 1
 abbrev pub new_point : ℕ → ℕ → Point
-new_point version failures = record { state = mounted version ((1, Dir (new_form version) []) ∷ []); halted = false; number = 1; failures = failures }
+new_point version failures =
+    record { state = mounted version ((1, Dir (new_form version) []) ∷ []); halted = false; number = 1; failures = failures }
 
 -- A use of a new volume of N segments begins there.
 abbrev pub BeginsNew : ℕ → ℕ → DeviceState → DeviceState → Type 0

@@ -49,7 +49,8 @@ StateSlotWrite = (c : Content) (s : State) (is : Stands c s) (e : Content) → K
 
 -- Where all stages hold of a volume that is large enough, the content stands for the tree that is read from it.
 abbrev pub FoundStands : Type 0
-FoundStands = (c : Content) (k : CheckpointValue) → newest c ≡ Some k → 2 + 64 * k.segments ≤ length c → ((code : ℕ) → stage (view c k) code)
+FoundStands = (c : Content) (k : CheckpointValue) → newest c ≡ Some k → 2 + 64 * k.segments ≤ length c
+    → ((code : ℕ) → stage (view c k) code)
     → Stands c (mounted (layout_version k) (tree_in (log_in (view c k))))
 
 -- What stands for a state is refused for none of these.
@@ -82,7 +83,8 @@ DroppedLog = (N : ℕ) (m : LogMap) (s : State) → IsLogOf N m s → IsLogMap m
 
 -- So what a commit leaves, a content that stands for that log map, stands for the state without its nodes of no name.
 abbrev pub DroppedStands : Type 0
-DroppedStands = (c : Content) (k : CheckpointValue) (m : LogMap) (s : State) → newest c ≡ Some k → StandsAt c k (dropped m) → IsLogOf k.segments m s → Stands c (drop_nameless s)
+DroppedStands = (c : Content) (k : CheckpointValue) (m : LogMap) (s : State) → newest c ≡ Some k → StandsAt c k (dropped m)
+    → IsLogOf k.segments m s → Stands c (drop_nameless s)
 
 -- With that state it is the log map of a running volume again.
 abbrev pub DroppedAgain : Type 0

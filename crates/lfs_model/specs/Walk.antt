@@ -1,5 +1,6 @@
 -- The walk of a path (POSIX.1-2017, 4.13 Pathname Resolution; path_resolution(7)).
-use Rattle.std.specs.Prelude.{ℕ, ◌+◌, ◌≡◌, ◌≢◌, ◌<◌, ◌≤◌, Bool, true, false, ◌||◌, List, [], ◌∷◌, ◌++◌, length, Some, None, if◌then◌else◌, MatchOption}
+use Rattle.std.specs.Prelude.{ℕ, ◌+◌, ◌≡◌, ◌≢◌, ◌<◌, ◌≤◌, Bool, true, false, ◌||◌, List, [], ◌∷◌, ◌++◌, length, Some, None, if◌then◌else◌}
+use Rattle.std.specs.Prelude.{MatchOption}
 use Rattle.lfs_model.specs.Tree.{Tree, Node, File, Dir, Link, Names, node, entry, up, name_limit}
 use Rattle.lfs_model.specs.PathText.{comps, slash, from_root, but_last, text_refusal}
 use Rattle.lfs_model.specs.Refusal.{Refusal, NoEntry, NotDir, NameTooLong, Loop}

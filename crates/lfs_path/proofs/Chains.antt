@@ -28,7 +28,8 @@ risen_chain t [] is = absurd is
 risen_chain t (d ∷ []) is = (is, is ∙ sym (ap (up t) is))
 risen_chain t (d ∷ above ∷ rest) is = (is.2, sym is.0)
 
-pub dot_dot_leads : (m : LogMap) (piece chain chain' : List ℕ) → piece ≡ dot_dot → chain' ≡ risen chain → InChain chain m → Leads piece chain chain' m
+pub dot_dot_leads : (m : LogMap) (piece chain chain' : List ℕ) → piece ≡ dot_dot → chain' ≡ risen chain → InChain chain m
+    → Leads piece chain chain' m
 dot_dot_leads m piece chain chain' same up_there is =
     let risen_is = risen_chain (tree_in m) chain is.directories in
     record {
@@ -41,7 +42,8 @@ down_chain : (t : Tree) (chain : List ℕ) (n : ℕ) → up t n ≡ here chain �
 down_chain t [] n above dir is = absurd is
 down_chain t (d ∷ rest) n above dir is = (above, dir, is)
 
-pub name_leads : (m : LogMap) (piece chain chain' : List ℕ) (n form : ℕ) (ns : Names) → Gives (tree_in m) (here chain) piece n (Dir form ns) → chain' ≡ n ∷ chain → InChain chain m → Leads piece chain chain' m
+pub name_leads : (m : LogMap) (piece chain chain' : List ℕ) (n form : ℕ) (ns : Names) → Gives (tree_in m) (here chain) piece n (Dir form ns)
+    → chain' ≡ n ∷ chain → InChain chain m → Leads piece chain chain' m
 name_leads m piece chain chain' n form ns gives down is = record {
   directories = subst (IsChain (tree_in m)) (sym down) (down_chain (tree_in m) chain n above dir is.directories);
   walks = λ follow ps s k e w. directory gives (subst (λ (d : ℕ). Walk (tree_in m) follow d ps s k e) (ap here down) w);

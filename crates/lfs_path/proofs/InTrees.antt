@@ -31,7 +31,8 @@ module _ (m : LogMap) where
 
   node_header : (n : ℕ) (x : Node) → node (tree_in m) n ≡ Some x → HasNode n x
   node_header n x is = ⊎_elim
-      (λ (low : n < 1). absurd (let zero_is : n ≡ 0 = omega arith in let none : node (tree_in m) n ≡ None = ap (node (tree_in m)) zero_is ∙ no_node_0 m in cc))
+      (λ (low : n < 1). absurd (let zero_is : n ≡ 0 = omega arith in
+      let none : node (tree_in m) n ≡ None = ap (node (tree_in m)) zero_is ∙ no_node_0 m in cc))
       (λ (some : 1 ≤ n). ⊎_elim
       (λ (past : 4095 < n). absurd (let none : node (tree_in m) n ≡ None = no_node_past m n (omega arith) in cc))
       (λ (few : n ≤ 4095). by (m.header n) refl (sym (node_in m n some few) ∙ is))
@@ -40,7 +41,8 @@ module _ (m : LogMap) where
     where
       by : (o : Option entries.Header) → m.header n ≡ o → node_of m n (m.header n) ≡ Some x → HasNode n x
       by None none at = let a : node_of m n (m.header n) ≡ None = ap (node_of m n) none in absurd (cc)
-      by (Some h) there at = record { head = h; is = there; same = Some-injective (node_by m h.kind n h) x (sym (ap (node_of m n) there) ∙ at) }
+      by (Some h) there at =
+          record { head = h; is = there; same = Some-injective (node_by m h.kind n h) x (sym (ap (node_of m n) there) ∙ at) }
 
   kind_is : (n : ℕ) (k : Kind) (h : entries.Header) → is_dir (Some (node_by m k n h)) ≡ true → k ≡ kind.Directory
   kind_is n kind.File h is = cc
@@ -101,7 +103,8 @@ module _ (m : LogMap) where
         looked_up : length name ≤ name_len head.form → IsLookedUp (tree_in m) d name
         looked_up short = let most = limit in record { not_dot = dots.0; not_dot_dot = dots.1; short = omega (arith, most, short) }
 
-        pub no_name : length name ≤ name_len head.form → None ≡ find byte_cmp name (names_at m d head) → EndsAtPiece d name (tree_in m) (Refused refusals.NoEntry)
+        pub no_name : length name ≤ name_len head.form → None ≡ find byte_cmp name (names_at m d head)
+            → EndsAtPiece d name (tree_in m) (Refused refusals.NoEntry)
         no_name short answer follow ps s k = not_there (looked_up short) (entry_is name None answer)
 
         pub is_name : length name ≤ name_len head.form → (n : ℕ) → Some n ≡ find byte_cmp name (names_at m d head) → NamesObject d name n m
@@ -120,14 +123,16 @@ module _ (m : LogMap) where
           (cases_lt 4095 n))
           (cases_lt n 1)
 
-  module _ (d : ℕ) (name : List ℕ) (n : FileNumber) (tree : HasTree m) (named : NamesObject d name n.value m) (head : Header) (is : HasHeader n.value head m) where
+  module _ (d : ℕ) (name : List ℕ) (n : FileNumber) (tree : HasTree m) (named : NamesObject d name n.value m) (head : Header)
+      (is : HasHeader n.value head m) where
     gives : (k : Kind) → head.kind ≡ k → Gives (tree_in m) d name n.value (node_by m k n.value (as_header head))
     gives k same =
         let number = (tree.headers n.value (as_header head) is).number in
         record {
           is_name = named.is_name;
           is_there = named.is_there;
-          is_node = node_in m n.value number.0 number.1 ∙ ap (node_of m n.value) is ∙ ap (λ (k : Kind). Some (node_by m k n.value (as_header head))) same;
+          is_node = node_in m n.value number.0 number.1 ∙ ap (node_of m n.value) is
+              ∙ ap (λ (k : Kind). Some (node_by m k n.value (as_header head))) same;
         }
 
     pub gives_file : head.kind ≡ kind.File → IsSeen d name (seen.File n) m

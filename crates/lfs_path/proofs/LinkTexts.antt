@@ -15,7 +15,8 @@ use Rattle.lfs_path.specs.declared.seen.Link.{Link}
 
 -- ---- bytes
 -- the bytes of a block come behind those of the blocks before it
-module _ (m : LogMap) (n index count : ℕ) (old new : List ℕ) (at : length old ≡ 512 * index) (few : count ≤ 512) (is : HasTaken m n index count old new) where
+module _ (m : LogMap) (n index count : ℕ) (old new : List ℕ) (at : length old ≡ 512 * index) (few : count ≤ 512)
+    (is : HasTaken m n index count old new) where
   cut_long : length (take count is.block) ≡ count
   cut_long = let long = is.holds.long in let cut = length-take count is.block in omega (arith, long, cut, few)
 
@@ -24,7 +25,8 @@ module _ (m : LogMap) (n index count : ℕ) (old new : List ℕ) (at : length ol
 
   pub taken_bytes : ((p : ℕ) → p < length old → byte_in m n p ≡ get_or old p 0) → (p : ℕ) → p < length new → byte_in m n p ≡ get_or new p 0
   taken_bytes each p low = ⊎_elim
-      (λ (before : p < length old). each p before ∙ sym (ap (λ (b : List ℕ). get_or b p 0) is.text ∙ get_or_append_left old (take count is.block) 0 p before))
+      (λ (before : p < length old). each p before
+      ∙ sym (ap (λ (b : List ℕ). get_or b p 0) is.text ∙ get_or_append_left old (take count is.block) 0 p before))
       (λ (behind : length old ≤ p).
       let long = taken_long in
       let j : p - length old < count = omega (arith, long, low, at, behind) in
@@ -32,7 +34,8 @@ module _ (m : LogMap) (n index count : ℕ) (old new : List ℕ) (at : length ol
       let place_is : p % 512 ≡ p - length old = omega (arith, at, behind, j, few) in
       ap₂ (λ (i k : ℕ). get_or (m.block n i) k 0) index_is place_is
       ∙ sym (is.holds.bytes (p - length old))
-      ∙ sym (ap (λ (b : List ℕ). get_or b p 0) is.text ∙ get_or-append_right old (take count is.block) (length old) p 0 refl behind ∙ get_or-take count is.block (p - length old) 0 j))
+      ∙ sym (ap (λ (b : List ℕ). get_or b p 0) is.text ∙ get_or-append_right old (take count is.block) (length old) p 0 refl behind
+      ∙ get_or-take count is.block (p - length old) 0 j))
       (cases_lt p (length old))
 
 -- ---- blocks up to one of this index
@@ -45,7 +48,8 @@ module _ {S D : Type 0} (n size : ℕ) where
     pub reads : Reads s s'
     pub read : (m m' : LogMap) → s'.device.keeps_model → s.has m m' → HasRead m' n size index text
 
-  module _ (s a b : FilesState S D) (index count : ℕ) (old new : List ℕ) (low : 512 * index < size) (is : count ≡ min (size - 512 * index) 512) (was : ReadTo s a index old) where
+  module _ (s a b : FilesState S D) (index count : ℕ) (old new : List ℕ) (low : 512 * index < size)
+      (is : count ≡ min (size - 512 * index) 512) (was : ReadTo s a index old) where
     pub read_goes_on : IsLawful s.device → Reads a b → TakesBytes a b n index count old new → ReadTo s b (index + 1) new
     read_goes_on lawful reads takes = record {
       reads = reads_more s a b lawful was.reads reads;
@@ -60,9 +64,11 @@ module _ {S D : Type 0} (n size : ℕ) where
     }
 
 module _ {S D : Type 0} where
-  pub read_ends : (s s' : FilesState S D) (l : Link) (index : ℕ) (text : List ℕ) → l.header.size ≤ 512 * index → ReadTo l.number.value l.header.size s s' index text → ReadsText s s' l text
+  pub read_ends : (s s' : FilesState S D) (l : Link) (index : ℕ) (text : List ℕ) → l.header.size ≤ 512 * index
+      → ReadTo l.number.value l.header.size s s' index text → ReadsText s s' l text
   read_ends s s' l index text past was m m' keeps has =
       let all = was.read m m' keeps has in
       let long = all.long in
-      object_is m' l.number.value (as_header l.header) text (omega (arith, long, past)) (λ p low. all.bytes p (omega (arith, long, low, past)))
+      object_is m' l.number.value (as_header l.header) text (omega (arith, long, past))
+      (λ p low. all.bytes p (omega (arith, long, low, past)))
   -- ---- the text that is left

@@ -20,10 +20,13 @@ module _ {S D : Type 0} (s s' : FilesState S D) (d : ℕ) (piece chain : List �
   pub here_passes : Tells s s' (InDirectory d) (IsSeen d piece seen.Here) → Tells s s' (InChain chain) (Leads piece chain chain)
   here_passes sees m m' keeps has is = dot_leads m' piece chain (sees m m' keeps has (within m' is)) is
 
-  pub above_passes : (chain' : List ℕ) → chain' ≡ risen chain → Tells s s' (InDirectory d) (IsSeen d piece seen.Above) → Tells s s' (InChain chain) (Leads piece chain chain')
+  pub above_passes : (chain' : List ℕ) → chain' ≡ risen chain → Tells s s' (InDirectory d) (IsSeen d piece seen.Above)
+      → Tells s s' (InChain chain) (Leads piece chain chain')
   above_passes chain' up_there sees m m' keeps has is = dot_dot_leads m' piece chain chain' (sees m m' keeps has (within m' is)) up_there is
 
-  pub name_passes : (chain' : List ℕ) (n : FileNumber) → chain' ≡ n.value ∷ chain → Tells s s' (InDirectory d) (IsSeen d piece (seen.Directory n)) → Tells s s' (InChain chain) (Leads piece chain chain')
+  pub name_passes : (chain' : List ℕ) (n : FileNumber) → chain' ≡ n.value ∷ chain
+      → Tells s s' (InDirectory d) (IsSeen d piece (seen.Directory n)) → Tells s s' (InChain chain) (Leads piece chain chain')
   name_passes chain' n down sees m m' keeps has is =
       let given = sees m m' keeps has (within m' is) in
-      name_leads m' piece chain chain' n.value given.0 given.1 (subst (λ (a : ℕ). Gives (tree_in m') a piece n.value (Dir given.0 given.1)) at given.2) down is
+      name_leads m' piece chain chain' n.value given.0 given.1
+      (subst (λ (a : ℕ). Gives (tree_in m') a piece n.value (Dir given.0 given.1)) at given.2) down is

@@ -23,7 +23,8 @@ use Rattle.lfs_path.proofs.Splits.{is_rest}
 
 -- ---- texts
 -- the slash end of what is left then
-slash_left : (b : Bool) (x rest : List ℕ) → IsRest rest → (slash_with x (comps rest) (slash rest) ≡ slash (x ++ rest)) → (b || slash (x ++ rest)) ≡ slash_with x (comps rest) (b || slash rest)
+slash_left : (b : Bool) (x rest : List ℕ) → IsRest rest → (slash_with x (comps rest) (slash rest) ≡ slash (x ++ rest))
+    → (b || slash (x ++ rest)) ≡ slash_with x (comps rest) (b || slash rest)
 slash_left false x rest is joined = sym joined
 slash_left true x rest is joined = by (comps rest) (slash x)
   where
@@ -57,14 +58,17 @@ module _ (slash_end follow : Bool) (path : List ℕ) where
     pub directories : IsChain (tree_in m) chain
     pub walks : (e : End) → WalksText slash_end follow (here chain) text links (tree_in m) e → EndsPath slash_end follow path (tree_in m) e
 
-  module _ (m : LogMap) (chain text chain' : List ℕ) (links : ℕ) (l : Link) (rest : List ℕ) (was : GoesOn chain text links m) (meets : MeetsLink slash_end follow (here chain) text (here chain') l rest m) where
-    at_link : (e : End) → Walk (tree_in m) follow (here chain') (meets.piece ∷ comps rest) (slash_end || slash rest) links e → EndsPath slash_end follow path (tree_in m) e
+  module _ (m : LogMap) (chain text chain' : List ℕ) (links : ℕ) (l : Link) (rest : List ℕ) (was : GoesOn chain text links m)
+      (meets : MeetsLink slash_end follow (here chain) text (here chain') l rest m) where
+    at_link : (e : End) → Walk (tree_in m) follow (here chain') (meets.piece ∷ comps rest) (slash_end || slash rest) links e
+        → EndsPath slash_end follow path (tree_in m) e
     at_link e w = was.walks e (meets.walks links e w)
 
     pub too_many : 40 ≤ links → EndsPath slash_end follow path (tree_in m) (Refused refusals.Loop)
     too_many full = at_link (Refused refusals.Loop) (loops meets.gives meets.goes full)
 
-    pub link_goes_on : IsChain (tree_in m) chain' → links < 40 → (chain'' text' : List ℕ) → text' ≡ text_of m l ++ rest → chain'' ≡ started (text_of m l) chain' → GoesOn chain'' text' (links + 1) m
+    pub link_goes_on : IsChain (tree_in m) chain' → links < 40 → (chain'' text' : List ℕ) → text' ≡ text_of m l ++ rest
+        → chain'' ≡ started (text_of m l) chain' → GoesOn chain'' text' (links + 1) m
     link_goes_on directories room chain'' text' left from = record {
       directories = subst (IsChain (tree_in m)) (sym from) (started_chain (tree_in m) (text_of m l) chain' directories);
       walks = λ e w. at_link e (followed meets.gives meets.goes room (turned e w));
@@ -77,13 +81,17 @@ module _ (slash_end follow : Bool) (path : List ℕ) where
         pieces_are = ap comps left ∙ pieces_joined (text_of m l) rest behind
 
         slash_is : (slash_end || slash text') ≡ slash_with (text_of m l) (comps rest) (slash_end || slash rest)
-        slash_is = ap (λ (x : List ℕ). slash_end || slash x) left ∙ slash_left slash_end (text_of m l) rest behind (slash_joined (text_of m l) rest behind meets.goes_on)
+        slash_is = ap (λ (x : List ℕ). slash_end || slash x) left
+            ∙ slash_left slash_end (text_of m l) rest behind (slash_joined (text_of m l) rest behind meets.goes_on)
 
         turned : (e : End) → WalksText slash_end follow (here chain'') text' (links + 1) (tree_in m) e
-            → Walk (tree_in m) follow (start (text_of m l) (here chain')) (comps (text_of m l) ++ comps rest) (slash_with (text_of m l) (comps rest) (slash_end || slash rest)) (links + 1) e
+            → Walk (tree_in m) follow (start (text_of m l) (here chain')) (comps (text_of m l) ++ comps rest)
+            (slash_with (text_of m l) (comps rest) (slash_end || slash rest)) (links + 1) e
         turned e w =
-            subst (λ (d : ℕ). Walk (tree_in m) follow d (comps (text_of m l) ++ comps rest) (slash_with (text_of m l) (comps rest) (slash_end || slash rest)) (links + 1) e) (ap here from ∙ here_started (text_of m l) chain')
-            (subst (λ (ps : List (List ℕ)). Walk (tree_in m) follow (here chain'') ps (slash_with (text_of m l) (comps rest) (slash_end || slash rest)) (links + 1) e) pieces_are
+            subst (λ (d : ℕ). Walk (tree_in m) follow d (comps (text_of m l) ++ comps rest) (slash_with (text_of m l) (comps rest)
+            (slash_end || slash rest)) (links + 1) e) (ap here from ∙ here_started (text_of m l) chain')
+            (subst (λ (ps : List (List ℕ)). Walk (tree_in m) follow (here chain'') ps
+            (slash_with (text_of m l) (comps rest) (slash_end || slash rest)) (links + 1) e) pieces_are
             (subst (λ (b : Bool). Walk (tree_in m) follow (here chain'') (comps text') b (links + 1) e) slash_is w))
 
 module _ {S D : Type 0} (slash_end follow : Bool) (path : List ℕ) where
@@ -99,8 +107,10 @@ module _ {S D : Type 0} (slash_end follow : Bool) (path : List ℕ) where
     in_chain : (m m' : LogMap) → b.device.keeps_model → s.has m m' → HasTree m' → InChain chain m'
     in_chain m m' keeps has tree = record { tree = tree; directories = (goes_at m m' keeps has tree).directories }
 
-    module _ (l : Link) (r : Bor (List ℕ)) (seen : List ℕ) (value : seen ≡ text) (told : Tells a b (InChain chain) (StopsAtLink slash_end follow chain seen chain' (stop.Followed l r))) where
-      stops : (m m' : LogMap) → b.device.keeps_model → s.has m m' → InChain chain m' → IsChain (tree_in m') chain' × MeetsLink slash_end follow (here chain) text (here chain') l r.now m'
+    module _ (l : Link) (r : Bor (List ℕ)) (seen : List ℕ) (value : seen ≡ text)
+        (told : Tells a b (InChain chain) (StopsAtLink slash_end follow chain seen chain' (stop.Followed l r))) where
+      stops : (m m' : LogMap) → b.device.keeps_model → s.has m m' → InChain chain m'
+          → IsChain (tree_in m') chain' × MeetsLink slash_end follow (here chain) text (here chain') l r.now m'
       stops m m' keeps has is =
           let x = told m m' keeps (was.reads.has m m' has) is in
           (x.directories, subst (λ (y : List ℕ). MeetsLink slash_end follow (here chain) y (here chain') l r.now m') value x.stop)
@@ -111,7 +121,8 @@ module _ {S D : Type 0} (slash_end follow : Bool) (path : List ℕ) where
           too_many slash_end follow path m' chain text chain' links l r.now (goes_at m m' keeps has tree) x.1 full
 
       module _ (c : FilesState S D) (again : Reads b c) where
-        pub walk_goes_on : IsLawful s.device → links < 40 → (chain'' text' : List ℕ) → Follows b c l r.now chain' chain'' text' → ComesOn s c chain'' text' (links + 1)
+        pub walk_goes_on : IsLawful s.device → links < 40 → (chain'' text' : List ℕ) → Follows b c l r.now chain' chain'' text'
+            → ComesOn s c chain'' text' (links + 1)
         walk_goes_on lawful room chain'' text' follows = record {
           reads = reads_more s b c lawful (reads_more s a b lawful was.reads reads) again;
           few = omega (arith, room);
@@ -119,5 +130,6 @@ module _ {S D : Type 0} (slash_end follow : Bool) (path : List ℕ) where
               let before = again.looks.carries.kept_before keeps in
               let x = stops m m' before has (in_chain m m' before has tree) in
               let left = follows m m' keeps (reads.has m m' (was.reads.has m m' has)) in
-              link_goes_on slash_end follow path m' chain text chain' links l r.now (goes_at m m' before has tree) x.1 x.0 room chain'' text' left.0 left.1;
+              link_goes_on slash_end follow path m' chain text chain' links l r.now (goes_at m m' before has tree) x.1 x.0 room chain''
+              text' left.0 left.1;
         }

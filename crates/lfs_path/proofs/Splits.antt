@@ -1,5 +1,6 @@
 -- A path split at its last piece.
-use Rattle.std.proofs.Common.{◌≡◌, ◌≤◌, ◌-◌, refl, sym, ap, ◌∙◌, ℕ, suc, Bool, true, false, List, [], ◌∷◌, ◌++◌, Option, Some, None, length, take, drop, eqb, arith}
+use Rattle.std.proofs.Common.{◌≡◌, ◌≤◌, ◌-◌, refl, sym, ap, ◌∙◌, ℕ, suc, Bool, true, false, List, [], ◌∷◌, ◌++◌, Option, Some, None, length}
+use Rattle.std.proofs.Common.{take, drop, eqb, arith}
 use Rattle.std.specs.Prelude.{IfNone, IfSome, is_none, nat_lt, not, ◌==◌}
 use Rattle.std.specs.List.{last_or}
 use Rattle.std.proofs.lemmas.Bool.{eqb-true}
@@ -47,7 +48,8 @@ no_piece None text none is = is
 no_piece (Some x) text none is = cc
 
 -- where one is found, there is one
-pub some_piece : {A : Type 0} (front back : A → List ℕ) (r : Option A) (text : List ℕ) → is_none r ≡ false → IfSome r (λ x. IsNextPiece text (front x) (back x)) → comps text ≡ [] → ⊥
+pub some_piece : {A : Type 0} (front back : A → List ℕ) (r : Option A) (text : List ℕ) → is_none r ≡ false
+    → IfSome r (λ x. IsNextPiece text (front x) (back x)) → comps text ≡ [] → ⊥
 some_piece front back None text some next none = cc
 some_piece front back (Some x) text some next none = let is = next.pieces in cc
 
@@ -56,7 +58,8 @@ module _ (path rest piece after : List ℕ) (was : SplitsAt path rest) (next : I
   after_few = let one = was.few in let two = next.shorter in omega (arith, one, two)
 
   after_behind : after ≡ drop (length path - length after) path
-  after_behind = suffix_back (length path - length rest) (length rest - length after) path after (next.behind ∙ ap (λ (x : List ℕ). drop (length rest - length after) x) was.behind)
+  after_behind = suffix_back (length path - length rest) (length rest - length after) path after
+      (next.behind ∙ ap (λ (x : List ℕ). drop (length rest - length after) x) was.behind)
 
   pub splits_further : (comps after ≡ [] → ⊥) → SplitsAt path after
   splits_further some = record {
@@ -71,7 +74,8 @@ module _ (path rest piece after : List ℕ) (was : SplitsAt path rest) (next : I
   }
 
   -- ---- the last piece
-  pub splits_last : comps after ≡ [] → (above : List ℕ) (l : Last) → above ≡ take (length path - length rest) path → l.name.now ≡ piece → l.slash ≡ nat_lt 0 (length after) → SplitsLast path above l
+  pub splits_last : comps after ≡ [] → (above : List ℕ) (l : Last) → above ≡ take (length path - length rest) path → l.name.now ≡ piece
+      → l.slash ≡ nat_lt 0 (length after) → SplitsLast path above l
   splits_last none above l front name slashed = record {
     pieces = ap comps front ∙ sym (ap but_last all ∙ but_last_snoc (comps (take (length path - length rest) path)) piece);
     piece = ap last all ∙ last_snoc (comps (take (length path - length rest) path)) None piece ∙ ap Some (sym name);
@@ -79,7 +83,8 @@ module _ (path rest piece after : List ℕ) (was : SplitsAt path rest) (next : I
   }
     where
       all : comps path ≡ comps (take (length path - length rest) path) ++ piece ∷ []
-      all = was.pieces ∙ ap (λ (ps : List (List ℕ)). comps (take (length path - length rest) path) ++ ps) (next.pieces ∙ ap (λ (ps : List (List ℕ)). piece ∷ ps) none)
+      all = was.pieces ∙ ap (λ (ps : List (List ℕ)). comps (take (length path - length rest) path) ++ ps)
+          (next.pieces ∙ ap (λ (ps : List (List ℕ)). piece ∷ ps) none)
 
       ends : (ps : List (List ℕ)) → ps ≡ [] → more ps (slash after) ≡ nat_lt 0 (length after) → slash after ≡ nat_lt 0 (length after)
       ends [] none is = is

@@ -1,5 +1,6 @@
 -- The pieces of a text, from its slashes.
-use Rattle.std.proofs.Common.{◌≡◌, refl, sym, ap, subst, ◌∙◌, ℕ, suc, ◌+◌, ◌-◌, ◌<◌, ◌≤◌, ◌⊎◌, true, false, not, ◌&&◌, List, [], ◌∷◌, length, take, drop, eqb, arith, inl, inr}
+use Rattle.std.proofs.Common.{◌≡◌, refl, sym, ap, subst, ◌∙◌, ℕ, suc, ◌+◌, ◌-◌, ◌<◌, ◌≤◌, ◌⊎◌, true, false, not, ◌&&◌, List, [], ◌∷◌}
+use Rattle.std.proofs.Common.{length, take, drop, eqb, arith, inl, inr}
 use Rattle.std.specs.Prelude.{filter, nat_eq, nat_lt}
 use Rattle.std.specs.List.{prefix_len}
 use Rattle.std.proofs.lemmas.Bool.Decides.{nat_tests, eqb_tells}
@@ -55,12 +56,13 @@ piece_len q = prefix_len (λ c. not (is_slash c)) q
 
 first_part : (q : List ℕ) → parts q ≡ take (piece_len q) q ∷ parts_behind (drop (piece_len q) q)
 first_part [] = refl
-first_part (c ∷ q) = elim (eqb_tells c 47) as (λ _. parts (c ∷ q) ≡ take (piece_len (c ∷ q)) (c ∷ q) ∷ parts_behind (drop (piece_len (c ∷ q)) (c ∷ q))) [
-  | inl same ↦ rw (same.0, first_part q, same.0) refl
-  | inr apart ↦
-      let one : piece_len (c ∷ q) ≡ suc (piece_len q) = rw apart.0 (omega arith) in
-      rw (one, first_part q, apart.0) refl
-]
+first_part (c ∷ q) =
+    elim (eqb_tells c 47) as (λ _. parts (c ∷ q) ≡ take (piece_len (c ∷ q)) (c ∷ q) ∷ parts_behind (drop (piece_len (c ∷ q)) (c ∷ q))) [
+      | inl same ↦ rw (same.0, first_part q, same.0) refl
+      | inr apart ↦
+          let one : piece_len (c ∷ q) ≡ suc (piece_len q) = rw apart.0 (omega arith) in
+          rw (one, first_part q, apart.0) refl
+    ]
 
 -- what stands behind the first part is nothing, or begins with a slash
 abbrev pub Ends : List ℕ → Type 0
@@ -81,12 +83,14 @@ behind (c ∷ y) ends =
     let same : c ≡ 47 = grind (arith, nat_tests) in
     sym (slash_front y) ∙ ap (λ (b : ℕ). comps (b ∷ y)) (sym same)
 
-comps_first : (c : ℕ) (q : List ℕ) → eqb c 47 ≡ false → comps (c ∷ q) ≡ take (piece_len (c ∷ q)) (c ∷ q) ∷ comps (drop (piece_len (c ∷ q)) (c ∷ q))
+comps_first : (c : ℕ) (q : List ℕ) → eqb c 47 ≡ false
+    → comps (c ∷ q) ≡ take (piece_len (c ∷ q)) (c ∷ q) ∷ comps (drop (piece_len (c ∷ q)) (c ∷ q))
 comps_first c q apart =
     let one : piece_len (c ∷ q) ≡ suc (piece_len q) = rw apart (omega arith) in
     let rest = behind (drop (piece_len (c ∷ q)) (c ∷ q)) (ends_there (c ∷ q)) in
     let long : nat_lt 0 (length (take (suc (piece_len q)) (c ∷ q))) ≡ true = some_true (length (take (piece_len q) q)) in
-    ap pieces_of (first_part (c ∷ q)) ∙ rw (one, long) (ap (λ (ps : List (List ℕ)). (c ∷ take (piece_len q) q) ∷ ps) (subst (λ (n : ℕ). pieces_of (parts_behind (drop n (c ∷ q))) ≡ comps (drop n (c ∷ q))) one rest))
+    ap pieces_of (first_part (c ∷ q)) ∙ rw (one, long) (ap (λ (ps : List (List ℕ)). (c ∷ take (piece_len q) q) ∷ ps)
+    (subst (λ (n : ℕ). pieces_of (parts_behind (drop n (c ∷ q))) ≡ comps (drop n (c ∷ q))) one rest))
 
 -- no piece: all bytes are slashes
 slashes_end : (y : List ℕ) → comps y ≡ [] → slash (47 ∷ y) ≡ true
@@ -102,7 +106,8 @@ more_behind : (x : List ℕ) → Ends x → more (comps x) (slash x) ≡ nat_lt 
 more_behind [] ends = refl
 more_behind (c ∷ y) ends =
     let same : c ≡ 47 = grind (arith, nat_tests) in
-    subst (λ (b : ℕ). more (comps (b ∷ y)) (slash (b ∷ y)) ≡ true) (sym same) (rw (slash_front y) (by (comps y) refl)) ∙ sym (some_true (length y))
+    subst (λ (b : ℕ). more (comps (b ∷ y)) (slash (b ∷ y)) ≡ true) (sym same) (rw (slash_front y) (by (comps y) refl))
+    ∙ sym (some_true (length y))
   where
     by : (ps : List (List ℕ)) → comps y ≡ ps → more ps (slash (47 ∷ y)) ≡ true
     by [] is = slashes_end y is
@@ -169,22 +174,27 @@ module _ (path q piece rest : List ℕ) (k : ℕ) (at : k ≡ prefix_len is_slas
   pub next_is : 0 < length q → piece ≡ take (piece_len q) q → rest ≡ drop (piece_len q) q → IsNextPiece path piece rest
   next_is some front back = by q some whole front back
     where
-      by : (x : List ℕ) → 0 < length x → x ≡ drop (prefix_len is_slash path) path → piece ≡ take (piece_len x) x → rest ≡ drop (piece_len x) x → IsNextPiece path piece rest
+      by : (x : List ℕ) → 0 < length x → x ≡ drop (prefix_len is_slash path) path → piece ≡ take (piece_len x) x
+          → rest ≡ drop (piece_len x) x → IsNextPiece path piece rest
       by [] some all front back = absurd (omega arith)
       by (c ∷ x) some all front back =
           let none : prefix_len is_slash (c ∷ x) ≡ 0 = ap (prefix_len is_slash) all ∙ skips_all path in
           let apart : eqb c 47 ≡ false = elim (eqb_tells c 47) as (λ _. eqb c 47 ≡ false) [
-            | inl same ↦ absurd (let one : prefix_len is_slash (c ∷ x) ≡ suc (prefix_len is_slash x) = rw same.0 (omega arith) in omega arith)
+            | inl same ↦
+                absurd (let one : prefix_len is_slash (c ∷ x) ≡ suc (prefix_len is_slash x) = rw same.0 (omega arith) in omega arith)
             | inr apart ↦ apart.0
           ] in
           let one : piece_len (c ∷ x) ≡ suc (piece_len x) = rw apart (omega arith) in
-          let long : length (c ∷ x) ≡ length path - prefix_len is_slash path = ap length all ∙ length-drop (prefix_len is_slash path) path in
+          let long : length (c ∷ x) ≡ length path - prefix_len is_slash path = ap length all
+          ∙ length-drop (prefix_len is_slash path) path in
           let shorter : length rest < length (c ∷ x) = let cut = ap length back ∙ length-drop (piece_len (c ∷ x)) (c ∷ x) in omega arith in
           let left : 0 < length (drop (prefix_len is_slash path) path) = subst (λ (y : List ℕ). 0 < length y) all some in
           record {
-            pieces = sym (skipped path) ∙ ap comps (sym all) ∙ comps_first c x apart ∙ ap (λ (y : List ℕ). y ∷ comps (drop (piece_len (c ∷ x)) (c ∷ x))) (sym front) ∙ ap (λ (y : List ℕ). piece ∷ comps y) (sym back);
+            pieces = sym (skipped path) ∙ ap comps (sym all) ∙ comps_first c x apart ∙ ap (λ (y : List ℕ). y
+                ∷ comps (drop (piece_len (c ∷ x)) (c ∷ x))) (sym front) ∙ ap (λ (y : List ℕ). piece ∷ comps y) (sym back);
             slash_end = slash_skipped path left ∙ ap slash (sym all) ∙ slash_behind (c ∷ x) ∙ ap slash (sym back);
-            goes_on = subst (λ (y : List ℕ). more (comps y) (slash y) ≡ nat_lt 0 (length y)) (sym back) (more_behind (drop (piece_len (c ∷ x)) (c ∷ x)) (ends_there (c ∷ x)));
+            goes_on = subst (λ (y : List ℕ). more (comps y) (slash y) ≡ nat_lt 0 (length y)) (sym back)
+                (more_behind (drop (piece_len (c ∷ x)) (c ∷ x)) (ends_there (c ∷ x)));
             shorter = omega arith;
             behind = suffix_back (prefix_len is_slash path) (piece_len (c ∷ x)) path rest (back ∙ ap (drop (piece_len (c ∷ x))) all);
             begins = subst Ends (sym back) (ends_there (c ∷ x));

@@ -27,7 +27,8 @@ tree_maps = record {
 }
 
 pub directories_say : DirectoriesSay
-directories_say m d head within is = record { formed = is_formed m d within head is; names = names_are m d within head is; longest = limit m d within head is }
+directories_say m d head within is =
+    record { formed = is_formed m d within head is; names = names_are m d within head is; longest = limit m d within head is }
 
 pub chain_says : ChainSays
 chain_says = in_directory

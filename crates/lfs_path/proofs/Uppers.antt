@@ -1,5 +1,6 @@
 -- The one directory that names a directory is the one above it.
-use Rattle.std.proofs.Common.{◌≡◌, ◌≢◌, refl, sym, ap, subst, ◌∙◌, ℕ, ◌+◌, ◌≤◌, Bool, true, false, ◌||◌, List, [], ◌∷◌, Option, Some, None, arith, cond, eqb}
+use Rattle.std.proofs.Common.{◌≡◌, ◌≢◌, refl, sym, ap, subst, ◌∙◌, ℕ, ◌+◌, ◌≤◌, Bool, true, false, ◌||◌, List, [], ◌∷◌, Option, Some, None}
+use Rattle.std.proofs.Common.{arith, cond, eqb}
 use Rattle.std.specs.Prelude.{T, count_by, unwrap_or, option_map, if◌then◌else◌, ◌==◌, find as first_that}
 use Rattle.std.specs.List.{list_any}
 use Rattle.std.proofs.lemmas.Bool.{eq-eqb}
@@ -17,17 +18,19 @@ any_gives : (n : ℕ) (m : Names) → list_any (λ x. x.1 == n) m ≡ true → 1
 any_gives n [] h = cc
 any_gives n (e ∷ es) h =
     let all = sum_by-cons (λ (x : List ℕ × ℕ). cond (x.1 == n) 1 0) e es in
-    elim (e.1 == n) as (λ b. (b || list_any (λ x. x.1 == n) es) ≡ true → (if b then 1 else 0) + count_by (λ x. x.1 == n) es ≡ count_by (λ x. x.1 == n) (e ∷ es) → 1 ≤ count_by (λ x. x.1 == n) (e ∷ es)) [
+    elim (e.1 == n) as (λ b. (b || list_any (λ x. x.1 == n) es) ≡ true
+    → (if b then 1 else 0) + count_by (λ x. x.1 == n) es ≡ count_by (λ x. x.1 == n) (e ∷ es) → 1 ≤ count_by (λ x. x.1 == n) (e ∷ es)) [
       | true ↦ λ h sum. omega arith
       | false ↦ λ h sum. let rest = any_gives n es h in omega arith
     ] h (sym all)
 
 gives_any : (n : ℕ) (x : List ℕ) (m : Names) → find byte_cmp x m ≡ Some n → list_any (λ e. e.1 == n) m ≡ true
 gives_any n x [] h = cc
-gives_any n x (e ∷ es) h = elim (is_eq (byte_cmp x e.0)) as (λ b. cond b (Some e.1) (find byte_cmp x es) ≡ Some n → (e.1 == n || list_any (λ e. e.1 == n) es) ≡ true) [
-  | true ↦ λ h. let at : e.1 ≡ n = cc in let one : (e.1 == n) ≡ true = eq-eqb e.1 n at in rw one refl
-  | false ↦ λ h. elim (e.1 == n) as (λ b. (b || list_any (λ e. e.1 == n) es) ≡ true) [ true ↦ refl | false ↦ gives_any n x es h ]
-] h
+gives_any n x (e ∷ es) h = elim (is_eq (byte_cmp x e.0))
+    as (λ b. cond b (Some e.1) (find byte_cmp x es) ≡ Some n → (e.1 == n || list_any (λ e. e.1 == n) es) ≡ true) [
+      | true ↦ λ h. let at : e.1 ≡ n = cc in let one : (e.1 == n) ≡ true = eq-eqb e.1 n at in rw one refl
+      | false ↦ λ h. elim (e.1 == n) as (λ b. (b || list_any (λ e. e.1 == n) es) ≡ true) [ true ↦ refl | false ↦ gives_any n x es h ]
+    ] h
 
 none_gives : (p : Node → Bool) (k : ℕ) (x : Node) (t : Tree) → first_that (λ e. p e.1) t ≡ None → find nat_cmp k t ≡ Some x → p x ≡ false
 none_gives p k x [] none h = cc
@@ -57,13 +60,15 @@ module _ (t : Tree) (in_order : T (is_sorted nat_cmp t)) where
           given = gives_any n x (names_of y) e
 
           by : (o : Option (ℕ × Node)) → first_that (that_gives n) t ≡ o → unwrap_or (option_map (λ e. e.0) o) 1 ≡ d
-          by None none = let never : list_any (λ e. e.1 == n) (names_of y) ≡ false = none_gives (λ y. list_any (λ x. x.1 == n) (names_of y)) d y t none is in let yes_is = given in cc
+          by None none = let never : list_any (λ e. e.1 == n) (names_of y) ≡ false =
+              none_gives (λ y. list_any (λ x. x.1 == n) (names_of y)) d y t none is in let yes_is = given in cc
           by (Some f) found = same_or_not f.0 d (λ same. same) (λ apart. absurd (
               let first = first_found nat_cmp_total (λ x. 0) (that_gives n) t f in_order found in
               let left = total_without nat_cmp_total (gives n) d t in_order in
               let here : weight nat_cmp_total (gives n) (node t d) ≡ gives n y = ap (weight nat_cmp_total (gives n)) is in
               let two = any_gives n (names_of y) given in
-              let still : find nat_cmp f.0 (without nat_cmp d t) ≡ Some f.1 = find_without nat_cmp_total d f.0 t ∙ ap (λ b. cond b None (find nat_cmp f.0 t)) (cmp_other f.0 d apart) ∙ first.1 in
+              let still : find nat_cmp f.0 (without nat_cmp d t) ≡ Some f.1 = find_without nat_cmp_total d f.0 t
+              ∙ ap (λ b. cond b None (find nat_cmp f.0 t)) (cmp_other f.0 d apart) ∙ first.1 in
               let more = weight-le-total nat_cmp_total (gives n) f.0 f.1 (without nat_cmp d t) still in
               let three = any_gives n (names_of f.1) first.0 in
               omega (arith, left, here, two, more, three, one)))

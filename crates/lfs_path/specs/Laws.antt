@@ -5,7 +5,8 @@ use Rattle.lfs_model.specs.Entry.{Header}
 use Rattle.lfs_model.specs.Objects.{IsDirectory, IsHeaderOf}
 use Rattle.lfs_model.specs.Sound.{NamesGive, Sound}
 use Rattle.lfs_model.specs.Stands.{LogMap}
-use Rattle.lfs_model.specs.Tree.{File, Dir, State, Tree, names, is_dir, name_len, name_limit, names_in, node, with_name, with_node, without, without_name}
+use Rattle.lfs_model.specs.Tree.{File, Dir, State, Tree, names, is_dir, name_len, name_limit, names_in, node, with_name, with_node, without}
+use Rattle.lfs_model.specs.Tree.{without_name}
 use Rattle.lfs_model.specs.TreeOf.{AreFormed, IsTree, tree_in}
 use Rattle.lfs_model.specs.Step.{last_dots, name, no_last}
 use Rattle.lfs_files.specs.declared.header.Header.{Header as HeaderValue}
@@ -29,8 +30,10 @@ LastSays = (path : List ℕ) (last : Option Last) → HasLast path last → Says
 
 -- A log map of a sound tree, with what a volume's log map keeps, is one that is walked; and so is one that a mount takes.
 pub record TreeMaps : Type 0 where
-  pub sound : (N : ℕ) (s : State) (m : LogMap) → Sound N s → s.tree ≡ tree_in m → ((n : ℕ) (h : Header) → m.header n ≡ Some h → IsHeaderOf n h) → AreFormed m → HasTree m
-  pub mounted : (N : ℕ) (m : LogMap) → IsTree N m → ((n : ℕ) (h : Header) → m.header n ≡ Some h → IsHeaderOf n h) → is_dir (node (tree_in m) 1) ≡ true → HasTree m
+  pub sound : (N : ℕ) (s : State) (m : LogMap) → Sound N s → s.tree ≡ tree_in m
+      → ((n : ℕ) (h : Header) → m.header n ≡ Some h → IsHeaderOf n h) → AreFormed m → HasTree m
+  pub mounted : (N : ℕ) (m : LogMap) → IsTree N m → ((n : ℕ) (h : Header) → m.header n ≡ Some h → IsHeaderOf n h)
+      → is_dir (node (tree_in m) 1) ≡ true → HasTree m
 
 -- What a directory that is walked is.
 pub record DirectorySays (m : LogMap) (d : ℕ) (head : HeaderValue) : Type 0 where

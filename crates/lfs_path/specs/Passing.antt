@@ -44,7 +44,8 @@ abbrev pub IsStop : Bool → Bool → List ℕ → Met → Result Stop WalkFault
 IsStop slash_end follow rest (met.File n) (Ok (stop.Node x)) = (x ≡ n) × (is_left slash_end rest ≡ false)
 IsStop slash_end follow rest (met.File n) (Err NotDir) = is_left slash_end rest ≡ true
 IsStop slash_end follow rest (met.Symbolic l) (Ok (stop.Node x)) = (x ≡ l.number) × ((is_left slash_end rest || follow) ≡ false)
-IsStop slash_end follow rest (met.Symbolic l) (Ok (stop.Followed x text)) = (x ≡ l) × (text.now ≡ rest) × ((is_left slash_end rest || follow) ≡ true)
+IsStop slash_end follow rest (met.Symbolic l) (Ok (stop.Followed x text)) = (x ≡ l) × (text.now ≡ rest)
+    × ((is_left slash_end rest || follow) ≡ true)
 IsStop slash_end follow rest _ _ = ⊥
 
 -- a walk of a text from directory d with k links followed; the path may count as one with a slash end
@@ -60,14 +61,16 @@ pub record MeetsLink (slash_end follow : Bool) (d : ℕ) (text : List ℕ) (at :
   pub piece : List ℕ
   pub gives : Gives (tree_in m) at piece l.number.value (Link (text_of m l))
   pub goes : (more (comps rest) (slash_end || slash rest) || follow) ≡ true
-  pub walks : (k : ℕ) (e : End) → Walk (tree_in m) follow at (piece ∷ comps rest) (slash_end || slash rest) k e → WalksText slash_end follow d text k (tree_in m) e
+  pub walks : (k : ℕ) (e : End) → Walk (tree_in m) follow at (piece ∷ comps rest) (slash_end || slash rest) k e
+      → WalksText slash_end follow d text k (tree_in m) e
   pub begins : from_root rest ≡ nat_lt 0 (length rest)
   pub goes_on : more (comps rest) (slash rest) ≡ nat_lt 0 (length rest)
 
 abbrev pub StopsAt : Bool → Bool → List ℕ → List ℕ → List ℕ → Stop → LogMap → Type 0
 StopsAt slash_end follow chain text chain' stop.Directory m = EndsText slash_end follow (here chain) text (tree_in m) (At (here chain'))
 StopsAt slash_end follow chain text chain' (stop.Node n) m = EndsText slash_end follow (here chain) text (tree_in m) (At n.value)
-StopsAt slash_end follow chain text chain' (stop.Followed l rest) m = MeetsLink slash_end follow (here chain) text (here chain') l rest.now m
+StopsAt slash_end follow chain text chain' (stop.Followed l rest) m =
+    MeetsLink slash_end follow (here chain) text (here chain') l rest.now m
 
 -- Where the walk of a text stops, and at which directories.
 pub record StopsAtLink (slash_end follow : Bool) (chain text chain' : List ℕ) (x : Stop) (m : LogMap) : Type 0 where

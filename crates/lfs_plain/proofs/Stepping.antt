@@ -14,7 +14,8 @@ use Rattle.lfs_plain.specs.Ends.{step_end}
 some_not_none : (o : Option (model.Answer × State)) (r : model.Answer × State) → o ≡ Some r → o ≡ None → ⊥
 some_not_none o r x y = cc
 
-pub answered_steps : (N : ℕ) (s s' : State) (call : model.Call) (o : Option Answer) → NamesGive s.tree → IsAnswered (step_end N s call) o s s' → IsSomeAnd o (λ a. Step N s call (answer_of a) s')
+pub answered_steps : (N : ℕ) (s s' : State) (call : model.Call) (o : Option Answer) → NamesGive s.tree
+    → IsAnswered (step_end N s call) o s s' → IsSomeAnd o (λ a. Step N s call (answer_of a) s')
 unfolding step_end
 answered_steps N s s' call (Some a) whole h = step_to_steps N s call (answer_of a, s') h
 answered_steps N s s' call None whole h = let w = step_ends N s whole call in absurd (some_not_none _ _ (steps_once w.2) h.0)

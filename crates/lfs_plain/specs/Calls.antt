@@ -2,9 +2,12 @@
 use Rattle.std.specs.Prelude.{map}
 use Rattle.lfs_model.specs.Call as model
 use Rattle.lfs_plain.specs.declared.call.Call.{Call}
-use Rattle.lfs_plain.specs.declared.call.Call.TheVariants.{Open, Create, Close, Pread, Pwrite, Truncate, Mkdir, Link, Symlink, Readlink, Unlink, Rmdir, Rename, Stat as StatAt, Lstat, Readdir, Fsync, Sync, Clean, Space, Version, Upgrade, Widen, Tree}
+use Rattle.lfs_plain.specs.declared.call.Call.TheVariants.{Open, Create, Close, Pread, Pwrite, Truncate, Mkdir, Link, Symlink, Readlink}
+use Rattle.lfs_plain.specs.declared.call.Call.TheVariants.{Unlink, Rmdir, Rename, Stat as StatAt, Lstat, Readdir, Fsync, Sync, Clean, Space}
+use Rattle.lfs_plain.specs.declared.call.Call.TheVariants.{Version, Upgrade, Widen, Tree}
 use Rattle.lfs_plain.specs.declared.call.Answer.{Answer}
-use Rattle.lfs_plain.specs.declared.call.Answer.TheVariants.{Refuse, Done, Handle, Count, Data, Text, Status, Entries, Room, FormatVersion, Rows}
+use Rattle.lfs_plain.specs.declared.call.Answer.TheVariants.{Refuse, Done, Handle, Count, Data, Text, Status, Entries, Room, FormatVersion}
+use Rattle.lfs_plain.specs.declared.call.Answer.TheVariants.{Rows}
 use Rattle.lfs_plain.specs.declared.call.Stat.{Stat}
 use Rattle.lfs_plain.specs.declared.call.Entry.{Entry}
 use Rattle.lfs_plain.specs.declared.call.TreeRow.{TreeRow}

@@ -1,7 +1,9 @@
 -- What the refusals stand for.
 use Rattle.lfs_model.specs.Refusal as model
 use Rattle.lfs_plain.specs.declared.refusal.Refusal.{Refusal}
-use Rattle.lfs_plain.specs.declared.refusal.Refusal.TheVariants.{NoEntry, NotDir, IsDir, Exist, NotEmpty, Inval, NameTooLong, Loop, Perm, Busy, BadHandle, TooManyOpen, TooManyLinks, FileTooBig, NoSpace, NoNumber, DirFull}
+use Rattle.lfs_plain.specs.declared.refusal.Refusal.TheVariants.{NoEntry, NotDir, IsDir, Exist, NotEmpty, Inval, NameTooLong, Loop, Perm}
+use Rattle.lfs_plain.specs.declared.refusal.Refusal.TheVariants.{Busy, BadHandle, TooManyOpen, TooManyLinks, FileTooBig, NoSpace, NoNumber}
+use Rattle.lfs_plain.specs.declared.refusal.Refusal.TheVariants.{DirFull}
 
 abbrev pub refusal_of : Refusal → model.Refusal
 refusal_of NoEntry = model.NoEntry

@@ -6,30 +6,37 @@ use Rattle.lfs_model.specs.Tree.{State, Tree, Handles, File, Dir, Link, least, l
 use Rattle.lfs_model.specs.PathText.{slash}
 use Rattle.lfs_model.specs.Refusal.{Busy, Inval, NameTooLong, NoEntry, NotDir, IsDir, NotEmpty, DirFull, TooManyLinks}
 use Rattle.lfs_model.specs.Call.{Answer, Done, Handle, TreeRow}
-use Rattle.lfs_model.specs.Step.{checked, when, name, no_last, last_dots, is_long, is_there, gives_dir, is_full, is_within, new_entry, no_handle, no_number, no_space, with_new, with_tree, stat_of, head_of, the_node, let_go, target}
+use Rattle.lfs_model.specs.Step.{checked, when, name, no_last, last_dots, is_long, is_there, gives_dir, is_full, is_within, new_entry}
+use Rattle.lfs_model.specs.Step.{no_handle, no_number, no_space, with_new, with_tree, stat_of, head_of, the_node, let_go, target}
 
 -- create: no handle, no number or no room is left, or else the new file
 abbrev pub created : ℕ → State → List ℕ → ℕ → Answer × State
-created N s p d = checked s (no_handle s ∷ no_number s.tree ∷ no_space N (with_new s.tree d p (File [])) ∷ [])
-    (Handle (least_handle s.handles), record s { tree = with_new s.tree d p (File []); handles = put nat_cmp (least_handle s.handles) (least s.tree) s.handles })
+created N s p d = checked s (no_handle s ∷ no_number s.tree ∷ no_space N (with_new s.tree d p (File [])) ∷ []) (
+  Handle (least_handle s.handles),
+  record s { tree = with_new s.tree d p (File []); handles = put nat_cmp (least_handle s.handles) (least s.tree) s.handles },
+)
 
 -- mkdir
 abbrev pub dir_made : ℕ → State → List ℕ → ℕ → Answer × State
-dir_made N s p d = checked s (when (nat_le 1000 (links s.tree d)) TooManyLinks ∷ no_number s.tree ∷ no_space N (with_new s.tree d p (Dir (s.version - 1) [])) ∷ [])
+dir_made N s p d = checked s
+    (when (nat_le 1000 (links s.tree d)) TooManyLinks ∷ no_number s.tree ∷ no_space N (with_new s.tree d p (Dir (s.version - 1) [])) ∷ [])
     (Done, with_tree s (with_new s.tree d p (Dir (s.version - 1) [])))
 
 -- symlink
 abbrev pub link_made : ℕ → State → List ℕ → List ℕ → ℕ → Answer × State
-link_made N s text p d = checked s (no_number s.tree ∷ no_space N (with_new s.tree d p (Link text)) ∷ []) (Done, with_tree s (with_new s.tree d p (Link text)))
+link_made N s text p d =
+    checked s (no_number s.tree ∷ no_space N (with_new s.tree d p (Link text)) ∷ []) (Done, with_tree s (with_new s.tree d p (Link text)))
 
 -- link: a further name of node n in d
 abbrev pub named : ℕ → State → ℕ → List ℕ → ℕ → Answer × State
-named N s n p d = checked s (when (nat_le 1000 (links s.tree n)) TooManyLinks ∷ no_space N (with_name s.tree d (name p) n) ∷ []) (Done, with_tree s (with_name s.tree d (name p) n))
+named N s n p d = checked s (when (nat_le 1000 (links s.tree n)) TooManyLinks ∷ no_space N (with_name s.tree d (name p) n) ∷ [])
+    (Done, with_tree s (with_name s.tree d (name p) n))
 
 -- the same, with what refuses the name
 abbrev pub names_too : ℕ → State → ℕ → List ℕ → ℕ → Answer × State
 names_too N s n p d =
-    checked s (new_entry s.tree d p false ++ when (nat_le 1000 (links s.tree n)) TooManyLinks ∷ no_space N (with_name s.tree d (name p) n) ∷ []) (Done, with_tree s (with_name s.tree d (name p) n))
+    checked s (new_entry s.tree d p false ++ when (nat_le 1000 (links s.tree n)) TooManyLinks ∷ no_space N (with_name s.tree d (name p) n)
+    ∷ []) (Done, with_tree s (with_name s.tree d (name p) n))
 
 -- what refuses the two names of a rename
 abbrev pub rename_names : Tree → List ℕ → List ℕ → ℕ → ℕ → List (Bool × Answer)
@@ -62,12 +69,14 @@ rmdir_list t p d = when (no_last p) Busy ∷ when (last_dots p) Inval ∷ when (
 -- the tree after a rename: a's name is gone, b gives n, and what b gave before has lost a name
 abbrev pub rename_tree : Tree → Handles → List ℕ → List ℕ → ℕ → ℕ → Tree
 rename_tree t handles a b da db =
-    if is_there t db b then let_go (with_name (without_name t da (name a)) db (name b) (target t da a)) handles (target t db b) else with_name (without_name t da (name a)) db (name b) (target t da a)
+    if is_there t db b then let_go (with_name (without_name t da (name a)) db (name b) (target t da a)) handles (target t db b)
+    else with_name (without_name t da (name a)) db (name b) (target t da a)
 
 -- rename, where nothing refuses the names
 abbrev pub renamed : ℕ → State → List ℕ → List ℕ → ℕ → ℕ → Answer × State
 renamed N s a b da db = let t' = rename_tree s.tree s.handles a b da db in
-    checked s ((is_there s.tree db b && target s.tree da a == target s.tree db b, Done) ∷ rename_nodes s.tree a b da db (target s.tree da a) (target s.tree db b) ++ no_space N t' ∷ []) (Done, with_tree s t')
+    checked s ((is_there s.tree db b && target s.tree da a == target s.tree db b, Done)
+    ∷ rename_nodes s.tree a b da db (target s.tree da a) (target s.tree db b) ++ no_space N t' ∷ []) (Done, with_tree s t')
 
 -- rename, where the names aren't the same node's and nothing refuses the nodes
 abbrev pub moved : ℕ → State → List ℕ → List ℕ → ℕ → ℕ → Answer × State

@@ -1,5 +1,6 @@
 -- How many blocks of pointers an object has whose first blocks are all stored.
-use Rattle.std.proofs.Common.{◌≡◌, ◌<◌, ◌≤◌, ℕ, zero, suc, ◌+◌, ◌-◌, ◌*◌, Bool, true, false, List, [], ◌∷◌, refl, sym, ◌∙◌, ap, subst, nat_lt, cond, IsTrue, ◌↔◌, rules, arith}
+use Rattle.std.proofs.Common.{◌≡◌, ◌<◌, ◌≤◌, ℕ, zero, suc, ◌+◌, ◌-◌, ◌*◌, Bool, true, false, List, [], ◌∷◌, refl, sym, ◌∙◌, ap, subst}
+use Rattle.std.proofs.Common.{nat_lt, cond, IsTrue, ◌↔◌, rules, arith}
 use Rattle.std.proofs.lemmas.Bool.Decides.{nat_tests}
 use Rattle.std.specs.Prelude.{◌||◌, ◌&&◌, count_by, nat_le, min}
 use Rattle.std.specs.Int.{div_ceil}
@@ -19,8 +20,10 @@ at_most a b h = grind (arith, nat_tests)
 above : (a b : ℕ) → b < a → nat_le a b ≡ false
 above a b h = grind (arith, nat_tests)
 
--- a test that holds of no number before t, and of t, holds of some number of a range that begins d numbers before it exactly where the range is longer
-any_of : (p : ℕ → Bool) (s d n t : ℕ) → s + d ≡ t → ((i : ℕ) → i < t → p i ≡ false) → p t ≡ true → list_any p (range_with_len s n) ≡ nat_lt d n
+-- a test that holds of no number before t, and of t, holds of some number of
+-- a range that begins d numbers before it exactly where the range is longer
+any_of : (p : ℕ → Bool) (s d n t : ℕ) → s + d ≡ t → ((i : ℕ) → i < t → p i ≡ false) → p t ≡ true
+    → list_any p (range_with_len s n) ≡ nat_lt d n
 any_of p s d zero t same low at = sym (not_less d 0 (omega arith))
 any_of p s zero (suc n) t same low at =
     let is : t ≡ s = omega (arith, same) in
@@ -53,7 +56,8 @@ group k g = list_any (lies_in (240 + 128 * g) (368 + 128 * g)) (range_with_len 0
 group_is : (k g : ℕ) → group k g ≡ nat_lt (240 + 128 * g) k
 group_is k g = any_in (240 + 128 * g) (368 + 128 * g) k (omega arith)
 
-group_step : (b : Bool) (k d s n rest : ℕ) → k ≤ 240 + 128 * d → (0 < d → 112 + 128 * d < k) → b ≡ nat_lt (240 + 128 * s) k → rest ≡ min n (d - (s + 1)) → cond b 1 0 + rest ≡ min (suc n) (d - s)
+group_step : (b : Bool) (k d s n rest : ℕ) → k ≤ 240 + 128 * d → (0 < d → 112 + 128 * d < k) → b ≡ nat_lt (240 + 128 * s) k
+    → rest ≡ min n (d - (s + 1)) → cond b 1 0 + rest ≡ min (suc n) (d - s)
 group_step true k d s n rest up low is more =
     let past : 240 + 128 * s < k = grind (arith, nat_tests, is) in
     omega (arith, up, past, more)
@@ -87,18 +91,21 @@ pointers_are k d up low few =
 pub no_pointers : (k : ℕ) → k ≤ 112 → 0 ≡ pointers (range_with_len 0 k)
 no_pointers k low =
     sym (pointers_are k 0 (omega (arith, low)) (λ some. absurd (omega (arith, some))) (omega arith)
-    ∙ ap (λ (b : Bool). cond b 1 0 + 0 + cond (nat_lt 240 k) 1 0) (not_less 112 k low) ∙ ap (λ (b : Bool). 0 + cond b 1 0) (not_less 240 k (omega (arith, low))))
+    ∙ ap (λ (b : Bool). cond b 1 0 + 0 + cond (nat_lt 240 k) 1 0) (not_less 112 k low)
+    ∙ ap (λ (b : Bool). 0 + cond b 1 0) (not_less 240 k (omega (arith, low))))
 
 pub one_pointer : (k : ℕ) → 112 < k → k ≤ 240 → 1 ≡ pointers (range_with_len 0 k)
 one_pointer k low high =
     sym (pointers_are k 0 (omega (arith, high)) (λ some. absurd (omega (arith, some))) (omega arith)
-    ∙ ap (λ (b : Bool). cond b 1 0 + 0 + cond (nat_lt 240 k) 1 0) (less 112 k low) ∙ ap (λ (b : Bool). 1 + 0 + cond b 1 0) (not_less 240 k high))
+    ∙ ap (λ (b : Bool). cond b 1 0 + 0 + cond (nat_lt 240 k) 1 0) (less 112 k low)
+    ∙ ap (λ (b : Bool). 1 + 0 + cond b 1 0) (not_less 240 k high))
 
 pub more_pointers : (k : ℕ) → 240 < k → k ≤ 16624 → 2 + div_ceil (k - 112 - 128) 128 ≡ pointers (range_with_len 0 k)
 more_pointers k low high =
     let d = div_ceil (k - 112 - 128) 128 in
     sym (pointers_are k d (omega (arith, low)) (λ some. omega (arith, low)) (omega (arith, high))
-    ∙ ap (λ (b : Bool). cond b 1 0 + d + cond (nat_lt 240 k) 1 0) (less 112 k (omega (arith, low))) ∙ ap (λ (b : Bool). 1 + d + cond b 1 0) (less 240 k low) ∙ last d)
+    ∙ ap (λ (b : Bool). cond b 1 0 + d + cond (nat_lt 240 k) 1 0) (less 112 k (omega (arith, low)))
+    ∙ ap (λ (b : Bool). 1 + d + cond b 1 0) (less 240 k low) ∙ last d)
   where
     last : (d : ℕ) → 1 + d + 1 ≡ 2 + d
     last d = omega arith

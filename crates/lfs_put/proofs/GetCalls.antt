@@ -1,5 +1,6 @@
 -- The calls of a get, one after the other.
-use Rattle.std.proofs.Common.{◌≡◌, ◌<◌, ◌⊎◌, ℕ, zero, suc, ◌+◌, get_or, List, [], ◌∷◌, ◌++◌, All, Option, Result, Ok, Err, length, refl, sym, ◌∙◌, ap, subst, inl, inr, append_assoc, append-nil, length-append, arith}
+use Rattle.std.proofs.Common.{◌≡◌, ◌<◌, ◌⊎◌, ℕ, zero, suc, ◌+◌, get_or, List, [], ◌∷◌, ◌++◌, All, Option, Result, Ok, Err, length, refl}
+use Rattle.std.proofs.Common.{sym, ◌∙◌, ap, subst, inl, inr, append_assoc, append-nil, length-append, arith}
 use Rattle.std.specs.List.{AllByRecursion, concat}
 use Rattle.std.specs.Io.KnownBytes.{Appends}
 use Rattle.std.proofs.KnownBytes.{Appends-nil, Appends-trans}
@@ -32,7 +33,8 @@ at_start o = omega arith
 at_next : (o : ℕ) (bs cs : List ℕ) → (o + length bs) + length cs ≡ o + length (bs ++ cs)
 at_next o bs cs = let l = length-append bs cs in omega (arith, l)
 
-reads_more : (handle o : ℕ) (ps : List (List ℕ)) (p : List ℕ) → reads handle o (ps ++ p ∷ []) ≡ reads handle o ps ++ read_at handle p (o + length (concat ps))
+reads_more : (handle o : ℕ) (ps : List (List ℕ)) (p : List ℕ)
+    → reads handle o (ps ++ p ∷ []) ≡ reads handle o ps ++ read_at handle p (o + length (concat ps))
 reads_more handle o [] p = ap (read_at handle p) (at_start o)
 reads_more handle o (q ∷ ps) p =
     ap (λ (ms : List Made). made (Pread handle o PART) (Data q) ∷ ms)
@@ -62,15 +64,19 @@ module _ {D : Type 0} (state : D → DeviceState) where
   copying_none v handle w = record { pieces = []; served = refl; full = tt; sent = record { sent = Appends-nil w; counted = refl } }
 
   -- one piece more was read and sent
-  reads_one : (old mid new : Mounted D) (handle : ℕ) (w w' : Option (List ℕ)) (offset : ℕ) (so_far : CopyingOut old mid handle w w' offset) (piece : List ℕ)
-      → Serves state mid new (Pread handle offset PART) (Data piece) → ServesAll state old new (reads handle 0 (so_far.pieces ++ piece ∷ []))
+  reads_one : (old mid new : Mounted D) (handle : ℕ) (w w' : Option (List ℕ)) (offset : ℕ) (so_far : CopyingOut old mid handle w w' offset)
+      (piece : List ℕ)
+      → Serves state mid new (Pread handle offset PART) (Data piece)
+      → ServesAll state old new (reads handle 0 (so_far.pieces ++ piece ∷ []))
   reads_one old mid new handle w w' offset so_far piece serves =
       let at : offset ≡ 0 + length (concat so_far.pieces) = (let same = so_far.sent.counted in omega (arith, same)) in
       let last : ServesAll state mid new (read_at handle piece (0 + length (concat so_far.pieces))) =
       subst (λ (n : ℕ). ServesAll state mid new (read_at handle piece n)) at (new, serves, refl) in
-      subst (ServesAll state old new) (sym (reads_more handle 0 so_far.pieces piece)) (serves_append state old mid new (reads handle 0 so_far.pieces) _ so_far.served last)
+      subst (ServesAll state old new) (sym (reads_more handle 0 so_far.pieces piece))
+      (serves_append state old mid new (reads handle 0 so_far.pieces) _ so_far.served last)
 
-  sends_one : (w w' w'' : Option (List ℕ)) (pieces : List (List ℕ)) (piece : List ℕ) (offset end : ℕ) → HasSent w w' pieces offset → Appends w' w'' piece → end ≡ offset + length piece
+  sends_one : (w w' w'' : Option (List ℕ)) (pieces : List (List ℕ)) (piece : List ℕ) (offset end : ℕ) → HasSent w w' pieces offset
+      → Appends w' w'' piece → end ≡ offset + length piece
       → HasSent w w'' (pieces ++ piece ∷ []) end
   sends_one w w' w'' pieces piece offset end before more is = record {
     sent = subst (Appends w w'') (sym (bytes_more pieces piece)) (Appends-trans w w' w'' (concat pieces) piece before.sent more);
@@ -81,7 +87,8 @@ module _ {D : Type 0} (state : D → DeviceState) where
         omega (arith, same, is, l, m));
   }
 
-  pub copying_more : (old mid new : Mounted D) (handle : ℕ) (w w' w'' : Option (List ℕ)) (offset count end : ℕ) → CopyingOut old mid handle w w' offset
+  pub copying_more : (old mid new : Mounted D) (handle : ℕ) (w w' w'' : Option (List ℕ)) (offset count end : ℕ)
+      → CopyingOut old mid handle w w' offset
       → SendsPart state mid new handle offset w' w'' (Ok count) → end ≡ offset + count → count ≡ PART → CopyingOut old new handle w w'' end
   copying_more old mid new handle w w' w'' offset count end so_far (piece, serves, more, long) is full = record {
     pieces = so_far.pieces ++ piece ∷ [];
@@ -91,21 +98,30 @@ module _ {D : Type 0} (state : D → DeviceState) where
   }
 
   -- the last piece is shorter
-  pub copied_out : (old mid new : Mounted D) (handle : ℕ) (w w' w'' : Option (List ℕ)) (offset count end : ℕ) → CopyingOut old mid handle w w' offset
-      → SendsPart state mid new handle offset w' w'' (Ok count) → end ≡ offset + count → count < PART → CopiesOut state old new handle w w'' (Ok end)
+  pub copied_out : (old mid new : Mounted D) (handle : ℕ) (w w' w'' : Option (List ℕ)) (offset count end : ℕ)
+      → CopyingOut old mid handle w w' offset
+      → SendsPart state mid new handle offset w' w'' (Ok count) → end ≡ offset + count → count < PART
+      → CopiesOut state old new handle w w'' (Ok end)
   copied_out old mid new handle w w' w'' offset count end so_far (piece, serves, more, long) is short = record {
     calls = reads handle 0 (so_far.pieces ++ piece ∷ []);
     served = reads_one old mid new handle w w' offset so_far piece serves;
     outcome = (
       so_far.pieces ++ piece ∷ [],
       refl,
-      record { front = so_far.pieces; last = piece; order = refl; full = all_of (λ (p : List ℕ). length p ≡ PART) so_far.pieces so_far.full; short = subst (λ (n : ℕ). n < PART) long short },
+      record {
+        front = so_far.pieces;
+        last = piece;
+        order = refl;
+        full = all_of (λ (p : List ℕ). length p ≡ PART) so_far.pieces so_far.full;
+        short = subst (λ (n : ℕ). n < PART) long short;
+      },
       sends_one w w' w'' so_far.pieces piece offset end so_far.sent more (is ∙ ap (λ (n : ℕ). offset + n) long),
     );
   }
 
   -- a piece that is longer than was asked for
-  pub copy_breaks : (old mid new : Mounted D) (handle : ℕ) (w w' w'' : Option (List ℕ)) (offset count : ℕ) (refused : FsError) → CopyingOut old mid handle w w' offset
+  pub copy_breaks : (old mid new : Mounted D) (handle : ℕ) (w w' w'' : Option (List ℕ)) (offset count : ℕ) (refused : FsError)
+      → CopyingOut old mid handle w w' offset
       → SendsPart state mid new handle offset w' w'' (Ok count) → CopiesOut state old new handle w w'' (Err (why.CutShort refused))
   copy_breaks old mid new handle w w' w'' offset count refused so_far (piece, serves, more, long) = record {
     calls = reads handle 0 (so_far.pieces ++ piece ∷ []);
@@ -118,14 +134,16 @@ module _ {D : Type 0} (state : D → DeviceState) where
   }
 
   -- a refusal behind what was sent, as its number says
-  sends_behind : (w w' : Option (List ℕ)) (pieces : List (List ℕ)) (offset : ℕ) (refused : FsError) (fault : GetFault) → HasSent w w' pieces offset
+  sends_behind : (w w' : Option (List ℕ)) (pieces : List (List ℕ)) (offset : ℕ) (refused : FsError) (fault : GetFault)
+      → HasSent w w' pieces offset
       → (((fault ≡ why.Call refused) × (offset ≡ 0)) ⊎ (fault ≡ why.CutShort refused)) → SendsTo w w' pieces fault
   sends_behind w w' pieces offset refused fault sent (inl (is, none)) =
       subst (SendsTo w w' pieces) (sym is) (record { sent = sent.sent; counted = sym none ∙ sent.counted })
   sends_behind w w' pieces offset refused fault sent (inr is) = subst (SendsTo w w' pieces) (sym is) sent.sent
 
   -- no file is longer
-  pub copy_ends : (old new : Mounted D) (handle : ℕ) (w w' : Option (List ℕ)) (offset : ℕ) (refused : FsError) (fault : GetFault) → CopyingOut old new handle w w' offset
+  pub copy_ends : (old new : Mounted D) (handle : ℕ) (w w' : Option (List ℕ)) (offset : ℕ) (refused : FsError) (fault : GetFault)
+      → CopyingOut old new handle w w' offset
       → (((fault ≡ why.Call refused) × (offset ≡ 0)) ⊎ (fault ≡ why.CutShort refused)) → CopiesOut state old new handle w w' (Err fault)
   copy_ends old new handle w w' offset refused fault so_far is = record {
     calls = reads handle 0 so_far.pieces;
@@ -134,16 +152,20 @@ module _ {D : Type 0} (state : D → DeviceState) where
   }
 
   -- the calls of a read that was refused behind others
-  refused_read : (old mid new : Mounted D) (handle : ℕ) (w w' : Option (List ℕ)) (offset : ℕ) (refusal : Refusal) (so_far : CopyingOut old mid handle w w' offset)
+  refused_read : (old mid new : Mounted D) (handle : ℕ) (w w' : Option (List ℕ)) (offset : ℕ) (refusal : Refusal)
+      (so_far : CopyingOut old mid handle w w' offset)
       → Serves state mid new (Pread handle offset PART) (Refuse refusal)
-      → ServesAll state old new (reads handle 0 so_far.pieces ++ made (Pread handle (length (concat so_far.pieces)) PART) (Refuse refusal) ∷ [])
+      → ServesAll state old new
+      (reads handle 0 so_far.pieces ++ made (Pread handle (length (concat so_far.pieces)) PART) (Refuse refusal) ∷ [])
   refused_read old mid new handle w w' offset refusal so_far serves =
       let last : ServesAll state mid new (made (Pread handle (length (concat so_far.pieces)) PART) (Refuse refusal) ∷ []) =
-      subst (λ (n : ℕ). ServesAll state mid new (made (Pread handle n PART) (Refuse refusal) ∷ [])) so_far.sent.counted (new, serves, refl) in
+      subst (λ (n : ℕ). ServesAll state mid new (made (Pread handle n PART) (Refuse refusal) ∷ [])) so_far.sent.counted
+      (new, serves, refl) in
       serves_append state old mid new (reads handle 0 so_far.pieces) _ so_far.served last
 
   -- a read was refused, or the writer failed
-  pub copy_stops : (old mid new : Mounted D) (handle : ℕ) (w w' w'' : Option (List ℕ)) (offset : ℕ) (fault : GetFault) → CopyingOut old mid handle w w' offset
+  pub copy_stops : (old mid new : Mounted D) (handle : ℕ) (w w' w'' : Option (List ℕ)) (offset : ℕ) (fault : GetFault)
+      → CopyingOut old mid handle w w' offset
       → SendsPart state mid new handle offset w' w'' (Err fault) → CopiesOut state old new handle w w'' (Err fault)
   copy_stops old mid new handle w w' w'' offset (why.Call refused) so_far ((refusal, serves, same), none) = record {
     calls = reads handle 0 so_far.pieces ++ made (Pread handle (length (concat so_far.pieces)) PART) (Refuse refusal) ∷ [];
@@ -151,13 +173,20 @@ module _ {D : Type 0} (state : D → DeviceState) where
     outcome = (
       so_far.pieces,
       inr (refusal, refl),
-      record { sent = subst (λ (v : Option (List ℕ)). Appends w v (concat so_far.pieces)) (sym same) so_far.sent.sent; counted = sym none ∙ so_far.sent.counted },
+      record {
+        sent = subst (λ (v : Option (List ℕ)). Appends w v (concat so_far.pieces)) (sym same) so_far.sent.sent;
+        counted = sym none ∙ so_far.sent.counted;
+      },
     );
   }
   copy_stops old mid new handle w w' w'' offset (why.CutShort refused) so_far (refusal, serves, same) = record {
     calls = reads handle 0 so_far.pieces ++ made (Pread handle (length (concat so_far.pieces)) PART) (Refuse refusal) ∷ [];
     served = refused_read old mid new handle w w' offset refusal so_far serves;
-    outcome = (so_far.pieces, inr (refusal, refl), subst (λ (v : Option (List ℕ)). Appends w v (concat so_far.pieces)) (sym same) so_far.sent.sent);
+    outcome = (
+      so_far.pieces,
+      inr (refusal, refl),
+      subst (λ (v : Option (List ℕ)). Appends w v (concat so_far.pieces)) (sym same) so_far.sent.sent,
+    );
   }
   copy_stops old mid new handle w w' w'' offset why.Output so_far (piece, serves) = record {
     calls = reads handle 0 (so_far.pieces ++ piece ∷ []);
@@ -167,7 +196,8 @@ module _ {D : Type 0} (state : D → DeviceState) where
 
   -- ---- a whole get
 
-  pub not_opened : (a b : Mounted D) (path : List ℕ) (w : Option (List ℕ)) (refused : FsError) → Serves state a b (Open path) (Refuse (refusal_of refused))
+  pub not_opened : (a b : Mounted D) (path : List ℕ) (w : Option (List ℕ)) (refused : FsError)
+      → Serves state a b (Open path) (Refuse (refusal_of refused))
       → GetsFile state a b path w w (Err (why.Call refused))
   not_opened a b path w refused opens = record {
     calls = made (Open path) (Refuse (refusal_of refused)) ∷ [];
@@ -176,11 +206,15 @@ module _ {D : Type 0} (state : D → DeviceState) where
   }
 
   -- a file that is opened, and closed behind some calls
-  between : (a b c d : Mounted D) (path : List ℕ) (handle : ℕ) (calls : List Made) (closed : Answer) → Serves state a b (Open path) (Handle handle) → ServesAll state b c calls
-      → Serves state c d (Close handle) closed → ServesAll state a d (made (Open path) (Handle handle) ∷ (calls ++ made (Close handle) closed ∷ []))
-  between a b c d path handle calls closed opens copies closes = (b, opens, serves_append state b c d calls (made (Close handle) closed ∷ []) copies (d, closes, refl))
+  between : (a b c d : Mounted D) (path : List ℕ) (handle : ℕ) (calls : List Made) (closed : Answer)
+      → Serves state a b (Open path) (Handle handle) → ServesAll state b c calls
+      → Serves state c d (Close handle) closed
+      → ServesAll state a d (made (Open path) (Handle handle) ∷ (calls ++ made (Close handle) closed ∷ []))
+  between a b c d path handle calls closed opens copies closes =
+      (b, opens, serves_append state b c d calls (made (Close handle) closed ∷ []) copies (d, closes, refl))
 
-  pub cut_short : (a b c d : Mounted D) (path : List ℕ) (handle : ℕ) (w w' : Option (List ℕ)) (fault : GetFault) (closed : Answer) → Serves state a b (Open path) (Handle handle)
+  pub cut_short : (a b c d : Mounted D) (path : List ℕ) (handle : ℕ) (w w' : Option (List ℕ)) (fault : GetFault) (closed : Answer)
+      → Serves state a b (Open path) (Handle handle)
       → CopiesOut state b c handle w w' (Err fault) → Serves state c d (Close handle) closed → GetsFile state a d path w w' (Err fault)
   cut_short a b c d path handle w w' fault closed opens copies closes = record {
     calls = made (Open path) (Handle handle) ∷ (copies.calls ++ made (Close handle) closed ∷ []);
@@ -196,7 +230,8 @@ module _ {D : Type 0} (state : D → DeviceState) where
     });
   }
 
-  pub not_closed : (a b c d : Mounted D) (path : List ℕ) (handle : ℕ) (w w' : Option (List ℕ)) (count : ℕ) (refused : FsError) (fault : GetFault) (closed : Answer)
+  pub not_closed : (a b c d : Mounted D) (path : List ℕ) (handle : ℕ) (w w' : Option (List ℕ)) (count : ℕ) (refused : FsError)
+      (fault : GetFault) (closed : Answer)
       → Serves state a b (Open path) (Handle handle) → CopiesOut state b c handle w w' (Ok count) → Serves state c d (Close handle) closed
       → (((fault ≡ why.Call refused) × (count ≡ 0)) ⊎ (fault ≡ why.CutShort refused)) → GetsFile state a d path w w' (Err fault)
   not_closed a b c d path handle w w' count refused fault closed opens copies closes is = record {
@@ -213,7 +248,8 @@ module _ {D : Type 0} (state : D → DeviceState) where
     });
   }
 
-  pub got : (a b c d : Mounted D) (path : List ℕ) (handle : ℕ) (w w' : Option (List ℕ)) (count : ℕ) → Serves state a b (Open path) (Handle handle)
+  pub got : (a b c d : Mounted D) (path : List ℕ) (handle : ℕ) (w w' : Option (List ℕ)) (count : ℕ)
+      → Serves state a b (Open path) (Handle handle)
       → CopiesOut state b c handle w w' (Ok count) → Serves state c d (Close handle) Done → GetsFile state a d path w w' (Ok count)
   got a b c d path handle w w' count opens copies closes =
       let pieces = copies.outcome.0 in
@@ -226,5 +262,6 @@ module _ {D : Type 0} (state : D → DeviceState) where
 
   -- ---- a record of a result that is known
 
-  pub copies_of : (a b : Mounted D) (handle : ℕ) (w w' : Option (List ℕ)) (result is : Result ℕ GetFault) → result ≡ is → CopiesOut state a b handle w w' result → CopiesOut state a b handle w w' is
+  pub copies_of : (a b : Mounted D) (handle : ℕ) (w w' : Option (List ℕ)) (result is : Result ℕ GetFault) → result ≡ is
+      → CopiesOut state a b handle w w' result → CopiesOut state a b handle w w' is
   copies_of a b handle w w' result is same = subst (CopiesOut state a b handle w w') same

@@ -11,7 +11,8 @@ use Rattle.lfs_put.specs.Changing.{MakesInOrder, SavesBehind, all_done}
 
 module _ {D : Type 0} (state : D → DeviceState) where
   -- a call was done, and the sync behind it was made
-  synced : {X : Type 0} (a b c : Mounted D) (call : Call) (result : Result X FsError) → Serves state a b call Done → Serves state b c Sync (answer_by (λ done. Done) result)
+  synced : {X : Type 0} (a b c : Mounted D) (call : Call) (result : Result X FsError) → Serves state a b call Done
+      → Serves state b c Sync (answer_by (λ done. Done) result)
       → MakesInOrder state a c (call ∷ Sync ∷ []) result
   synced a b c call (Ok done) first last = record {
     calls = all_done (call ∷ Sync ∷ []);
@@ -25,14 +26,16 @@ module _ {D : Type 0} (state : D → DeviceState) where
   }
 
   -- a call was refused
-  refused : {X : Type 0} (a b : Mounted D) (call : Call) (fault : FsError) → Serves state a b call (Refuse (refusal_of fault)) → MakesInOrder state {X = X} a b (call ∷ Sync ∷ []) (Err fault)
+  refused : {X : Type 0} (a b : Mounted D) (call : Call) (fault : FsError) → Serves state a b call (Refuse (refusal_of fault))
+      → MakesInOrder state {X = X} a b (call ∷ Sync ∷ []) (Err fault)
   refused a b call fault first = record {
     calls = made call (Refuse (refusal_of fault)) ∷ [];
     served = (b, first, refl);
     outcome = record { before = []; refused = call; after = Sync ∷ []; order = refl; made = refl };
   }
 
-  pub saved : {X : Type 0} (a b c : Mounted D) (call : Call) (done result : Result X FsError) → Serves state a b call (answer_by (λ done. Done) done) → SavesBehind state b c done result
+  pub saved : {X : Type 0} (a b c : Mounted D) (call : Call) (done result : Result X FsError)
+      → Serves state a b call (answer_by (λ done. Done) done) → SavesBehind state b c done result
       → MakesInOrder state a c (call ∷ Sync ∷ []) result
   saved a b c call (Ok done) result first last = synced a b c call result first last
   saved {X} a b c call (Err fault) result first last =

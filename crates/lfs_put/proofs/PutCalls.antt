@@ -1,5 +1,6 @@
 -- The calls of a put, one after the other.
-use Rattle.std.proofs.Common.{◌≡◌, ℕ, ◌+◌, List, [], ◌∷◌, ◌++◌, Option, Result, Ok, Err, length, refl, sym, ◌∙◌, ap, subst, inl, inr, append_assoc, append-nil, length-append, arith}
+use Rattle.std.proofs.Common.{◌≡◌, ℕ, ◌+◌, List, [], ◌∷◌, ◌++◌, Option, Result, Ok, Err, length, refl, sym, ◌∙◌, ap, subst, inl, inr}
+use Rattle.std.proofs.Common.{append_assoc, append-nil, length-append, arith}
 use Rattle.std.specs.List.{AllByRecursion}
 use Rattle.std.specs.Io.KnownBytes.{Consumes, IsAtEnd}
 use Rattle.std.proofs.KnownBytes.{Consumes-nil, Consumes-trans}
@@ -10,7 +11,8 @@ use Rattle.lfs_fs.specs.Volume.{Mounted, Serves}
 use Rattle.lfs_put.specs.declared.putting.PutFault.{PutFault}
 use Rattle.lfs_put.proofs.CallLists.{serves_append}
 use Rattle.lfs_put.specs.Calls.{Asks, Made, ServesAll, made}
-use Rattle.lfs_put.specs.Putting.{Copies, GivesUp, HasRenamed, HasReplaced, IsBeside, MakesFile, Piece, PutsFile, RenamesFile, Replaces, SpareAll, SparesBy, bytes_of, making, renaming, writes}
+use Rattle.lfs_put.specs.Putting.{Copies, GivesUp, HasRenamed, HasReplaced, IsBeside, MakesFile, Piece, PutsFile, RenamesFile, Replaces}
+use Rattle.lfs_put.specs.Putting.{SpareAll, SparesBy, bytes_of, making, renaming, writes}
 
 -- ---- lists of calls
 
@@ -32,19 +34,24 @@ at_start o = omega arith
 at_next : (o : ℕ) (bs cs : List ℕ) → (o + length bs) + length cs ≡ o + length (bs ++ cs)
 at_next o bs cs = let l = length-append bs cs in omega (arith, l)
 
-writes_more : (handle o : ℕ) (ps : List Piece) (p : Piece) → writes handle o (ps ++ p ∷ []) ≡ writes handle o ps ++ written handle p (o + length (bytes_of ps))
+writes_more : (handle o : ℕ) (ps : List Piece) (p : Piece)
+    → writes handle o (ps ++ p ∷ []) ≡ writes handle o ps ++ written handle p (o + length (bytes_of ps))
 writes_more handle o [] p = ap (written handle p) (at_start o)
 writes_more handle o (q ∷ ps) p =
     ap (λ (ms : List Made). made (Pwrite handle o q.bytes) (Count q.count) ∷ ms)
-    (writes_more handle (o + length q.bytes) ps p ∙ ap (λ (n : ℕ). writes handle (o + length q.bytes) ps ++ written handle p n) (at_next o q.bytes (bytes_of ps)))
+    (writes_more handle (o + length q.bytes) ps p
+    ∙ ap (λ (n : ℕ). writes handle (o + length q.bytes) ps ++ written handle p n) (at_next o q.bytes (bytes_of ps)))
 
 writes_spare : (path beside : List ℕ) (handle o : ℕ) (ps : List Piece) → SpareAll path beside handle (writes handle o ps)
 writes_spare path beside handle o [] = tt
 writes_spare path beside handle o (p ∷ ps) = (refl, writes_spare path beside handle (o + length p.bytes) ps)
 
 making_spare : (path beside : List ℕ) (handle : ℕ) (ps : List Piece) → SpareAll path beside handle (making beside handle ps)
-making_spare path beside handle ps =
-    ((refl, inl refl), all_append (λ (m : Made). SparesBy path beside handle m.call m.answer) (writes handle 0 ps) (made (Close handle) Done ∷ []) (writes_spare path beside handle 0 ps) (refl, tt))
+making_spare path beside handle ps = (
+  (refl, inl refl),
+  all_append (λ (m : Made). SparesBy path beside handle m.call m.answer) (writes handle 0 ps)
+      (made (Close handle) Done ∷ []) (writes_spare path beside handle 0 ps) (refl, tt),
+)
 
 module _ {D : Type 0} (state : D → DeviceState) where
   -- ---- a copy
@@ -59,16 +66,21 @@ module _ {D : Type 0} (state : D → DeviceState) where
   pub copying_none : (v : Mounted D) (handle : ℕ) (r : Option (List ℕ)) → Copying v v handle r r 0
   copying_none v handle r = record { pieces = []; served = refl; read = Consumes-nil r; counted = refl }
 
-  pub copying_more : (old mid new : Mounted D) (handle : ℕ) (r left left' : Option (List ℕ)) (offset : ℕ) (bytes : List ℕ) (count end : ℕ) → Copying old mid handle r left offset
-      → Consumes left left' bytes → Serves state mid new (Pwrite handle offset bytes) (Count count) → end ≡ offset + length bytes → Copying old new handle r left' end
+  pub copying_more : (old mid new : Mounted D) (handle : ℕ) (r left left' : Option (List ℕ)) (offset : ℕ) (bytes : List ℕ) (count end : ℕ)
+      → Copying old mid handle r left offset
+      → Consumes left left' bytes → Serves state mid new (Pwrite handle offset bytes) (Count count) → end ≡ offset + length bytes
+      → Copying old new handle r left' end
   copying_more old mid new handle r left left' offset bytes count end so_far read serves is =
       let p : Piece = record { bytes = bytes; count = count } in
       let at : offset ≡ 0 + length (bytes_of so_far.pieces) = (let same = so_far.counted in omega (arith, same)) in
-      let last : ServesAll state mid new (written handle p (0 + length (bytes_of so_far.pieces))) = subst (λ (n : ℕ). ServesAll state mid new (written handle p n)) at (new, serves, refl) in
+      let last : ServesAll state mid new (written handle p (0 + length (bytes_of so_far.pieces))) =
+      subst (λ (n : ℕ). ServesAll state mid new (written handle p n)) at (new, serves, refl) in
       record {
         pieces = so_far.pieces ++ p ∷ [];
-        served = subst (ServesAll state old new) (sym (writes_more handle 0 so_far.pieces p)) (serves_append state old mid new (writes handle 0 so_far.pieces) _ so_far.served last);
-        read = subst (Consumes r left') (sym (bytes_more so_far.pieces p)) (Consumes-trans r left left' (bytes_of so_far.pieces) bytes so_far.read read);
+        served = subst (ServesAll state old new) (sym (writes_more handle 0 so_far.pieces p))
+            (serves_append state old mid new (writes handle 0 so_far.pieces) _ so_far.served last);
+        read = subst (Consumes r left') (sym (bytes_more so_far.pieces p))
+            (Consumes-trans r left left' (bytes_of so_far.pieces) bytes so_far.read read);
         counted = (
             let same = so_far.counted in
             let l = length-append (bytes_of so_far.pieces) bytes in
@@ -77,7 +89,8 @@ module _ {D : Type 0} (state : D → DeviceState) where
       }
 
   -- the reader is at its end
-  pub copied : (old new : Mounted D) (handle : ℕ) (r left left' : Option (List ℕ)) (offset : ℕ) → Copying old new handle r left offset → Consumes left left' [] → IsAtEnd left'
+  pub copied : (old new : Mounted D) (handle : ℕ) (r left left' : Option (List ℕ)) (offset : ℕ) → Copying old new handle r left offset
+      → Consumes left left' [] → IsAtEnd left'
       → Copies state old new handle r left' (Ok offset)
   copied old new handle r left left' offset so_far none end = record {
     calls = writes handle 0 so_far.pieces;
@@ -86,7 +99,8 @@ module _ {D : Type 0} (state : D → DeviceState) where
       so_far.pieces,
       refl,
       record {
-        read = subst (Consumes r left') (append-nil (bytes_of so_far.pieces)) (Consumes-trans r left left' (bytes_of so_far.pieces) [] so_far.read none);
+        read = subst (Consumes r left') (append-nil (bytes_of so_far.pieces))
+            (Consumes-trans r left left' (bytes_of so_far.pieces) [] so_far.read none);
         all = end;
         counted = so_far.counted;
       },
@@ -94,25 +108,30 @@ module _ {D : Type 0} (state : D → DeviceState) where
   }
 
   -- no further piece is read, or written
-  pub copy_ends : (old new : Mounted D) (handle : ℕ) (r left left' : Option (List ℕ)) (offset : ℕ) (fault : PutFault) → Copying old new handle r left offset → Copies state old new handle r left' (Err fault)
+  pub copy_ends : (old new : Mounted D) (handle : ℕ) (r left left' : Option (List ℕ)) (offset : ℕ) (fault : PutFault)
+      → Copying old new handle r left offset → Copies state old new handle r left' (Err fault)
   copy_ends old new handle r left left' offset fault so_far = record {
     calls = writes handle 0 so_far.pieces;
     served = so_far.served;
     outcome = λ path beside. writes_spare path beside handle 0 so_far.pieces;
   }
 
-  pub copy_refused : (old mid new : Mounted D) (handle : ℕ) (r left left' : Option (List ℕ)) (offset : ℕ) (bytes : List ℕ) (refusal : Refusal) (fault : PutFault) → Copying old mid handle r left offset
+  pub copy_refused : (old mid new : Mounted D) (handle : ℕ) (r left left' : Option (List ℕ)) (offset : ℕ) (bytes : List ℕ)
+      (refusal : Refusal) (fault : PutFault) → Copying old mid handle r left offset
       → Serves state mid new (Pwrite handle offset bytes) (Refuse refusal) → Copies state old new handle r left' (Err fault)
   copy_refused old mid new handle r left left' offset bytes refusal fault so_far serves = record {
     calls = writes handle 0 so_far.pieces ++ made (Pwrite handle offset bytes) (Refuse refusal) ∷ [];
-    served = serves_append state old mid new (writes handle 0 so_far.pieces) (made (Pwrite handle offset bytes) (Refuse refusal) ∷ []) so_far.served (new, serves, refl);
-    outcome = λ path beside. all_append (λ (m : Made). SparesBy path beside handle m.call m.answer) (writes handle 0 so_far.pieces) (made (Pwrite handle offset bytes) (Refuse refusal) ∷ [])
+    served = serves_append state old mid new (writes handle 0 so_far.pieces) (made (Pwrite handle offset bytes) (Refuse refusal) ∷ [])
+        so_far.served (new, serves, refl);
+    outcome = λ path beside. all_append (λ (m : Made). SparesBy path beside handle m.call m.answer) (writes handle 0 so_far.pieces)
+        (made (Pwrite handle offset bytes) (Refuse refusal) ∷ [])
         (writes_spare path beside handle 0 so_far.pieces) (refl, tt);
   }
 
   -- ---- a file
 
-  pub create_refused : (old new : Mounted D) (beside : List ℕ) (r r' : Option (List ℕ)) (refusal : Refusal) (fault : PutFault) → Serves state old new (Create beside) (Refuse refusal)
+  pub create_refused : (old new : Mounted D) (beside : List ℕ) (r r' : Option (List ℕ)) (refusal : Refusal) (fault : PutFault)
+      → Serves state old new (Create beside) (Refuse refusal)
       → MakesFile state old new beside r r' (Err fault)
   create_refused old new beside r r' refusal fault serves = record {
     handle = 0;
@@ -122,16 +141,22 @@ module _ {D : Type 0} (state : D → DeviceState) where
   }
 
   -- the calls between creation and closing
-  between : (a b c d : Mounted D) (beside : List ℕ) (handle : ℕ) (calls : List Made) (answer : Answer) → Serves state a b (Create beside) (Handle handle) → ServesAll state b c calls
-      → Serves state c d (Close handle) answer → ServesAll state a d (made (Create beside) (Handle handle) ∷ (calls ++ made (Close handle) answer ∷ []))
-  between a b c d beside handle calls answer creates copies closes = (b, creates, serves_append state b c d calls (made (Close handle) answer ∷ []) copies (d, closes, refl))
+  between : (a b c d : Mounted D) (beside : List ℕ) (handle : ℕ) (calls : List Made) (answer : Answer)
+      → Serves state a b (Create beside) (Handle handle) → ServesAll state b c calls
+      → Serves state c d (Close handle) answer
+      → ServesAll state a d (made (Create beside) (Handle handle) ∷ (calls ++ made (Close handle) answer ∷ []))
+  between a b c d beside handle calls answer creates copies closes =
+      (b, creates, serves_append state b c d calls (made (Close handle) answer ∷ []) copies (d, closes, refl))
 
   between_spare : (path beside : List ℕ) (handle : ℕ) (calls : List Made) (answer : Answer) → SpareAll path beside handle calls
       → SpareAll path beside handle (made (Create beside) (Handle handle) ∷ (calls ++ made (Close handle) answer ∷ []))
-  between_spare path beside handle calls answer spares =
-      ((refl, inl refl), all_append (λ (m : Made). SparesBy path beside handle m.call m.answer) calls (made (Close handle) answer ∷ []) spares (refl, tt))
+  between_spare path beside handle calls answer spares = (
+    (refl, inl refl),
+    all_append (λ (m : Made). SparesBy path beside handle m.call m.answer) calls (made (Close handle) answer ∷ []) spares (refl, tt),
+  )
 
-  pub file_made : (a b c d : Mounted D) (beside : List ℕ) (handle : ℕ) (r r' : Option (List ℕ)) (count : ℕ) → Serves state a b (Create beside) (Handle handle) → Copies state b c handle r r' (Ok count)
+  pub file_made : (a b c d : Mounted D) (beside : List ℕ) (handle : ℕ) (r r' : Option (List ℕ)) (count : ℕ)
+      → Serves state a b (Create beside) (Handle handle) → Copies state b c handle r r' (Ok count)
       → Serves state c d (Close handle) Done → MakesFile state a d beside r r' (Ok count)
   file_made a b c d beside handle r r' count creates copies closes =
       let pieces = copies.outcome.0 in
@@ -143,7 +168,8 @@ module _ {D : Type 0} (state : D → DeviceState) where
         outcome = (pieces, refl, copies.outcome.2);
       }
 
-  pub copy_failed : (a b c d : Mounted D) (beside : List ℕ) (handle : ℕ) (r r' : Option (List ℕ)) (fault : PutFault) (answer : Answer) → Serves state a b (Create beside) (Handle handle)
+  pub copy_failed : (a b c d : Mounted D) (beside : List ℕ) (handle : ℕ) (r r' : Option (List ℕ)) (fault : PutFault) (answer : Answer)
+      → Serves state a b (Create beside) (Handle handle)
       → Copies state b c handle r r' (Err fault) → Serves state c d (Close handle) answer → MakesFile state a d beside r r' (Err fault)
   copy_failed a b c d beside handle r r' fault answer creates copies closes = record {
     handle = handle;
@@ -152,7 +178,8 @@ module _ {D : Type 0} (state : D → DeviceState) where
     outcome = λ path. between_spare path beside handle copies.calls answer (copies.outcome path beside);
   }
 
-  pub close_refused : (a b c d : Mounted D) (beside : List ℕ) (handle : ℕ) (r r' : Option (List ℕ)) (count : ℕ) (fault : PutFault) (answer : Answer) → Serves state a b (Create beside) (Handle handle)
+  pub close_refused : (a b c d : Mounted D) (beside : List ℕ) (handle : ℕ) (r r' : Option (List ℕ)) (count : ℕ) (fault : PutFault)
+      (answer : Answer) → Serves state a b (Create beside) (Handle handle)
       → Copies state b c handle r r' (Ok count) → Serves state c d (Close handle) answer → MakesFile state a d beside r r' (Err fault)
   close_refused a b c d beside handle r r' count fault answer creates copies closes =
       let pieces = copies.outcome.0 in
@@ -166,7 +193,8 @@ module _ {D : Type 0} (state : D → DeviceState) where
 
   -- ---- its name
 
-  pub sync_refused : {X : Type 0} (a b : Mounted D) (beside path : List ℕ) (refusal : Refusal) (fault : PutFault) → Serves state a b Sync (Refuse refusal)
+  pub sync_refused : {X : Type 0} (a b : Mounted D) (beside path : List ℕ) (refusal : Refusal) (fault : PutFault)
+      → Serves state a b Sync (Refuse refusal)
       → RenamesFile state {X = X} a b beside path (Err fault)
   sync_refused a b beside path refusal fault syncs = record {
     calls = made Sync (Refuse refusal) ∷ [];
@@ -174,7 +202,8 @@ module _ {D : Type 0} (state : D → DeviceState) where
     outcome = inl (λ handle. (tt, tt));
   }
 
-  pub rename_refused : {X : Type 0} (a b c : Mounted D) (beside path : List ℕ) (refusal : Refusal) (fault : PutFault) → Serves state a b Sync Done
+  pub rename_refused : {X : Type 0} (a b c : Mounted D) (beside path : List ℕ) (refusal : Refusal) (fault : PutFault)
+      → Serves state a b Sync Done
       → Serves state b c (Rename beside path) (Refuse refusal) → RenamesFile state {X = X} a c beside path (Err fault)
   rename_refused a b c beside path refusal fault syncs renames = record {
     calls = made Sync Done ∷ made (Rename beside path) (Refuse refusal) ∷ [];
@@ -182,7 +211,8 @@ module _ {D : Type 0} (state : D → DeviceState) where
     outcome = inl (λ handle. (tt, ((refl, refl, refl), tt)));
   }
 
-  pub not_synced : {X : Type 0} (a b c d : Mounted D) (beside path : List ℕ) (refusal : Refusal) (fault : PutFault) → Serves state a b Sync Done → Serves state b c (Rename beside path) Done
+  pub not_synced : {X : Type 0} (a b c d : Mounted D) (beside path : List ℕ) (refusal : Refusal) (fault : PutFault)
+      → Serves state a b Sync Done → Serves state b c (Rename beside path) Done
       → Serves state c d Sync (Refuse refusal) → RenamesFile state {X = X} a d beside path (Err fault)
   not_synced a b c d beside path refusal fault syncs renames last = record {
     calls = renaming beside path (Refuse refusal);
@@ -190,7 +220,8 @@ module _ {D : Type 0} (state : D → DeviceState) where
     outcome = inr (refusal, refl);
   }
 
-  pub file_renamed : {X : Type 0} (a b c d : Mounted D) (beside path : List ℕ) (done : X) → Serves state a b Sync Done → Serves state b c (Rename beside path) Done → Serves state c d Sync Done
+  pub file_renamed : {X : Type 0} (a b c d : Mounted D) (beside path : List ℕ) (done : X) → Serves state a b Sync Done
+      → Serves state b c (Rename beside path) Done → Serves state c d Sync Done
       → RenamesFile state {X = X} a d beside path (Ok done)
   file_renamed a b c d beside path done syncs renames last = record {
     calls = renaming beside path Done;
@@ -200,7 +231,8 @@ module _ {D : Type 0} (state : D → DeviceState) where
 
   -- ---- the file under its name
 
-  pub not_made : (a b : Mounted D) (beside path : List ℕ) (r r' : Option (List ℕ)) (fault : PutFault) → MakesFile state a b beside r r' (Err fault) → Replaces state a b beside path r r' (Err fault)
+  pub not_made : (a b : Mounted D) (beside path : List ℕ) (r r' : Option (List ℕ)) (fault : PutFault)
+      → MakesFile state a b beside r r' (Err fault) → Replaces state a b beside path r r' (Err fault)
   not_made a b beside path r r' fault makes = record {
     handle = makes.handle;
     calls = makes.calls;
@@ -209,12 +241,15 @@ module _ {D : Type 0} (state : D → DeviceState) where
   }
 
   -- the calls of a file that was made, and those behind it
-  both : (a b c : Mounted D) (beside : List ℕ) (r r' : Option (List ℕ)) (count : ℕ) (calls : List Made) (makes : MakesFile state a b beside r r' (Ok count)) → ServesAll state b c calls
+  both : (a b c : Mounted D) (beside : List ℕ) (r r' : Option (List ℕ)) (count : ℕ) (calls : List Made)
+      (makes : MakesFile state a b beside r r' (Ok count)) → ServesAll state b c calls
       → ServesAll state a c (making beside makes.handle makes.outcome.0 ++ calls)
   both a b c beside r r' count calls makes more =
-      serves_append state a b c (making beside makes.handle makes.outcome.0) calls (subst (ServesAll state a b) makes.outcome.1 makes.served) more
+      serves_append state a b c (making beside makes.handle makes.outcome.0) calls
+      (subst (ServesAll state a b) makes.outcome.1 makes.served) more
 
-  pub replaced : {X : Type 0} (a b c : Mounted D) (beside path : List ℕ) (r r' : Option (List ℕ)) (count : ℕ) (done : X) → MakesFile state a b beside r r' (Ok count)
+  pub replaced : {X : Type 0} (a b c : Mounted D) (beside path : List ℕ) (r r' : Option (List ℕ)) (count : ℕ) (done : X)
+      → MakesFile state a b beside r r' (Ok count)
       → RenamesFile state {X = X} b c beside path (Ok done) → Replaces state a c beside path r r' (Ok count)
   replaced a b c beside path r r' count done makes renames = record {
     handle = makes.handle;
@@ -223,15 +258,18 @@ module _ {D : Type 0} (state : D → DeviceState) where
     outcome = (makes.outcome.0, refl, makes.outcome.2);
   }
 
-  not_renamed_by : (a b c : Mounted D) (beside path : List ℕ) (r r' : Option (List ℕ)) (count : ℕ) (fault : PutFault) (calls : List Made) → MakesFile state a b beside r r' (Ok count)
-      → ServesAll state b c calls → HasRenamed {X = Unit {0}} beside path calls (Err fault) → Replaces state a c beside path r r' (Err fault)
+  not_renamed_by : (a b c : Mounted D) (beside path : List ℕ) (r r' : Option (List ℕ)) (count : ℕ) (fault : PutFault) (calls : List Made)
+      → MakesFile state a b beside r r' (Ok count)
+      → ServesAll state b c calls → HasRenamed {X = Unit {0}} beside path calls (Err fault)
+      → Replaces state a c beside path r r' (Err fault)
   not_renamed_by a b c beside path r r' count fault calls makes more (inl spares) =
       let file = making beside makes.handle makes.outcome.0 in
       record {
         handle = makes.handle;
         calls = file ++ calls;
         served = both a b c beside r r' count calls makes more;
-        outcome = inl (all_append (λ (m : Made). SparesBy path beside makes.handle m.call m.answer) file calls (making_spare path beside makes.handle makes.outcome.0) (spares makes.handle));
+        outcome = inl (all_append (λ (m : Made). SparesBy path beside makes.handle m.call m.answer) file calls
+            (making_spare path beside makes.handle makes.outcome.0) (spares makes.handle));
       }
   not_renamed_by a b c beside path r r' count fault calls makes more (inr (refusal, order)) =
       let file = making beside makes.handle makes.outcome.0 in
@@ -245,28 +283,22 @@ module _ {D : Type 0} (state : D → DeviceState) where
           refusal = refusal;
           after = [];
           order = sym (append_assoc file (made Sync Done ∷ []) last);
-          spare_before = all_append (λ (m : Made). SparesBy path beside makes.handle m.call m.answer) file (made Sync Done ∷ []) (making_spare path beside makes.handle makes.outcome.0) (tt, tt);
+          spare_before = all_append (λ (m : Made). SparesBy path beside makes.handle m.call m.answer) file (made Sync Done ∷ [])
+              (making_spare path beside makes.handle makes.outcome.0) (tt, tt);
           spare_after = tt;
         });
       }
 
-  pub not_renamed : (a b c : Mounted D) (beside path : List ℕ) (r r' : Option (List ℕ)) (count : ℕ) (fault : PutFault) → MakesFile state a b beside r r' (Ok count)
+  pub not_renamed : (a b c : Mounted D) (beside path : List ℕ) (r r' : Option (List ℕ)) (count : ℕ) (fault : PutFault)
+      → MakesFile state a b beside r r' (Ok count)
       → RenamesFile state {X = Unit {0}} b c beside path (Err fault) → Replaces state a c beside path r r' (Err fault)
-  not_renamed a b c beside path r r' count fault makes renames = not_renamed_by a b c beside path r r' count fault renames.calls makes renames.served renames.outcome
+  not_renamed a b c beside path r r' count fault makes renames =
+      not_renamed_by a b c beside path r r' count fault renames.calls makes renames.served renames.outcome
 
   -- ---- a whole put
 
-  pub not_called : (a : Mounted D) (path : List ℕ) (r : Option (List ℕ)) (fault : PutFault) → PutsFile state a a path r r (Err fault)
-  not_called a path r fault = record {
-    beside = [];
-    handle = 0;
-    calls = [];
-    served = refl;
-    place = inl (refl, refl);
-    outcome = inl tt;
-  }
-
-  pub looked_alone : (a b : Mounted D) (path beside : List ℕ) (r : Option (List ℕ)) (fault : PutFault) → IsBeside path beside → Asks state a b (LstatOf path) → PutsFile state a b path r r (Err fault)
+  pub looked_alone : (a b : Mounted D) (path beside : List ℕ) (r : Option (List ℕ)) (fault : PutFault) → IsBeside path beside
+      → Asks state a b (LstatOf path) → PutsFile state a b path r r (Err fault)
   looked_alone a b path beside r fault is looks = record {
     beside = beside;
     handle = 0;
@@ -276,7 +308,8 @@ module _ {D : Type 0} (state : D → DeviceState) where
     outcome = inl (refl, tt);
   }
 
-  pub cleared_alone : (a b c : Mounted D) (path beside : List ℕ) (r : Option (List ℕ)) (fault : PutFault) → IsBeside path beside → Asks state a b (LstatOf path) → Asks state b c (Unlink beside)
+  pub cleared_alone : (a b c : Mounted D) (path beside : List ℕ) (r : Option (List ℕ)) (fault : PutFault) → IsBeside path beside
+      → Asks state a b (LstatOf path) → Asks state b c (Unlink beside)
       → PutsFile state a c path r r (Err fault)
   cleared_alone a b c path beside r fault is looks clears = record {
     beside = beside;
@@ -287,19 +320,23 @@ module _ {D : Type 0} (state : D → DeviceState) where
     outcome = inl (refl, (refl, tt));
   }
 
-  pub put_whole : (a b c d : Mounted D) (path beside : List ℕ) (r r' : Option (List ℕ)) (count : ℕ) → IsBeside path beside → Asks state a b (LstatOf path) → Asks state b c (Unlink beside)
+  pub put_whole : (a b c d : Mounted D) (path beside : List ℕ) (r r' : Option (List ℕ)) (count : ℕ) → IsBeside path beside
+      → Asks state a b (LstatOf path) → Asks state b c (Unlink beside)
       → Replaces state c d beside path r r' (Ok count) → PutsFile state a d path r r' (Ok count)
   put_whole a b c d path beside r r' count is looks clears replaces = record {
     beside = beside;
     handle = replaces.handle;
-    calls = made (LstatOf path) looks.0 ∷ made (Unlink beside) clears.0 ∷ (making beside replaces.handle replaces.outcome.0 ++ renaming beside path Done);
+    calls = made (LstatOf path) looks.0 ∷ made (Unlink beside) clears.0
+        ∷ (making beside replaces.handle replaces.outcome.0 ++ renaming beside path Done);
     served = (b, looks.1, (c, clears.1, subst (ServesAll state c d) replaces.outcome.1 replaces.served));
     place = inr is;
     outcome = (looks.0, clears.0, replaces.outcome.0, refl, replaces.outcome.2);
   }
 
-  given_up_by : (a b c d e : Mounted D) (path beside : List ℕ) (handle : ℕ) (r r' : Option (List ℕ)) (fault : PutFault) (calls : List Made) → IsBeside path beside → Asks state a b (LstatOf path)
-      → Asks state b c (Unlink beside) → ServesAll state c d calls → HasReplaced beside path handle r r' calls (Err fault) → GivesUp state d e beside → PutsFile state a e path r r' (Err fault)
+  given_up_by : (a b c d e : Mounted D) (path beside : List ℕ) (handle : ℕ) (r r' : Option (List ℕ)) (fault : PutFault) (calls : List Made)
+      → IsBeside path beside → Asks state a b (LstatOf path)
+      → Asks state b c (Unlink beside) → ServesAll state c d calls → HasReplaced beside path handle r r' calls (Err fault)
+      → GivesUp state d e beside → PutsFile state a e path r r' (Err fault)
   given_up_by a b c d e path beside handle r r' fault calls is looks clears replaces (inl spares) gives_up =
       let last = made (Unlink beside) gives_up.0 ∷ made Sync gives_up.1 ∷ [] in
       record {
@@ -308,7 +345,8 @@ module _ {D : Type 0} (state : D → DeviceState) where
         calls = made (LstatOf path) looks.0 ∷ made (Unlink beside) clears.0 ∷ (calls ++ last);
         served = (b, looks.1, (c, clears.1, serves_append state c d e calls last replaces gives_up.2));
         place = inr is;
-        outcome = inl (refl, (refl, all_append (λ (m : Made). SparesBy path beside handle m.call m.answer) calls last spares (refl, (tt, tt))));
+        outcome =
+            inl (refl, (refl, all_append (λ (m : Made). SparesBy path beside handle m.call m.answer) calls last spares (refl, (tt, tt))));
       }
   given_up_by a b c d e path beside handle r r' fault calls is looks clears replaces (inr unsynced) gives_up =
       let last = made (Unlink beside) gives_up.0 ∷ made Sync gives_up.1 ∷ [] in
@@ -326,28 +364,34 @@ module _ {D : Type 0} (state : D → DeviceState) where
           order = ap (λ (ms : List Made). made (LstatOf path) looks.0 ∷ made (Unlink beside) clears.0 ∷ ms)
               (ap (λ (ms : List Made). ms ++ last) unsynced.order ∙ append_assoc unsynced.before done last);
           spare_before = (refl, (refl, unsynced.spare_before));
-          spare_after = all_append (λ (m : Made). SparesBy path beside handle m.call m.answer) unsynced.after last unsynced.spare_after (refl, (tt, tt));
+          spare_after = all_append (λ (m : Made). SparesBy path beside handle m.call m.answer) unsynced.after last unsynced.spare_after
+              (refl, (tt, tt));
         });
       }
 
-  pub given_up : (a b c d e : Mounted D) (path beside : List ℕ) (r r' : Option (List ℕ)) (fault : PutFault) → IsBeside path beside → Asks state a b (LstatOf path) → Asks state b c (Unlink beside)
+  pub given_up : (a b c d e : Mounted D) (path beside : List ℕ) (r r' : Option (List ℕ)) (fault : PutFault) → IsBeside path beside
+      → Asks state a b (LstatOf path) → Asks state b c (Unlink beside)
       → Replaces state c d beside path r r' (Err fault) → GivesUp state d e beside → PutsFile state a e path r r' (Err fault)
   given_up a b c d e path beside r r' fault is looks clears replaces gives_up =
       given_up_by a b c d e path beside replaces.handle r r' fault replaces.calls is looks clears replaces.served replaces.outcome gives_up
 
   -- ---- a record of a result that is known
 
-  pub copies_of : (a b : Mounted D) (handle : ℕ) (r r' : Option (List ℕ)) (result is : Result ℕ PutFault) → result ≡ is → Copies state a b handle r r' result → Copies state a b handle r r' is
+  pub copies_of : (a b : Mounted D) (handle : ℕ) (r r' : Option (List ℕ)) (result is : Result ℕ PutFault) → result ≡ is
+      → Copies state a b handle r r' result → Copies state a b handle r r' is
   copies_of a b handle r r' result is same = subst (Copies state a b handle r r') same
 
-  pub makes_of : (a b : Mounted D) (beside : List ℕ) (r r' : Option (List ℕ)) (result is : Result ℕ PutFault) → result ≡ is → MakesFile state a b beside r r' result
+  pub makes_of : (a b : Mounted D) (beside : List ℕ) (r r' : Option (List ℕ)) (result is : Result ℕ PutFault) → result ≡ is
+      → MakesFile state a b beside r r' result
       → MakesFile state a b beside r r' is
   makes_of a b beside r r' result is same = subst (MakesFile state a b beside r r') same
 
-  pub renames_of : (a b : Mounted D) (beside path : List ℕ) (result is : Result (Unit {0}) PutFault) → result ≡ is → RenamesFile state {X = Unit {0}} a b beside path result
+  pub renames_of : (a b : Mounted D) (beside path : List ℕ) (result is : Result (Unit {0}) PutFault) → result ≡ is
+      → RenamesFile state {X = Unit {0}} a b beside path result
       → RenamesFile state {X = Unit {0}} a b beside path is
   renames_of a b beside path result is same = subst (RenamesFile state {X = Unit {0}} a b beside path) same
 
-  pub replaces_of : (a b : Mounted D) (beside path : List ℕ) (r r' : Option (List ℕ)) (result is : Result ℕ PutFault) → result ≡ is → Replaces state a b beside path r r' result
+  pub replaces_of : (a b : Mounted D) (beside path : List ℕ) (r r' : Option (List ℕ)) (result is : Result ℕ PutFault) → result ≡ is
+      → Replaces state a b beside path r r' result
       → Replaces state a b beside path r r' is
   replaces_of a b beside path r r' result is same = subst (Replaces state a b beside path r r') same

@@ -15,7 +15,8 @@ module _ {D : Type 0} (state : D → DeviceState) where
   }
 
   -- and what its directory is
-  pub looks_twice : (old mid new : Mounted D) (path above : List ℕ) → Asks state old mid (LstatOf path) → Asks state mid new (StatOf above) → OnlyLooks state old new
+  pub looks_twice : (old mid new : Mounted D) (path above : List ℕ) → Asks state old mid (LstatOf path) → Asks state mid new (StatOf above)
+      → OnlyLooks state old new
   looks_twice old mid new path above first second = record {
     calls = made (LstatOf path) first.0 ∷ made (StatOf above) second.0 ∷ [];
     served = (mid, first.1, (new, second.1, refl));

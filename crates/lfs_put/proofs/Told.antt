@@ -12,7 +12,8 @@ use Rattle.lfs_put.specs.declared.largest.TheConstants.{BLOCK, LAST_NUMBER, MOST
 use Rattle.lfs_put.specs.Largest.{IsLargest, TellsByTree, TellsLargest, telling}
 
 module _ {D : Type 0} (state : D → DeviceState) where
-  pub space_refused : (a b : Mounted D) (fault : FsError) → Serves state a b Space (Refuse (refusal_of fault)) → TellsLargest state a b (Err fault)
+  pub space_refused : (a b : Mounted D) (fault : FsError) → Serves state a b Space (Refuse (refusal_of fault))
+      → TellsLargest state a b (Err fault)
   space_refused a b fault first = record {
     calls = made Space (Refuse (refusal_of fault)) ∷ [];
     served = (b, first, refl);
@@ -20,15 +21,18 @@ module _ {D : Type 0} (state : D → DeviceState) where
   }
 
   -- the space, and what is told of the root
-  module _ (a b c : Mounted D) (data_blocks meta_blocks need limit : ℕ) (first : Serves state a b Space (Room data_blocks meta_blocks need limit)) where
-    pub root_refused : (fault : FsError) → Serves state b c (StatOf (codes "/")) (Refuse (refusal_of fault)) → TellsLargest state a c (Err fault)
+  module _ (a b c : Mounted D) (data_blocks meta_blocks need limit : ℕ)
+      (first : Serves state a b Space (Room data_blocks meta_blocks need limit)) where
+    pub root_refused : (fault : FsError) → Serves state b c (StatOf (codes "/")) (Refuse (refusal_of fault))
+        → TellsLargest state a c (Err fault)
     root_refused fault second = record {
       calls = made Space (Room data_blocks meta_blocks need limit) ∷ made (StatOf (codes "/")) (Refuse (refusal_of fault)) ∷ [];
       served = (b, first, (c, second, refl));
       outcome = (made Space (Room data_blocks meta_blocks need limit) ∷ [], StatOf (codes "/"), refl);
     }
 
-    pub root_full : (root : Stat) → Serves state b c (StatOf (codes "/")) (Status root) → MOST_ENTRIES ≤ root.size / SLOT → TellsLargest state a c (Ok 0)
+    pub root_full : (root : Stat) → Serves state b c (StatOf (codes "/")) (Status root) → MOST_ENTRIES ≤ root.size / SLOT
+        → TellsLargest state a c (Ok 0)
     root_full root second full = record {
       calls = telling data_blocks meta_blocks need limit root;
       served = (b, first, (c, second, refl));
@@ -44,7 +48,8 @@ module _ {D : Type 0} (state : D → DeviceState) where
       };
     }
 
-    pub fewer : (root : Stat) (blocks bytes : ℕ) → Serves state b c (StatOf (codes "/")) (Status root) → IsLargest need limit (root.size / SLOT) blocks → bytes ≡ BLOCK * blocks
+    pub fewer : (root : Stat) (blocks bytes : ℕ) → Serves state b c (StatOf (codes "/")) (Status root)
+        → IsLargest need limit (root.size / SLOT) blocks → bytes ≡ BLOCK * blocks
         → meta_blocks < LAST_NUMBER → TellsLargest state a c (Ok bytes)
     fewer root blocks bytes second largest is few = record {
       calls = telling data_blocks meta_blocks need limit root;
@@ -61,8 +66,10 @@ module _ {D : Type 0} (state : D → DeviceState) where
       };
     }
 
-    pub by_rows : (d : Mounted D) (root : Stat) (blocks bytes : ℕ) (result : Result ℕ FsError) → Serves state b c (StatOf (codes "/")) (Status root)
-        → IsLargest need limit (root.size / SLOT) blocks → bytes ≡ BLOCK * blocks → TellsByTree state c d bytes result → TellsLargest state a d result
+    pub by_rows : (d : Mounted D) (root : Stat) (blocks bytes : ℕ) (result : Result ℕ FsError)
+        → Serves state b c (StatOf (codes "/")) (Status root)
+        → IsLargest need limit (root.size / SLOT) blocks → bytes ≡ BLOCK * blocks → TellsByTree state c d bytes result
+        → TellsLargest state a d result
     by_rows d root blocks bytes (Ok told) second largest is (rows, third, inl (free, same)) = record {
       calls = telling data_blocks meta_blocks need limit root ++ made ListTree (Rows (map row_of rows)) ∷ [];
       served = (b, first, (c, second, (d, third, refl)));

@@ -1,4 +1,5 @@
--- Calls that are made in order up to the first that is refused, and what the commands that change a volume ask of it. The commands are own choices.
+-- Calls that are made in order up to the first that is refused, and what the
+-- commands that change a volume ask of it. The commands are own choices.
 use Rattle.std.specs.Prelude.{◌≡◌, ◌⊎◌, ◌<◌, ◌≤◌, ℕ, zero, suc, List, [], ◌∷◌, ◌++◌, Result, Ok, Err, map}
 use Rattle.lfs_model.specs.Call.{Answer, Call, Clean, Done, LstatOf, Refuse, Rmdir, Status, Sync, Unlink}
 use Rattle.lfs_model.specs.Device.{DeviceState}
@@ -50,7 +51,8 @@ module _ {D : Type 0} (state : D → DeviceState) where
   -- so many calls that clean were done, one after the other, each of them by one pass
   abbrev pub PassesOn : ℕ → Mounted D → Mounted D → Type 0
   PassesOn zero old new = new ≡ old
-  PassesOn (suc count) old new = (mid : Mounted D) × PassesOn count old mid × Serves state mid new Clean Done × CleansOnce state mid.log new.log
+  PassesOn (suc count) old new = (mid : Mounted D) × PassesOn count old mid × Serves state mid new Clean Done
+      × CleansOnce state mid.log new.log
 
   -- by a result: these calls were done, as many as are wanted or until a quarter of the segments was clean; or one behind fewer was refused
   abbrev pub EndsPasses : {X : Type 0} → ℕ → ℕ → Mounted D → Mounted D → Result X FsError → Type 0

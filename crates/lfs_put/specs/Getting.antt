@@ -36,7 +36,8 @@ abbrev pub ReadsTo : ℕ → List (List ℕ) → List Made → Type 0
 ReadsTo handle pieces calls = (calls ≡ reads handle 0 pieces)
     ⊎ ((refusal : Refusal) × (calls ≡ reads handle 0 pieces ++ made (Pread handle (length (concat pieces)) PART) (Refuse refusal) ∷ []))
 
--- by the fault: the writer was given the bytes of all pieces, which are none before a refusal that isn't cut short; or it failed, and nothing is said of it
+-- by the fault: the writer was given the bytes of all pieces, which are none
+-- before a refusal that isn't cut short; or it failed, and nothing is said of it
 abbrev pub SendsTo : Option (List ℕ) → Option (List ℕ) → List (List ℕ) → GetFault → Type 0
 SendsTo w w' pieces (why.Call refused) = HasSent w w' pieces 0
 SendsTo w w' pieces (why.CutShort refused) = Appends w w' (concat pieces)
@@ -44,7 +45,8 @@ SendsTo w w' pieces why.Output = Unit {0}
 
 -- by the result: the writer was given all bytes of an open file by these calls; or they end early
 abbrev pub HasCopiedOut : ℕ → Option (List ℕ) → Option (List ℕ) → List Made → Result ℕ GetFault → Type 0
-HasCopiedOut handle w w' calls (Ok count) = (pieces : List (List ℕ)) × (calls ≡ reads handle 0 pieces) × AreWhole pieces × HasSent w w' pieces count
+HasCopiedOut handle w w' calls (Ok count) = (pieces : List (List ℕ)) × (calls ≡ reads handle 0 pieces) × AreWhole pieces
+    × HasSent w w' pieces count
 HasCopiedOut handle w w' calls (Err fault) = (pieces : List (List ℕ)) × ReadsTo handle pieces calls × SendsTo w w' pieces fault
 
 -- the calls that read a file of these pieces
@@ -63,11 +65,13 @@ pub record EndsEarly (path : List ℕ) (w w' : Option (List ℕ)) (calls : List 
 
 -- the file wasn't opened, and the writer was given nothing
 abbrev pub IsNotOpened : List ℕ → Option (List ℕ) → Option (List ℕ) → List Made → GetFault → Type 0
-IsNotOpened path w w' calls fault = (refused : FsError) × (fault ≡ why.Call refused) × (calls ≡ made (Open path) (Refuse (refusal_of refused)) ∷ []) × (w' ≡ w)
+IsNotOpened path w w' calls fault = (refused : FsError) × (fault ≡ why.Call refused)
+    × (calls ≡ made (Open path) (Refuse (refusal_of refused)) ∷ []) × (w' ≡ w)
 
 -- by the result of a get: all reads of the file, in order, whose bytes the writer was given, and a close; or it ends early
 abbrev pub HasGot : List ℕ → Option (List ℕ) → Option (List ℕ) → List Made → Result ℕ GetFault → Type 0
-HasGot path w w' calls (Ok count) = (handle : ℕ) × (pieces : List (List ℕ)) × (calls ≡ getting path handle pieces) × AreWhole pieces × HasSent w w' pieces count
+HasGot path w w' calls (Ok count) = (handle : ℕ) × (pieces : List (List ℕ)) × (calls ≡ getting path handle pieces) × AreWhole pieces
+    × HasSent w w' pieces count
 HasGot path w w' calls (Err fault) = IsNotOpened path w w' calls fault ⊎ EndsEarly path w w' calls fault
 
 module _ {D : Type 0} (state : D → DeviceState) where
@@ -77,7 +81,8 @@ module _ {D : Type 0} (state : D → DeviceState) where
 
   -- by the result: a read of one piece, which the writer was given; or the read was refused; or the writer failed
   abbrev pub SendsPart : Mounted D → Mounted D → ℕ → ℕ → Option (List ℕ) → Option (List ℕ) → Result ℕ GetFault → Type 0
-  SendsPart old new handle offset w w' (Ok count) = (piece : List ℕ) × Serves state old new (Pread handle offset PART) (Data piece) × Appends w w' piece × (count ≡ length piece)
+  SendsPart old new handle offset w w' (Ok count) = (piece : List ℕ) × Serves state old new (Pread handle offset PART) (Data piece)
+      × Appends w w' piece × (count ≡ length piece)
   SendsPart old new handle offset w w' (Err (why.Call refused)) = ReadsNone old new handle offset w w' × (offset ≡ 0)
   SendsPart old new handle offset w w' (Err (why.CutShort refused)) = ReadsNone old new handle offset w w'
   SendsPart old new handle offset w w' (Err why.Output) = (piece : List ℕ) × Serves state old new (Pread handle offset PART) (Data piece)

@@ -13,7 +13,8 @@ use Rattle.lfs_fs.specs.declared.rows.TreeRow.{TreeRow}
 use Rattle.lfs_put.specs.Calls.{Made, ServesAll, made}
 use Rattle.lfs_put.specs.declared.largest.TheConstants.{BLOCK, LAST_NUMBER, MOST_BLOCKS, MOST_ENTRIES, SLOT}
 
--- what an object adds to the need whose first blocks, so many, have a nonzero byte each: these, and seven for its inode and for each block of pointers
+-- what an object adds to the need whose first blocks, so many, have a nonzero
+-- byte each: these, and seven for its inode and for each block of pointers
 abbrev pub cost_of_blocks : ℕ → ℕ
 cost_of_blocks blocks = blocks + 7 * (1 + pointers (range_with_len 0 blocks))
 
@@ -45,10 +46,11 @@ IsOneFree rows = (number : ℕ) × (1 < number) × (number ≤ LAST_NUMBER) × (
 
 -- the calls that tell the space and how many entries the root has
 abbrev pub telling : ℕ → ℕ → ℕ → ℕ → Stat → List Made
-telling data_blocks meta_blocks need limit root = made Space (Room data_blocks meta_blocks need limit) ∷ made (StatOf (codes "/")) (Status root) ∷ []
+telling data_blocks meta_blocks need limit root = made Space (Room data_blocks meta_blocks need limit)
+    ∷ made (StatOf (codes "/")) (Status root) ∷ []
 
--- The largest file's bytes, by what was told: none where the root is full, or where each number is taken; and there are fewer objects than numbers
--- where there are fewer inodes and blocks of pointers.
+-- The largest file's bytes, by what was told: none where the root is full, or where each number is
+-- taken; and there are fewer objects than numbers where there are fewer inodes and blocks of pointers.
 pub record IsToldLargest (calls : List Made) (bytes : ℕ) : Type 0 where
   pub data_blocks : ℕ
   pub meta_blocks : ℕ
@@ -60,7 +62,8 @@ pub record IsToldLargest (calls : List Made) (bytes : ℕ) : Type 0 where
   pub by : ((MOST_ENTRIES ≤ root.size / SLOT) × (bytes ≡ 0))
       ⊎ ((rows : List TreeRow) × (rest ≡ made ListTree (Rows (map row_of rows)) ∷ []) × AreAllTaken rows × (bytes ≡ 0))
       ⊎ ((blocks : ℕ) × IsLargest need limit (root.size / SLOT) blocks × (bytes ≡ BLOCK * blocks)
-      × (((rest ≡ []) × (meta_blocks < LAST_NUMBER)) ⊎ ((rows : List TreeRow) × (rest ≡ made ListTree (Rows (map row_of rows)) ∷ []) × IsOneFree rows)))
+      × (((rest ≡ []) × (meta_blocks < LAST_NUMBER))
+      ⊎ ((rows : List TreeRow) × (rest ≡ made ListTree (Rows (map row_of rows)) ∷ []) × IsOneFree rows)))
 
 -- by a result: the largest file's bytes, as told; or the last call was refused, for the result's reason
 abbrev pub HasTold : List Made → Result ℕ FsError → Type 0
@@ -74,7 +77,8 @@ AreFor rows bytes told = (IsOneFree rows × (told ≡ bytes)) ⊎ (AreAllTaken r
 module _ {D : Type 0} (state : D → DeviceState) where
   -- by a result: the tree was asked for, and its rows tell whether a number is free; or the call was refused
   abbrev pub TellsByTree : Mounted D → Mounted D → ℕ → Result ℕ FsError → Type 0
-  TellsByTree old new bytes (Ok told) = (rows : List TreeRow) × Serves state old new ListTree (Rows (map row_of rows)) × AreFor rows bytes told
+  TellsByTree old new bytes (Ok told) = (rows : List TreeRow) × Serves state old new ListTree (Rows (map row_of rows))
+      × AreFor rows bytes told
   TellsByTree old new bytes (Err fault) = Serves state old new ListTree (Refuse (refusal_of fault))
 
   -- Calls that change nothing, and what they tell of the largest new file.

@@ -86,16 +86,19 @@ HasMade beside handle r r' calls (Err fault) = (path : List ℕ) → SpareAll pa
 
 abbrev pub HasRenamed : {X : Type 0} → List ℕ → List ℕ → List Made → Result X PutFault → Type 0
 HasRenamed beside path calls (Ok done) = calls ≡ renaming beside path Done
-HasRenamed beside path calls (Err fault) = ((handle : ℕ) → SpareAll path beside handle calls) ⊎ ((refusal : Refusal) × (calls ≡ renaming beside path (Refuse refusal)))
+HasRenamed beside path calls (Err fault) = ((handle : ℕ) → SpareAll path beside handle calls)
+    ⊎ ((refusal : Refusal) × (calls ≡ renaming beside path (Refuse refusal)))
 
 abbrev pub HasReplaced : List ℕ → List ℕ → ℕ → Option (List ℕ) → Option (List ℕ) → List Made → Result ℕ PutFault → Type 0
-HasReplaced beside path handle r r' calls (Ok count) = (pieces : List Piece) × (calls ≡ making beside handle pieces ++ renaming beside path Done) × HasRead r r' pieces count
+HasReplaced beside path handle r r' calls (Ok count) = (pieces : List Piece)
+    × (calls ≡ making beside handle pieces ++ renaming beside path Done) × HasRead r r' pieces count
 HasReplaced beside path handle r r' calls (Err fault) = SpareAll path beside handle calls ⊎ IsUnsynced path beside handle calls
 
 -- by a put's result: the file is made, synced, renamed and synced; or what stands at the path is left, but where the last sync was refused
 abbrev pub HasPut : List ℕ → List ℕ → ℕ → Option (List ℕ) → Option (List ℕ) → List Made → Result ℕ PutFault → Type 0
 HasPut path beside handle r r' calls (Ok count) = (looked : Answer) × (cleared : Answer) × (pieces : List Piece)
-    × (calls ≡ made (LstatOf path) looked ∷ made (Unlink beside) cleared ∷ (making beside handle pieces ++ renaming beside path Done)) × HasRead r r' pieces count
+    × (calls ≡ made (LstatOf path) looked ∷ made (Unlink beside) cleared ∷ (making beside handle pieces ++ renaming beside path Done))
+    × HasRead r r' pieces count
 HasPut path beside handle r r' calls (Err fault) = SpareAll path beside handle calls ⊎ IsUnsynced path beside handle calls
 
 module _ {D : Type 0} (state : D → DeviceState) where
@@ -124,8 +127,8 @@ module _ {D : Type 0} (state : D → DeviceState) where
   abbrev pub GivesUp : Mounted D → Mounted D → List ℕ → Type 0
   GivesUp old new beside = (gone : Answer) × (synced : Answer) × ServesAll state old new (made (Unlink beside) gone ∷ made Sync synced ∷ [])
 
-  -- A put at a path: the calls that the volume serves, and what they come to by the result. Where the path is refused for its text, or memory is, none is
-  -- made and nothing read.
+  -- A put at a path: the calls that the volume serves, and what they come to by the result.
+  -- Where the path is refused for its text, or memory is, none is made and nothing read.
   pub record PutsFile (old new : Mounted D) (path : List ℕ) (r r' : Option (List ℕ)) (result : Result ℕ PutFault) : Type 0 where
     pub beside : List ℕ
     pub handle : ℕ

@@ -1,5 +1,6 @@
 -- Orders that a device is given, one after another.
-use Rattle.std.proofs.Common.{◌≡◌, ◌⊎◌, inl, inr, ℕ, ◌<◌, ◌≤◌, ◌+◌, List, [], ◌∷◌, ◌++◌, length, take, get_or, refl, sym, ◌∙◌, ap, subst, arith}
+use Rattle.std.proofs.Common.{◌≡◌, ◌⊎◌, inl, inr, ℕ, ◌<◌, ◌≤◌, ◌+◌, List, [], ◌∷◌, ◌++◌, length, take, get_or, refl, sym, ◌∙◌, ap, subst}
+use Rattle.std.proofs.Common.{arith}
 use Rattle.std.specs.Prelude.{Result, Ok, Err, OnErr}
 use Rattle.std.proofs.lemmas.List.{take_more, get_or_default}
 use Rattle.lfs_model.specs.Device.{Cell, DeviceState, Carries, Elapses, IsUntouched, CrashWrites, IsLawful, LeavesOnly, MayTell, Only, put}
@@ -9,25 +10,6 @@ use Rattle.lfs_model.proofs.Moments.{carries_none, carries_then, started, goes_o
 use Rattle.lfs_queue.specs.Orders.{onto, MayLeave, LeftSince, counts_left}
 use Rattle.lfs_queue.specs.Carrying.{IsWithin, IsAsTold, GoesOn, LeftBy, IsCarried, IsCarriedUpTo}
 use Rattle.lfs_queue.proofs.Queues.{told_at_end}
-
--- one order
-pub write_goes : (d e : DeviceState) (sector : ℕ) (bytes : List ℕ) → (e.keeps_model → e.content ≡ put d.content sector bytes) → CrashWrites sector bytes d e → GoesOn d e (Write sector bytes)
-write_goes d e sector bytes written crash keeps start told is = record {
-  content = written keeps ∙ ap (λ (c : List Cell). put c sector bytes) is.content;
-  left = λ c left. (let from = crash c left in (from.0, is.left from.0 from.1, from.2));
-}
-
-pub sync_goes : (d e : DeviceState) → (e.keeps_model → Only e.content e) → IsUntouched d e → GoesOn d e Sync
-sync_goes d e durable same keeps start told is = record {
-  content = same.content ∙ is.content;
-  left = λ c left. durable keeps c left ∙ same.content ∙ is.content;
-}
-
-pub write_leaves : (d e : DeviceState) (sector : ℕ) (bytes : List ℕ) → CrashWrites sector bytes d e → LeftBy d e (Write sector bytes)
-write_leaves d e sector bytes crash start told is c left = let from = crash c left in inl (from.0, is.left from.0 from.1, from.2)
-
-pub sync_leaves : (d e : DeviceState) → IsUntouched d e → LeftBy d e Sync
-sync_leaves d e same start told is c left = inr (is.left c (same.crash c left))
 
 -- a run of them
 longer : (orders told : List Order) → length told ≤ length (onto orders told)
@@ -40,10 +22,12 @@ carried_none d lawful = record {
   failures = refl;
   told = refl;
   as_told = λ keeps start told is. is;
-  moments = λ keeps start told is. started d (LeftSince start told (length told)) lawful (λ c left. counts_left start told (length told) c (omega arith) (is.left c left));
+  moments = λ keeps start told is. started d (LeftSince start told (length told)) lawful
+      (λ c left. counts_left start told (length told) c (omega arith) (is.left c left));
 }
 
-carried_more : (a b c : DeviceState) (orders : List Order) (order : Order) → IsCarried a b orders → Carries b c → Elapses b c → c.failures ≡ b.failures
+carried_more : (a b c : DeviceState) (orders : List Order) (order : Order) → IsCarried a b orders → Carries b c → Elapses b c
+    → c.failures ≡ b.failures
     → c.told ≡ order ∷ b.told → GoesOn b c order → IsCarried a c (orders ++ order ∷ [])
 carried_more a b c orders order one carries time fails told goes = record {
   carries = carries_then a b c one.carries carries;
@@ -55,18 +39,23 @@ carried_more a b c orders order one carries time fails told goes = record {
       (let now = goes keeps start (onto orders before) (one.as_told (carries.kept_before keeps) start before is) in
       subst (λ (l : List Order). LeavesOnly a c (LeftSince start l (length before))) (sym (told_at_end orders order before))
       (goes_on a b c (LeftSince start (order ∷ onto orders before) (length before))
-      (weaker a b (LeftSince start (onto orders before) (length before)) (LeftSince start (order ∷ onto orders before) (length before)) (λ x was. inr was)
+      (weaker a b (LeftSince start (onto orders before) (length before)) (LeftSince start (order ∷ onto orders before) (length before))
+      (λ x was. inr was)
       (one.moments (carries.kept_before keeps) start before is))
       carries time (λ x left. inl (let more = longer orders before in omega (arith, more), now.left x left))));
 }
 
-pub carried_next : (a b c : DeviceState) (orders : List Order) (i : ℕ) (o : Order) → i < length orders → IsCarried a b (take i orders) → Carries b c → Elapses b c
+pub carried_next : (a b c : DeviceState) (orders : List Order) (i : ℕ) (o : Order) → i < length orders → IsCarried a b (take i orders)
+    → Carries b c → Elapses b c
     → c.failures ≡ b.failures → c.told ≡ get_or orders i o ∷ b.told → GoesOn b c (get_or orders i o) → IsCarried a c (take (i + 1) orders)
 carried_next a b c orders i o lt one carries time fails told goes =
-    subst (λ (l : List Order). IsCarried a c l) (sym (take_more orders i o lt)) (carried_more a b c (take i orders) (get_or orders i o) one carries time fails told goes)
+    subst (λ (l : List Order). IsCarried a c l) (sym (take_more orders i o lt))
+    (carried_more a b c (take i orders) (get_or orders i o) one carries time fails told goes)
 
-pub within : (n n' : ℕ) (orders : List Order) (i : ℕ) (o : Order) → i < length orders → n' ≡ n → IsWithin n (get_or orders i Sync) → IsWithin n' (get_or orders i o)
-within n n' orders i o lt same is = subst (λ (size : ℕ). IsWithin size (get_or orders i o)) (sym same) (subst (λ (x : Order). IsWithin n x) (get_or_default orders i Sync o lt) is)
+pub within : (n n' : ℕ) (orders : List Order) (i : ℕ) (o : Order) → i < length orders → n' ≡ n → IsWithin n (get_or orders i Sync)
+    → IsWithin n' (get_or orders i o)
+within n n' orders i o lt same is = subst (λ (size : ℕ). IsWithin size (get_or orders i o)) (sym same)
+    (subst (λ (x : Order). IsWithin n x) (get_or_default orders i Sync o lt) is)
 
 -- the order that failed, behind those before it
 fails_since : (start : List Cell) (order : Order) (told before : List Order) (c : List Cell) → length before ≤ length told
@@ -74,7 +63,8 @@ fails_since : (start : List Cell) (order : Order) (told before : List Order) (c 
 fails_since start order told before c le (inl with') = inl (omega (arith, le), with')
 fails_since start order told before c le (inr without) = inr (counts_left start told (length before) c le without)
 
-pub carried_up_to : (a b c : DeviceState) (orders : List Order) (i : ℕ) → i < length orders → IsCarried a b (take i orders) → Carries b c → Elapses b c
+pub carried_up_to : (a b c : DeviceState) (orders : List Order) (i : ℕ) → i < length orders → IsCarried a b (take i orders) → Carries b c
+    → Elapses b c
     → b.failures < c.failures → MayTell (get_or orders i Sync) b.told c.told → LeftBy b c (get_or orders i Sync) → IsCarriedUpTo a c orders
 carried_up_to a b c orders i lt one carries time fails told left = record {
   mid = i;
@@ -88,14 +78,18 @@ carried_up_to a b c orders i lt one carries time fails told left = record {
       let mid = onto (take i orders) before in
       let was = carries.kept_before keeps in
       goes_on a b c (LeftSince start (last ∷ mid) (length before))
-      (weaker a b (LeftSince start mid (length before)) (LeftSince start (last ∷ mid) (length before)) (λ x then'. inr then') (one.moments was start before is))
+      (weaker a b (LeftSince start mid (length before)) (LeftSince start (last ∷ mid) (length before)) (λ x then'. inr then')
+      (one.moments was start before is))
       carries time
-      (λ x now. fails_since start last mid before x (longer (take i orders) before) (left start mid (one.as_told was start before is) x now)));
+      (λ x now.
+      fails_since start last mid before x (longer (take i orders) before) (left start mid (one.as_told was start before is) x now)));
 }
 
 -- the same for an order that the loop knows by another default
-pub failed_here : {T E : Type 0} (r : Result T E) (a b c : DeviceState) (orders : List Order) (i : ℕ) (o : Order) → i < length orders → IsCarried a b (take i orders) → Carries b c → Elapses b c
-    → b.failures < c.failures → MayTell (get_or orders i o) b.told c.told → LeftBy b c (get_or orders i o) → OnErr r (IsCarriedUpTo a c orders)
+pub failed_here : {T E : Type 0} (r : Result T E) (a b c : DeviceState) (orders : List Order) (i : ℕ) (o : Order) → i < length orders
+    → IsCarried a b (take i orders) → Carries b c → Elapses b c
+    → b.failures < c.failures → MayTell (get_or orders i o) b.told c.told → LeftBy b c (get_or orders i o)
+    → OnErr r (IsCarriedUpTo a c orders)
 failed_here (Ok x) a b c orders i o lt one carries time fails told left = tt
 failed_here (Err e) a b c orders i o lt one carries time fails told left =
     let same = sym (get_or_default orders i Sync o lt) in

@@ -12,7 +12,8 @@ length_onto [] told = omega arith
 length_onto (order ∷ queue) told = let rest = length_onto queue (order ∷ told) in omega (arith, rest)
 
 -- the count of what was carried out goes on
-pub counted_on : (queue told : List Order) (n : ℕ) → n ≡ as_told (length told) → as_told (n + length queue) ≡ as_told (length (onto queue told))
+pub counted_on : (queue told : List Order) (n : ℕ) → n ≡ as_told (length told)
+    → as_told (n + length queue) ≡ as_told (length (onto queue told))
 counted_on queue told n is = let all = length_onto queue told in omega (arith, is, all)
 
 begins_behind : (first told : List Order) (order : Order) → IsBeginning first told → IsBeginning first (order ∷ told)
@@ -58,18 +59,21 @@ begins_less order first (x ∷ told) (inl is) =
 begins_less order first (x ∷ told) (inr begins) = inr (begins_less order first told begins)
 
 -- one that waits has the number of what was carried out before, and of those that wait before it
-pub numbered : (queue : List Order) (i : ℕ) (x : Order) (told : List Order) → i < length queue → x ≡ slice_index_or queue i x → HasNumber (onto queue told) (length told + i) x
+pub numbered : (queue : List Order) (i : ℕ) (x : Order) (told : List Order) → i < length queue → x ≡ slice_index_or queue i x
+    → HasNumber (onto queue told) (length told + i) x
 numbered [] i x told lt is = absurd (omega (arith, lt))
 numbered (order ∷ queue) zero x told lt is = record {
   before = told;
   count = omega arith;
-  begins = begins_before queue (x ∷ told) (order ∷ told) (subst (λ (o : Order). IsBeginning (x ∷ told) (o ∷ told)) is (begins_whole (x ∷ told)));
+  begins = begins_before queue (x ∷ told) (order ∷ told)
+      (subst (λ (o : Order). IsBeginning (x ∷ told) (o ∷ told)) is (begins_whole (x ∷ told)));
 }
 numbered (order ∷ queue) (suc i) x told lt is =
     let rest = numbered queue i x (order ∷ told) (omega (arith, lt)) is in
     record { before = rest.before; count = (let same = rest.count in omega (arith, same)); begins = rest.begins }
 
-pub number_stays : (old new : List Order) (number : ℕ) (order : Order) → Grows old new → HasNumber old number order → HasNumber new number order
+pub number_stays : (old new : List Order) (number : ℕ) (order : Order) → Grows old new → HasNumber old number order
+    → HasNumber new number order
 number_stays old new number order grows has = record {
   before = has.before;
   count = has.count;
@@ -83,7 +87,8 @@ taken_on told [] first begins each = begins
 taken_on told (order ∷ taken) first begins each =
     let has = each 0 (omega arith) in
     let count = has.count in
-    let same : has.before ≡ first = begins_once has.before first told (begins_less order has.before told has.begins) begins (omega (arith, count)) in
+    let same : has.before ≡ first =
+    begins_once has.before first told (begins_less order has.before told has.begins) begins (omega (arith, count)) in
     let one : IsBeginning (order ∷ first) told = subst (λ (l : List Order). IsBeginning (order ∷ l) told) same has.begins in
     taken_on told taken (order ∷ first) one (λ i lt.
     let at : length first + suc i ≡ length (order ∷ first) + i = omega arith in
@@ -92,5 +97,7 @@ taken_on told (order ∷ taken) first begins each =
 from_none : (i : ℕ) → i ≡ length {A = Order} [] + i
 from_none i = omega arith
 
-pub taken_begin : (told taken : List Order) → ((i : ℕ) → i < length taken → HasNumber told i (get_or taken i Sync)) → IsBeginning (onto taken []) told
-taken_begin told taken each = taken_on told taken [] (begins_none told) (λ i lt. subst (λ (n : ℕ). HasNumber told n (get_or taken i Sync)) (from_none i) (each i lt))
+pub taken_begin : (told taken : List Order) → ((i : ℕ) → i < length taken → HasNumber told i (get_or taken i Sync))
+    → IsBeginning (onto taken []) told
+taken_begin told taken each =
+    taken_on told taken [] (begins_none told) (λ i lt. subst (λ (n : ℕ). HasNumber told n (get_or taken i Sync)) (from_none i) (each i lt))

@@ -17,7 +17,8 @@ pub record IsAsTold (start : List Cell) (told : List Order) (d : DeviceState) : 
 
 -- an order was carried out
 abbrev pub GoesOn : DeviceState → DeviceState → Order → Type 0
-GoesOn old new order = new.keeps_model → (start : List Cell) (told : List Order) → IsAsTold start told old → IsAsTold start (order ∷ told) new
+GoesOn old new order = new.keeps_model → (start : List Cell) (told : List Order) → IsAsTold start told old
+    → IsAsTold start (order ∷ told) new
 
 -- an order failed: a stop leaves what it lets it leave, or what the orders before do
 abbrev pub LeftBy : DeviceState → DeviceState → Order → Type 0

@@ -73,7 +73,8 @@ module _ (start : List Cell) where
 
   pub cells_after : AllByRecursion IsSector start → (told : List Order) → AreWhole told → AllByRecursion IsSector (content_after start told)
   cells_after starts [] whole = starts
-  cells_after starts (Write sector bytes ∷ told) whole = all_set IsSector (content_after start told) sector (Some bytes) whole.0 (cells_after starts told whole.1)
+  cells_after starts (Write sector bytes ∷ told) whole =
+      all_set IsSector (content_after start told) sector (Some bytes) whole.0 (cells_after starts told whole.1)
   cells_after starts (Sync ∷ told) whole = cells_after starts told whole
 
   sizes_left : (told : List Order) (c : List Cell) → MayLeave start told c → length c ≡ length start
@@ -81,9 +82,11 @@ module _ (start : List Cell) where
   sizes_left (Write sector bytes ∷ told) c left = size_written sector bytes left.0 c left.2 ∙ sizes_left told left.0 left.1
   sizes_left (Sync ∷ told) c left = ap (λ (l : List Cell). length l) left ∙ size_after told
 
-  cells_left : AllByRecursion IsSector start → (told : List Order) → AreWhole told → (c : List Cell) → MayLeave start told c → AllByRecursion IsSector c
+  cells_left : AllByRecursion IsSector start → (told : List Order) → AreWhole told → (c : List Cell) → MayLeave start told c
+      → AllByRecursion IsSector c
   cells_left starts [] whole c left = subst (AllByRecursion IsSector) (sym left) starts
-  cells_left starts (Write sector bytes ∷ told) whole c left = cells_written sector bytes left.0 c whole.0 (cells_left starts told whole.1 left.0 left.1) left.2
+  cells_left starts (Write sector bytes ∷ told) whole c left =
+      cells_written sector bytes left.0 c whole.0 (cells_left starts told whole.1 left.0 left.1) left.2
   cells_left starts (Sync ∷ told) whole c left = subst (AllByRecursion IsSector) (sym left) (cells_after starts told whole)
 
   pub present_left : (told : List Order) → MayLeave start told (content_after start told)
@@ -103,14 +106,16 @@ module _ (start : List Cell) where
   only_left : (told : List Order) (c : List Cell) → LeftSince start told (length told) c → MayLeave start told c
   only_left [] c left = left.1
   only_left (order ∷ told) c (inl here) = here.1
-  only_left (order ∷ told) c (inr there) = let late : length (order ∷ told) ≤ length told = ended told (length (order ∷ told)) c there in absurd (omega arith)
+  only_left (order ∷ told) c (inr there) = let late : length (order ∷ told) ≤ length told = ended told (length (order ∷ told)) c there in
+      absurd (omega arith)
 
   earlier_left : (told : List Order) (t u : ℕ) (c : List Cell) → t ≤ u → LeftSince start told u c → LeftSince start told t c
   earlier_left [] t u c le left = ((let was = left.0 in omega (arith, le, was)), left.1)
   earlier_left (order ∷ told) t u c le (inl now) = inl ((let was = now.0 in omega (arith, le, was)), now.1)
   earlier_left (order ∷ told) t u c le (inr then') = inr (earlier_left told t u c le then')
 
-pub queue_lawful : (n : ℕ) (start : List Cell) (told : List Order) (failures : ℕ) → n < 2 ^ 32 → length start ≡ n → AllByRecursion IsSector start → AreWhole told → IsLawful (queue_state_of n start told failures)
+pub queue_lawful : (n : ℕ) (start : List Cell) (told : List Order) (failures : ℕ) → n < 2 ^ 32 → length start ≡ n
+    → AllByRecursion IsSector start → AreWhole told → IsLawful (queue_state_of n start told failures)
 queue_lawful n start told failures fits sized starts whole = record {
   fits = fits;
   size = size_after start told ∙ sized;

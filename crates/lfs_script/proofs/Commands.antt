@@ -5,7 +5,9 @@ use Rattle.std.proofs.lemmas.Slice.Eq.{bytes_eq-Decides}
 use Rattle.std.specs.Str.{bytes_eq}
 use Rattle.lfs_script.specs.Command.{command_in, command_word}
 use Rattle.lfs_script.specs.declared.command.Command.{Command}
-use Rattle.lfs_script.specs.declared.command.Command.TheVariants.{Create, Open, Close, Pread, Pwrite, Fill, Truncate, Mkdir, Link, Symlink, Readlink, Unlink, Rmdir, Rename, Stat, Lstat, Readdir, Fsync, Sync, Clean, Space, Version, Upgrade, Widen, Tree}
+use Rattle.lfs_script.specs.declared.command.Command.TheVariants.{Create, Open, Close, Pread, Pwrite, Fill, Truncate, Mkdir, Link, Symlink}
+use Rattle.lfs_script.specs.declared.command.Command.TheVariants.{Readlink, Unlink, Rmdir, Rename, Stat, Lstat, Readdir, Fsync, Sync, Clean}
+use Rattle.lfs_script.specs.declared.command.Command.TheVariants.{Space, Version, Upgrade, Widen, Tree}
 
 -- each of these rows has its command's word
 abbrev pub AreNamed : List (Command × List ℕ) → Type 0
@@ -36,10 +38,68 @@ lacks_in (row ∷ rows) word none = ⊎_elim
 
 -- the rows of the table
 abbrev pub all_rows : List (Command × List ℕ)
-all_rows = (Create, codes "create") ∷ (Open, codes "open") ∷ (Close, codes "close") ∷ (Pread, codes "pread") ∷ (Pwrite, codes "pwrite") ∷ (Fill, codes "fill") ∷ (Truncate, codes "truncate") ∷ (Mkdir, codes "mkdir") ∷ (Link, codes "link") ∷ (Symlink, codes "symlink") ∷ (Readlink, codes "readlink") ∷ (Unlink, codes "unlink") ∷ (Rmdir, codes "rmdir") ∷ (Rename, codes "rename") ∷ (Stat, codes "stat") ∷ (Lstat, codes "lstat") ∷ (Readdir, codes "readdir") ∷ (Fsync, codes "fsync") ∷ (Sync, codes "sync") ∷ (Clean, codes "clean") ∷ (Space, codes "space") ∷ (Version, codes "version") ∷ (Upgrade, codes "upgrade") ∷ (Widen, codes "widen") ∷ (Tree, codes "tree") ∷ []
+all_rows = (Create, codes "create") ∷ (Open, codes "open") ∷ (Close, codes "close") ∷ (Pread, codes "pread") ∷ (Pwrite, codes "pwrite")
+    ∷ (Fill, codes "fill") ∷ (Truncate, codes "truncate") ∷ (Mkdir, codes "mkdir") ∷ (Link, codes "link") ∷ (Symlink, codes "symlink")
+    ∷ (Readlink, codes "readlink") ∷ (Unlink, codes "unlink") ∷ (Rmdir, codes "rmdir") ∷ (Rename, codes "rename") ∷ (Stat, codes "stat")
+    ∷ (Lstat, codes "lstat") ∷ (Readdir, codes "readdir") ∷ (Fsync, codes "fsync") ∷ (Sync, codes "sync") ∷ (Clean, codes "clean")
+    ∷ (Space, codes "space") ∷ (Version, codes "version") ∷ (Upgrade, codes "upgrade") ∷ (Widen, codes "widen") ∷ (Tree, codes "tree") ∷ []
 
 pub all_named : AreNamed all_rows
-all_named = (refl, (refl, (refl, (refl, (refl, (refl, (refl, (refl, (refl, (refl, (refl, (refl, (refl, (refl, (refl, (refl, (refl, (refl, (refl, (refl, (refl, (refl, (refl, (refl, (refl, tt)))))))))))))))))))))))))
+all_named = (
+  refl,
+  (
+    refl,
+    (
+      refl,
+      (
+        refl,
+        (
+          refl,
+          (
+            refl,
+            (
+              refl,
+              (
+                refl,
+                (
+                  refl,
+                  (
+                    refl,
+                    (
+                      refl,
+                      (
+                        refl,
+                        (
+                          refl,
+                          (
+                            refl,
+                            (
+                              refl,
+                              (
+                                refl,
+                                (
+                                  refl,
+                                  (
+                                    refl,
+                                    (refl, (refl, (refl, (refl, (refl, (refl, (refl, tt))))))),
+                                  ),
+                                ),
+                              ),
+                            ),
+                          ),
+                        ),
+                      ),
+                    ),
+                  ),
+                ),
+              ),
+            ),
+          ),
+        ),
+      ),
+    ),
+  ),
+)
 
 pub lacks_all : (word : List ℕ) → Lack word all_rows → (command : Command) → command_word command ≢ word
 lacks_all word h Create = h.0

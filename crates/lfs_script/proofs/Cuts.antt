@@ -1,5 +1,7 @@
 -- A text is cut at its spaces, and words that have none are found again.
-use Rattle.std.proofs.Common.{◌≡◌, ◌≢◌, ℕ, suc, ◌+◌, ◌<◌, ◌≤◌, true, false, not, ◌==◌, List, [], ◌∷◌, ◌++◌, Option, Some, None, IfSome, Result, Ok, Err, IfOk, is_some, IsTrue, option_copied, Bor, length, take, drop, refl, sym, ap, ◌∙◌, inl, inr, arith}
+use Rattle.std.proofs.Common.{◌≡◌, ◌≢◌, ℕ, suc, ◌+◌, ◌<◌, ◌≤◌, true, false, not, ◌==◌, List, [], ◌∷◌, ◌++◌, Option, Some, None, IfSome}
+use Rattle.std.proofs.Common.{Result, Ok, Err, IfOk, is_some, IsTrue, option_copied, Bor, length, take, drop, refl, sym, ap, ◌∙◌, inl, inr}
+use Rattle.std.proofs.Common.{arith}
 use Rattle.std.specs.List.{position, position_or_len}
 use Rattle.std.proofs.lemmas.Bool.{and_parts, cases_eq, cases_lt, eq-eqb, false≢true, lt-ltb, le-ltb}
 use Rattle.std.proofs.lemmas.Bool.Decides.{nat_tests}
@@ -83,12 +85,14 @@ cut_space c text h = rw (eq-eqb c 32 h) refl
 cut_byte : (c : ℕ) (text : List ℕ) → c ≢ 32 → cut (c ∷ text) ≡ onto c (cut text)
 cut_byte c text h = rw (solid_byte c h) refl
 
-take-past : (c : ℕ) (text : List ℕ) (p n : ℕ) → n ≡ suc p → (take n (c ∷ text) ≡ c ∷ take p text) × (drop (n + 1) (c ∷ text) ≡ drop (p + 1) text)
+take-past : (c : ℕ) (text : List ℕ) (p n : ℕ) → n ≡ suc p
+    → (take n (c ∷ text) ≡ c ∷ take p text) × (drop (n + 1) (c ∷ text) ≡ drop (p + 1) text)
 take-past c text p n e =
     let more : n + 1 ≡ suc (p + 1) = omega arith in
     (rw e refl, rw more refl)
 
-first_some : (text : List ℕ) → space_or_len text < length text → cut text ≡ take (space_or_len text) text ∷ cut (drop (space_or_len text + 1) text)
+first_some : (text : List ℕ) → space_or_len text < length text
+    → cut text ≡ take (space_or_len text) text ∷ cut (drop (space_or_len text + 1) text)
 first_some [] h = absurd (omega arith)
 first_some (c ∷ text) h = elim (cases_eq c 32) [
   | inl space ↦ rw (at_space c text space) (cut_space c text space)
@@ -96,7 +100,8 @@ first_some (c ∷ text) h = elim (cases_eq c 32) [
       let place = past_byte c text apart in
       let within : space_or_len text < length text = omega (arith, place, h) in
       let parts = take-past c text (space_or_len text) (space_or_len (c ∷ text)) place in
-      cut_byte c text apart ∙ ap (onto c) (first_some text within) ∙ sym (ap (λ w. w ∷ cut (drop (space_or_len (c ∷ text) + 1) (c ∷ text))) parts.0 ∙ ap (λ t. (c ∷ take (space_or_len text) text) ∷ cut t) parts.1)
+      cut_byte c text apart ∙ ap (onto c) (first_some text within) ∙ sym (ap (λ w. w ∷ cut (drop (space_or_len (c ∷ text) + 1) (c ∷ text)))
+      parts.0 ∙ ap (λ t. (c ∷ take (space_or_len text) text) ∷ cut t) parts.1)
 ]
 
 first_none : (text : List ℕ) → length text ≤ space_or_len text → cut text ≡ text ∷ []
@@ -108,7 +113,8 @@ first_none (c ∷ text) h = elim (cases_eq c 32) [
       cut_byte c text apart ∙ ap (onto c) (first_none text within)
 ]
 
-pub at_some : (text : List ℕ) (r : Option ℕ) → r ≡ position (λ b. b == 32) text → IfSome r (λ i. (i < length text) × (cut text ≡ take i text ∷ cut (drop (i + 1) text)))
+pub at_some : (text : List ℕ) (r : Option ℕ) → r ≡ position (λ b. b == 32) text
+    → IfSome r (λ i. (i < length text) × (cut text ≡ take i text ∷ cut (drop (i + 1) text)))
 at_some text None e = tt
 at_some text (Some i) e = elim (cases_lt (space_or_len text) (length text)) [
   | inl within ↦
@@ -143,9 +149,16 @@ solid-line : (line : Line) → InRange line → all_solid (words_of line) ≡ tr
 solid-line (Plain (call.Create path)) fits = rw (solid-word path) refl
 solid-line (Plain (call.Open path)) fits = rw (solid-word path) refl
 solid-line (Plain (call.Close handle)) fits = rw (solid-decimal handle (omega (arith, fits))) refl
-solid-line (Plain (call.Pread handle offset len)) fits = rw (solid-decimal handle (omega (arith, fits.0)), solid-decimal offset fits.1, solid-decimal len (omega (arith, fits.2))) refl
-solid-line (Plain (call.Pwrite handle offset bytes)) fits = rw (solid-decimal handle (omega (arith, fits.0)), solid-decimal offset fits.1, solid-hex bytes) refl
-solid-line (Fill handle offset len byte) fits = rw (solid-decimal handle (omega (arith, fits.0)), solid-decimal offset fits.1, solid-decimal len (omega (arith, fits.2)), solid-decimal byte (omega (arith, fits.3))) refl
+solid-line (Plain (call.Pread handle offset len)) fits =
+    rw (solid-decimal handle (omega (arith, fits.0)), solid-decimal offset fits.1, solid-decimal len (omega (arith, fits.2))) refl
+solid-line (Plain (call.Pwrite handle offset bytes)) fits =
+    rw (solid-decimal handle (omega (arith, fits.0)), solid-decimal offset fits.1, solid-hex bytes) refl
+solid-line (Fill handle offset len byte) fits = rw (
+  solid-decimal handle (omega (arith, fits.0)),
+  solid-decimal offset fits.1,
+  solid-decimal len (omega (arith, fits.2)),
+  solid-decimal byte (omega (arith, fits.3)),
+) refl
 solid-line (Plain (call.Truncate handle len)) fits = rw (solid-decimal handle (omega (arith, fits.0)), solid-decimal len fits.1) refl
 solid-line (Plain (call.Mkdir path)) fits = rw (solid-word path) refl
 solid-line (Plain (call.LinkTo from to)) fits = rw (solid-word from, solid-word to) refl
@@ -237,20 +250,24 @@ same_words line text fits e = sym (line-cut line fits) ∙ ap cut e
 
 -- ---- the words of a text that begin with a command's
 
-pub ok_text : {E : Type 0} (r : Result Call E) (text : List ℕ) (words : List (List ℕ)) → cut text ≡ words → IfOk r (λ call. words_of (line_for call) ≡ words)
+pub ok_text : {E : Type 0} (r : Result Call E) (text : List ℕ) (words : List (List ℕ)) → cut text ≡ words
+    → IfOk r (λ call. words_of (line_for call) ≡ words)
     → IfOk r (λ call. text_of (line_for call) ≡ text)
 ok_text (Ok c) text words e h = same_text (line_for c) text (h ∙ sym e)
 ok_text (Err f) text words e h = tt
 
-pub bad_text : (text : List ℕ) (words : List (List ℕ)) → cut text ≡ words → ((line : Line) → InRange line → words_of line ≢ words) → IsUnknown text
+pub bad_text : (text : List ℕ) (words : List (List ℕ)) → cut text ≡ words → ((line : Line) → InRange line → words_of line ≢ words)
+    → IsUnknown text
 bad_text text words e h line fits same = h line fits (same_words line text fits same ∙ e)
 
-pub found_text : (text : List ℕ) (words : List (List ℕ)) → cut text ≡ words → (line : Line) × InRange line × IsTrue (has_word line) × (words_of line ≡ words)
+pub found_text : (text : List ℕ) (words : List (List ℕ)) → cut text ≡ words → (line : Line) × InRange line × IsTrue (has_word line)
+    × (words_of line ≡ words)
     → (line : Line) × InRange line × IsTrue (has_word line) × (text_of line ≡ text)
 found_text text words e h = (h.0, h.1, h.2, same_text h.0 text (h.3 ∙ sym e))
 
 -- a text whose first word is no command's
-pub no_command : (word : List ℕ) (rest : List (List ℕ)) → ((command : Command) → command_word command ≢ word) → (line : Line) → InRange line → words_of line ≢ word ∷ rest
+pub no_command : (word : List ℕ) (rest : List (List ℕ)) → ((command : Command) → command_word command ≢ word) → (line : Line) → InRange line
+    → words_of line ≢ word ∷ rest
 no_command word rest h line fits e =
     let has = command_of_line line in
     let both : command_word has.0 ∷ has.1 ≡ word ∷ rest = sym has.2 ∙ e in

@@ -1,5 +1,7 @@
 -- Bytes have one spelling in lower case digits.
-use Rattle.std.proofs.Common.{◌≡◌, ◌≢◌, ℕ, zero, suc, ◌+◌, ◌*◌, ◌/◌, ◌%◌, ◌<◌, ◌≤◌, ◌-◌, ◌==◌, Bool, true, false, ◌&&◌, not, List, [], ◌∷◌, ◌++◌, length, slice_index, take, drop, Option, Ok, Err, Result, nat_lt, refl, sym, ap, ◌∙◌, subst, inl, inr, arith}
+use Rattle.std.proofs.Common.{◌≡◌, ◌≢◌, ℕ, zero, suc, ◌+◌, ◌*◌, ◌/◌, ◌%◌, ◌<◌, ◌≤◌, ◌-◌, ◌==◌, Bool, true, false, ◌&&◌, not, List, [], ◌∷◌}
+use Rattle.std.proofs.Common.{◌++◌, length, slice_index, take, drop, Option, Ok, Err, Result, nat_lt, refl, sym, ap, ◌∙◌, subst, inl, inr}
+use Rattle.std.proofs.Common.{arith}
 use Rattle.std.specs.List.{list_all}
 use Rattle.std.specs.Result.{MatchResult}
 use Rattle.std.proofs.lemmas.Bool.{and_parts, cases_lt, eqb-true, eq-eqb, false≢true}
@@ -82,7 +84,8 @@ bytes-cons b rest h hs zero = h
 bytes-cons b rest h hs (suc i) = hs i
 
 -- pairs of lower case digits are the spelling of bytes
-pub spelt-pairs : (word : List ℕ) → length word % 2 ≡ 0 → list_all is_lower_digit word ≡ true → (bytes : List ℕ) × IsBytes bytes × (encode_lower bytes ≡ word)
+pub spelt-pairs : (word : List ℕ) → length word % 2 ≡ 0 → list_all is_lower_digit word ≡ true
+    → (bytes : List ℕ) × IsBytes bytes × (encode_lower bytes ≡ word)
 unfolding encode_with
 spelt-pairs [] even h = ([], λ i. omega arith, refl)
 spelt-pairs (a ∷ []) even h = absurd (omega arith)
@@ -93,8 +96,11 @@ spelt-pairs (a ∷ b ∷ rest) even h =
     let low = digit_value b second.0 in
     let more = spelt-pairs rest (omega arith) second.1 in
     let front : (high.0 * 16 + low.0) / 16 ≡ high.0 = omega (arith, high.1, low.1) in
-    let back : (high.0 * 16 + low.0) % 16 ≡ low.0 = omega (arith, high.1, low.1) in
-    ((high.0 * 16 + low.0) ∷ more.0, bytes-cons (high.0 * 16 + low.0) more.0 (omega (arith, high.1, low.1)) more.1, rw (front, back, high.2, low.2, more.2) refl)
+    let back : (high.0 * 16 + low.0) % 16 ≡ low.0 = omega (arith, high.1, low.1) in (
+      (high.0 * 16 + low.0) ∷ more.0,
+      bytes-cons (high.0 * 16 + low.0) more.0 (omega (arith, high.1, low.1)) more.1,
+      rw (front, back, high.2, low.2, more.2) refl,
+    )
 
 -- the spelling of bytes is lower case digits
 pub lower-spelt : (bytes : List ℕ) → IsBytes bytes → list_all is_lower_digit (encode_lower bytes) ≡ true
@@ -117,7 +123,8 @@ pairs-spelt b bytes fits =
 -- ---- one spelling
 
 pub same_bytes : (a b : List ℕ) → IsBytes a → IsBytes b → encode_lower a ≡ encode_lower b → a ≡ b
-same_bytes a b fa fb e = decode_of-same (encode_lower b) a b (subst (λ w. decode_of w ≡ Ok a) e (decode_of-encode_lower a fa)) (decode_of-encode_lower b fb)
+same_bytes a b fa fb e =
+    decode_of-same (encode_lower b) a b (subst (λ w. decode_of w ≡ Ok a) e (decode_of-encode_lower a fa)) (decode_of-encode_lower b fb)
 
 pub encode-append : (xs ys : List ℕ) → encode_lower (xs ++ ys) ≡ encode_lower xs ++ encode_lower ys
 unfolding encode_with
@@ -184,7 +191,8 @@ pub decoded : (word found : List ℕ) → is_pairs word ≡ true → decode_of w
 decoded word found h read =
     let p = pairs word h in
     let is = spelt-pairs word p.even p.lower in
-    let same : is.0 ≡ found = decode_of-same word is.0 found (subst (λ w. decode_of w ≡ Ok is.0) is.2 (decode_of-encode_lower is.0 is.1)) read in
+    let same : is.0 ≡ found =
+    decode_of-same word is.0 found (subst (λ w. decode_of w ≡ Ok is.0) is.2 (decode_of-encode_lower is.0 is.1)) read in
     subst (λ f. IsBytes f × (hex_word f ≡ word)) same (is.1, spelt-some is.0 word is.2 p.some)
 
 -- ---- writing
@@ -197,12 +205,14 @@ digits-none a bytes = Appends-none a
 abbrev pub piece_of : List ℕ → ℕ → ℕ → List ℕ
 piece_of bytes at n = take (at + n - at) (drop at bytes)
 
-front : (bytes : List ℕ) (at n : ℕ) → encode_lower (take at bytes) ++ encode_lower (piece_of bytes at n) ≡ encode_lower (take (at + n) bytes)
+front : (bytes : List ℕ) (at n : ℕ)
+    → encode_lower (take at bytes) ++ encode_lower (piece_of bytes at n) ≡ encode_lower (take (at + n) bytes)
 front bytes at n =
     let count : at + n - at ≡ n = omega arith in
     rw count (sym (encode-append (take at bytes) (take n (drop at bytes))) ∙ ap encode_lower (sym (take-add at n bytes)))
 
-pub digits-more : (a b c : Option (List ℕ)) (bytes : List ℕ) (at n : ℕ) → Appends a b (encode_lower (take at bytes)) → Appends b c (encode_lower (piece_of bytes at n))
+pub digits-more : (a b c : Option (List ℕ)) (bytes : List ℕ) (at n : ℕ) → Appends a b (encode_lower (take at bytes))
+    → Appends b c (encode_lower (piece_of bytes at n))
     → Appends a c (encode_lower (take (at + n) bytes))
 digits-more a b c bytes at n before next = subst (Appends a c) (front bytes at n) (Appends-trans a b c _ _ before next)
 
@@ -210,7 +220,8 @@ whole : (bytes : List ℕ) → 0 < length bytes → encode_lower bytes ≡ hex_w
 whole [] some = absurd (omega arith)
 whole (b ∷ bytes) some = refl
 
-pub digits-some : (a b c : Option (List ℕ)) (bytes : List ℕ) (at n : ℕ) → 0 < length bytes → Appends a b (encode_lower (take at bytes)) → AppendsSome b c (encode_lower (piece_of bytes at n))
+pub digits-some : (a b c : Option (List ℕ)) (bytes : List ℕ) (at n : ℕ) → 0 < length bytes → Appends a b (encode_lower (take at bytes))
+    → AppendsSome b c (encode_lower (piece_of bytes at n))
     → AppendsSome a c (hex_word bytes)
 digits-some a b c bytes at n some before next =
     let all : (encode_lower (take at bytes) ++ encode_lower (piece_of bytes at n)) ++ encode_lower (drop (at + n) bytes) ≡ hex_word bytes =

@@ -1,5 +1,6 @@
 -- Each byte has one escaped spelling, and none is the beginning of another's.
-use Rattle.std.proofs.Common.{◌≡◌, ◌≢◌, ℕ, suc, ◌+◌, ◌-◌, ◌<◌, ◌≤◌, true, false, List, [], ◌∷◌, ◌++◌, length, slice_index, take, drop, get_or, refl, sym, ap, ◌∙◌, subst, arith, append_assoc, append-nil, length-append, length-drop}
+use Rattle.std.proofs.Common.{◌≡◌, ◌≢◌, ℕ, suc, ◌+◌, ◌-◌, ◌<◌, ◌≤◌, true, false, List, [], ◌∷◌, ◌++◌, length, slice_index, take, drop}
+use Rattle.std.proofs.Common.{get_or, refl, sym, ap, ◌∙◌, subst, arith, append_assoc, append-nil, length-append, length-drop}
 use Rattle.std.proofs.lemmas.Bool.{false≢true}
 use Rattle.std.proofs.lemmas.List.{take-append-drop, take_rest}
 use Rattle.std.proofs.Math.Seq.{take-add}
@@ -63,21 +64,24 @@ some_bytes b rest e = elim (sort b) [
 pub escaped_bytes-push : (bs : List ℕ) (b : ℕ) → escaped_bytes (bs ++ b ∷ []) ≡ escaped_bytes bs ++ escaped_byte b
 unfolding escaped_bytes
 escaped_bytes-push [] b = append-nil (escaped_byte b)
-escaped_bytes-push (x ∷ bs) b = ap (λ t. escaped_byte x ++ t) (escaped_bytes-push bs b) ∙ sym (append_assoc (escaped_byte x) (escaped_bytes bs) (escaped_byte b))
+escaped_bytes-push (x ∷ bs) b = ap (λ t. escaped_byte x ++ t) (escaped_bytes-push bs b)
+    ∙ sym (append_assoc (escaped_byte x) (escaped_bytes bs) (escaped_byte b))
 
 bytes-push : (bs : List ℕ) (b : ℕ) → IsBytes bs → b < 256 → IsBytes (bs ++ b ∷ [])
 bytes-push [] b h fits = one b fits
 bytes-push (x ∷ bs) b h fits = bytes-cons x (bs ++ b ∷ []) (h 0) (bytes-push bs b (λ i. h (suc i)) fits)
 
 -- what is behind a front that is spelt is spelt too
-behind : (bs xs rest : List ℕ) → IsBytes bs → IsBytes xs → escaped_bytes xs ≡ escaped_bytes bs ++ rest → (ys : List ℕ) × IsBytes ys × (escaped_bytes ys ≡ rest)
+behind : (bs xs rest : List ℕ) → IsBytes bs → IsBytes xs → escaped_bytes xs ≡ escaped_bytes bs ++ rest
+    → (ys : List ℕ) × IsBytes ys × (escaped_bytes ys ≡ rest)
 unfolding escaped_bytes
 behind [] xs rest fb fx e = (xs, fx, e)
 behind (b ∷ bs) [] rest fb fx e =
     let none : escaped_byte b ++ (escaped_bytes bs ++ rest) ≡ [] = sym (append_assoc (escaped_byte b) (escaped_bytes bs) rest) ∙ sym e in
     absurd (some_bytes b (escaped_bytes bs ++ rest) none)
 behind (b ∷ bs) (x ∷ xs) rest fb fx e =
-    let next = one_byte x b (escaped_bytes xs) (escaped_bytes bs ++ rest) (fx 0) (fb 0) (e ∙ append_assoc (escaped_byte b) (escaped_bytes bs) rest) in
+    let next = one_byte x b (escaped_bytes xs) (escaped_bytes bs ++ rest) (fx 0) (fb 0)
+    (e ∙ append_assoc (escaped_byte b) (escaped_bytes bs) rest) in
     behind bs xs rest (λ i. fb (suc i)) (λ i. fx (suc i)) next.1
 
 -- the first `at` bytes of the word are the spelling of these
@@ -95,7 +99,8 @@ spells-none word = record { within = omega arith; bytes_fit = λ i. omega arith;
 abbrev pub tail_of : List ℕ → ℕ → List ℕ
 tail_of word at = take (length word - at) (drop at word)
 
-pub spells-more : (word bytes : List ℕ) (at b n : ℕ) → Spells word bytes at → b < 256 → (0 < n) × (n ≤ length (tail_of word at)) × (take n (tail_of word at) ≡ escaped_byte b)
+pub spells-more : (word bytes : List ℕ) (at b n : ℕ) → Spells word bytes at → b < 256
+    → (0 < n) × (n ≤ length (tail_of word at)) × (take n (tail_of word at) ≡ escaped_byte b)
     → (0 < n) × (at + n ≤ length word) × Spells word (bytes ++ b ∷ []) (at + n)
 spells-more word bytes at b n before fits found =
     let rest = take_rest word at in
@@ -107,7 +112,8 @@ spells-more word bytes at b n before fits found =
       record {
         within = within;
         bytes_fit = bytes-push bytes b before.bytes_fit fits;
-        text = escaped_bytes-push bytes b ∙ ap (λ t. t ++ escaped_byte b) before.text ∙ ap (λ t. take at word ++ t) (sym is) ∙ sym (take-add at n word);
+        text = escaped_bytes-push bytes b ∙ ap (λ t. t ++ escaped_byte b) before.text ∙ ap (λ t. take at word ++ t) (sym is)
+            ∙ sym (take-add at n word);
         short = omega (arith, before.short, length-append bytes (b ∷ []), found.0);
       },
     )
@@ -118,7 +124,8 @@ pub spells-stuck : (word bytes : List ℕ) (at : ℕ) → Spells word bytes at �
     → (xs : List ℕ) → IsBytes xs → escaped_bytes xs ≢ word
 unfolding escaped_bytes
 spells-stuck word bytes at before more none xs fx e =
-    let whole : escaped_bytes xs ≡ escaped_bytes bytes ++ drop at word = e ∙ sym (take-append-drop at word) ∙ ap (λ t. t ++ drop at word) (sym before.text) in
+    let whole : escaped_bytes xs ≡ escaped_bytes bytes ++ drop at word = e ∙ sym (take-append-drop at word)
+    ∙ ap (λ t. t ++ drop at word) (sym before.text) in
     let rest = behind bytes xs (drop at word) before.bytes_fit fx whole in
     elim rest.0 as (λ ys. IsBytes ys → (escaped_bytes ys ≡ drop at word) → ⊥) [
       | [] ↦ λ fy same. let long = ap length same in omega (arith, long, length-drop at word)
@@ -128,11 +135,13 @@ spells-stuck word bytes at before more none xs fx e =
 -- ---- one spelling at the front of a word
 
 -- a byte behind a backslash
-pub other_front : (b : ℕ) (word : List ℕ) → is_plain b ≡ false → 3 ≤ length word → slice_index word 0 ≡ 92 → encode_lower (b ∷ []) ≡ take 2 (drop 1 word) → take 3 word ≡ escaped_byte b
+pub other_front : (b : ℕ) (word : List ℕ) → is_plain b ≡ false → 3 ≤ length word → slice_index word 0 ≡ 92
+    → encode_lower (b ∷ []) ≡ take 2 (drop 1 word) → take 3 word ≡ escaped_byte b
 other_front b [] h long first e = absurd (omega arith)
 other_front b (x ∷ word) h long first e = sym (other_byte b h ∙ rw (← first) (ap (λ t. x ∷ t) e))
 
-pub other_parts : (b : ℕ) (rest word : List ℕ) → is_plain b ≡ false → escaped_byte b ++ rest ≡ word → (3 ≤ length word) × (slice_index word 0 ≡ 92) × (encode_lower (b ∷ []) ≡ take 2 (drop 1 word))
+pub other_parts : (b : ℕ) (rest word : List ℕ) → is_plain b ≡ false → escaped_byte b ++ rest ≡ word
+    → (3 ≤ length word) × (slice_index word 0 ≡ 92) × (encode_lower (b ∷ []) ≡ take 2 (drop 1 word))
 unfolding encode_with
 other_parts b rest word h e =
     let text : 92 ∷ (encode_lower (b ∷ []) ++ rest) ≡ word = rw (other_byte b h) at e in
@@ -184,6 +193,7 @@ word_some (b ∷ bytes) (x ∷ word) e = omega arith
 -- ---- writing
 
 -- a backslash and the two digits
-pub other_text : (b : ℕ) (digits : List ℕ) → digits ≡ encode_lower (b ∷ []) → 92 ∷ get_or digits 0 0 ∷ get_or digits 1 0 ∷ [] ≡ 92 ∷ encode_lower (b ∷ [])
+pub other_text : (b : ℕ) (digits : List ℕ) → digits ≡ encode_lower (b ∷ [])
+    → 92 ∷ get_or digits 0 0 ∷ get_or digits 1 0 ∷ [] ≡ 92 ∷ encode_lower (b ∷ [])
 unfolding encode_with
 other_text b digits e = rw e refl

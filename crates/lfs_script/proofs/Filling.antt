@@ -1,5 +1,6 @@
 -- A fill is the write of all its bytes: what it does where there are too many of them, and where memory for them is refused.
-use Rattle.std.proofs.Common.{◌≡◌, ◌<◌, ◌≤◌, ℕ, Bool, true, List, [], ◌∷◌, length, replicate, refl, sym, ◌∙◌, ap, subst, inl, inr, ⊎_elim, nat_lt, arith, ◌+◌, ◌==◌}
+use Rattle.std.proofs.Common.{◌≡◌, ◌<◌, ◌≤◌, ℕ, Bool, true, List, [], ◌∷◌, length, replicate, refl, sym, ◌∙◌, ap, subst, inl, inr, ⊎_elim}
+use Rattle.std.proofs.Common.{nat_lt, arith, ◌+◌, ◌==◌}
 use Rattle.std.specs.Prelude.{min}
 use Rattle.std.proofs.lemmas.Bool.{cases_lt}
 use Rattle.std.proofs.lemmas.Bool.Decides.{nat_tests}
@@ -7,7 +8,9 @@ use Rattle.std.proofs.lemmas.List.{length-replicate}
 use Rattle.lfs_model.specs.Bytes as bytes
 use Rattle.lfs_model.specs.Call.{Answer, Count, Pwrite, Refuse, Room, Space}
 use Rattle.lfs_model.specs.Device.{DeviceState}
-use Rattle.lfs_model.specs.Refusal.{Refusal, NoEntry, NotDir, IsDir, Exist, NotEmpty, Inval, NameTooLong, Loop, Perm, Busy, BadHandle, TooManyOpen, TooManyLinks, FileTooBig, NoSpace, NoNumber, DirFull, NoMemory, Device, Halted, Stuck, Worn}
+use Rattle.lfs_model.specs.Refusal.{Refusal, NoEntry, NotDir, IsDir, Exist, NotEmpty, Inval, NameTooLong, Loop, Perm, Busy, BadHandle}
+use Rattle.lfs_model.specs.Refusal.{TooManyOpen, TooManyLinks, FileTooBig, NoSpace, NoNumber, DirFull, NoMemory, Device, Halted, Stuck}
+use Rattle.lfs_model.specs.Refusal.{Worn}
 use Rattle.lfs_model.specs.Run.{IsExcused, IsPastLast, Point, StepsOr}
 use Rattle.lfs_model.specs.Step.{Step, bad_handle, checked, file_at, file_bytes, no_space, the_node, when, with_tree, writes}
 use Rattle.lfs_model.specs.Tree.{File, State, Tree, with_node}
@@ -26,9 +29,11 @@ module _ (N : ℕ) (s : State) (h off : ℕ) where
   refused : (w : List ℕ) → 65536 < length w → writes N s h off w ≡ refuses
   refused w long =
       let t : Tree = with_node s.tree (file_at s h) (File (bytes.put (file_bytes (the_node s.tree (file_at s h))) off w)) in
-      ap (λ (b : Bool). checked s (bad_handle s h ∷ when b Inval ∷ (length w == 0, Count 0) ∷ when (nat_lt 8511488 (off + length w)) FileTooBig ∷ no_space N t ∷ []) (Count (length w), with_tree s t)) (above 65536 (length w) long)
+      ap (λ (b : Bool). checked s (bad_handle s h ∷ when b Inval ∷ (length w == 0, Count 0) ∷ when (nat_lt 8511488 (off + length w))
+      FileTooBig ∷ no_space N t ∷ []) (Count (length w), with_tree s t)) (above 65536 (length w) long)
 
-  same_step : (w v : List ℕ) → 65536 < length w → 65536 < length v → (a : Answer) (s' : State) → Step N s (Pwrite h off w) a s' → Step N s (Pwrite h off v) a s'
+  same_step : (w v : List ℕ) → 65536 < length w → 65536 < length v → (a : Answer) (s' : State) → Step N s (Pwrite h off w) a s'
+      → Step N s (Pwrite h off v) a s'
   same_step w v long_w long_v a s' step =
       let same : writes N s h off v ≡ writes N s h off w = refused v long_v ∙ sym (refused w long_w) in record {
         first_end = step.first_end;
@@ -40,12 +45,17 @@ module _ (N : ℕ) (s : State) (h off : ℕ) where
       }
 
 module _ (N h off : ℕ) where
-  past_last : (w v : List ℕ) → 65536 < length w → 65536 < length v → (p : Point) → IsPastLast N (Pwrite h off w) p → IsPastLast N (Pwrite h off v) p
+  past_last : (w v : List ℕ) → 65536 < length w → 65536 < length v → (p : Point) → IsPastLast N (Pwrite h off w) p
+      → IsPastLast N (Pwrite h off v) p
   past_last w v long_w long_v p past = (
     past.0,
     ⊎_elim
         (λ cleaned. inl cleaned)
-        (λ changed. inr (changed.0, (let would = changed.1 in (would.0, would.1, same_step N p.state h off w v long_w long_v would.0 would.1 would.2, would.3))))
+        (λ changed. inr (
+          changed.0,
+          (let would = changed.1 in
+              (would.0, would.1, same_step N p.state h off w v long_w long_v would.0 would.1 would.2, would.3)),
+        ))
         past.1,
   )
 
@@ -148,7 +158,8 @@ module _ {D : Type 0} (state : D → DeviceState) (old new : Mounted D) (h off :
   }
 
   -- and of a write that is refused where room was asked for
-  told_behaves : (w : List ℕ) (r : Refusal) (a : Answer) → (Refuse r ≡ Refuse Stuck → ⊥) → Behaves state old new Space a → Behaves state old new (Pwrite h off w) (Refuse r)
+  told_behaves : (w : List ℕ) (r : Refusal) (a : Answer) → (Refuse r ≡ Refuse Stuck → ⊥) → Behaves state old new Space a
+      → Behaves state old new (Pwrite h off w) (Refuse r)
   told_behaves w r a none behaves = record {
     refused = λ x e. behaves.handles refl;
     handles = behaves.handles;
@@ -162,7 +173,8 @@ module _ {D : Type 0} (state : D → DeviceState) (old new : Mounted D) (h off :
     one_commit = λ unclean. behaves.one_commit refl;
   }
 
-  long_serves : (w v : List ℕ) → 65536 < length w → 65536 < length v → (a : Answer) → Serves state old new (Pwrite h off w) a → Serves state old new (Pwrite h off v) a
+  long_serves : (w v : List ℕ) → 65536 < length w → 65536 < length v → (a : Answer) → Serves state old new (Pwrite h off w) a
+      → Serves state old new (Pwrite h off v) a
   long_serves w v long_w long_v a serves = record {
     carries = serves.carries;
     segments = serves.segments;
@@ -191,17 +203,20 @@ module _ {D : Type 0} (state : D → DeviceState) (old new : Mounted D) (h off :
   }
 
   -- so many bytes, or as many as are refused
-  pub filled_serves : (len byte : ℕ) (w : List ℕ) → w ≡ replicate (min len 65537) byte → (a : Answer) → Serves state old new (Pwrite h off w) a → Serves state old new (Pwrite h off (replicate len byte)) a
+  pub filled_serves : (len byte : ℕ) (w : List ℕ) → w ≡ replicate (min len 65537) byte → (a : Answer)
+      → Serves state old new (Pwrite h off w) a → Serves state old new (Pwrite h off (replicate len byte)) a
   filled_serves len byte w is a serves =
       let cut = subst (λ (v : List ℕ). Serves state old new (Pwrite h off v) a) is serves in
       ⊎_elim
       (λ (low : len < 65537). subst (λ (n : ℕ). Serves state old new (Pwrite h off (replicate n byte)) a) (omega (arith, low)) cut)
       (λ (high : 65537 ≤ len). long_serves (replicate (min len 65537) byte) (replicate len byte)
-      (let long = length-replicate (min len 65537) byte in omega (arith, long, high)) (let long = length-replicate len byte in omega (arith, long, high)) a cut)
+      (let long = length-replicate (min len 65537) byte in omega (arith, long, high)) (let long = length-replicate len byte in
+      omega (arith, long, high)) a cut)
       (cases_lt len 65537)
 
   -- memory for the bytes is refused, and room is told
-  pub memory_serves : (w : List ℕ) (blocks others need limit : ℕ) → Serves state old new Space (Room blocks others need limit) → Serves state old new (Pwrite h off w) (Refuse NoMemory)
+  pub memory_serves : (w : List ℕ) (blocks others need limit : ℕ) → Serves state old new Space (Room blocks others need limit)
+      → Serves state old new (Pwrite h off w) (Refuse NoMemory)
   memory_serves w blocks others need limit serves = record {
     carries = serves.carries;
     segments = serves.segments;

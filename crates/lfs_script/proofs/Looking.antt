@@ -1,5 +1,6 @@
 -- Looks before each reply: one more.
-use Rattle.std.proofs.Common.{◌≡◌, ◌⊎◌, inl, inr, ⊎_elim, ℕ, zero, suc, Some, Option, List, [], ◌∷◌, ◌++◌, length, length-append, take, slice_get, refl, sym, ◌∙◌, ap, subst, append_assoc, arith}
+use Rattle.std.proofs.Common.{◌≡◌, ◌⊎◌, inl, inr, ⊎_elim, ℕ, zero, suc, Some, Option, List, [], ◌∷◌, ◌++◌, length, length-append, take}
+use Rattle.std.proofs.Common.{slice_get, refl, sym, ◌∙◌, ap, subst, append_assoc, arith}
 use Rattle.std.proofs.lemmas.List.{append-nil, map-append, take-append-le, take_all}
 use Rattle.std.proofs.lemmas.Option.{slice_get_within}
 use Rattle.std.specs.Io.KnownBytes.{Appends}
@@ -8,7 +9,8 @@ use Rattle.lfs_script.specs.Ending.{replies}
 use Rattle.lfs_script.specs.Told.{Look, Looked, LooksAt}
 
 -- what stands at a place of a list with one more
-get_snoc : {X : Type 0} (xs : List X) (x : X) (i : ℕ) (t : X) → slice_get (xs ++ x ∷ []) i ≡ Some t → (slice_get xs i ≡ Some t) ⊎ ((i ≡ length xs) × (t ≡ x))
+get_snoc : {X : Type 0} (xs : List X) (x : X) (i : ℕ) (t : X) → slice_get (xs ++ x ∷ []) i ≡ Some t
+    → (slice_get xs i ≡ Some t) ⊎ ((i ≡ length xs) × (t ≡ x))
 get_snoc [] x zero t is = inr (refl, cc is)
 get_snoc [] x (suc i) t is = absurd (cc is)
 get_snoc (y ∷ xs) x zero t is = inl is
@@ -26,24 +28,31 @@ looked_none w s = record {
   before = λ i look is. absurd (cc is);
 }
 
-pub looked_more : (w w1 : Option (List ℕ)) (answers : List Answer) (answer : Answer) (clocks : List ℕ) (t : ℕ) (s s1 s2 : List Look) → Looked w answers clocks s s1
+pub looked_more : (w w1 : Option (List ℕ)) (answers : List Answer) (answer : Answer) (clocks : List ℕ) (t : ℕ) (s s1 s2 : List Look)
+    → Looked w answers clocks s s1
     → Appends w w1 (replies answers) → LooksAt t w1 s1 s2 → Looked w (answers ++ answer ∷ []) (clocks ++ t ∷ []) s s2
 looked_more w w1 answers answer clocks t s s1 s2 was appended is = record {
   looks = was.looks ++ look_at t w1 ∷ [];
   all = is ∙ ap (λ (l : List Look). l ++ look_at t w1 ∷ []) was.all ∙ append_assoc s was.looks (look_at t w1 ∷ []);
   clocks_are = map-append (λ (l : Look). l.moment) was.looks (look_at t w1 ∷ []) ∙ ap (λ (l : List ℕ). l ++ t ∷ []) was.clocks_are;
-  one_each = (let one = was.one_each in omega (arith, length-append was.looks (look_at t w1 ∷ []), length-append answers (answer ∷ []), one));
-  before = λ i look at. ⊎_elim (λ old. earlier i look old) (λ (last : (i ≡ length was.looks) × (look ≡ look_at t w1)). now i look last.0 last.1) (get_snoc was.looks (look_at t w1) i look at);
+  one_each =
+      (let one = was.one_each in omega (arith, length-append was.looks (look_at t w1 ∷ []), length-append answers (answer ∷ []), one));
+  before = λ i look at. ⊎_elim (λ old. earlier i look old)
+      (λ (last : (i ≡ length was.looks) × (look ≡ look_at t w1)). now i look last.0 last.1) (get_snoc was.looks (look_at t w1) i look at);
 }
   where
     earlier : (i : ℕ) (look : Look) → slice_get was.looks i ≡ Some look → Appends w look.written (replies (take i (answers ++ answer ∷ [])))
     earlier i look at =
         let within = slice_get_within was.looks i look at in
         let one = was.one_each in
-        subst (λ (as' : List Answer). Appends w look.written (replies as')) (sym (take-append-le i answers (answer ∷ []) (omega (arith, within, one)))) (was.before i look at)
+        subst (λ (as' : List Answer). Appends w look.written (replies as'))
+        (sym (take-append-le i answers (answer ∷ []) (omega (arith, within, one)))) (was.before i look at)
 
-    now : (i : ℕ) (look : Look) → i ≡ length was.looks → look ≡ look_at t w1 → Appends w look.written (replies (take i (answers ++ answer ∷ [])))
+    now : (i : ℕ) (look : Look) → i ≡ length was.looks → look ≡ look_at t w1
+        → Appends w look.written (replies (take i (answers ++ answer ∷ [])))
     now i look place same =
         let one = was.one_each in
-        let all : take i (answers ++ answer ∷ []) ≡ answers = take-append-le i answers (answer ∷ []) (omega (arith, place, one)) ∙ take_all i answers (omega (arith, place, one)) in
-        subst (λ (as' : List Answer). Appends w look.written (replies as')) (sym all) (subst (λ (l : Look). Appends w l.written (replies answers)) (sym same) appended)
+        let all : take i (answers ++ answer ∷ []) ≡ answers = take-append-le i answers (answer ∷ []) (omega (arith, place, one))
+        ∙ take_all i answers (omega (arith, place, one)) in
+        subst (λ (as' : List Answer). Appends w look.written (replies as')) (sym all)
+        (subst (λ (l : Look). Appends w l.written (replies answers)) (sym same) appended)

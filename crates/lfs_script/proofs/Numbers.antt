@@ -1,12 +1,14 @@
 -- A number has one word, which `parse` reads.
-use Rattle.std.proofs.Common.{◌≡◌, ◌≢◌, ℕ, ◌^◌, ◌<◌, ◌≤◌, List, None, Result, Ok, Err, IfSome, length, get_or, refl, sym, ap, ◌∙◌, subst, inl, inr, arith, decimal}
+use Rattle.std.proofs.Common.{◌≡◌, ◌≢◌, ℕ, ◌^◌, ◌<◌, ◌≤◌, List, None, Result, Ok, Err, IfSome, length, get_or, refl, sym, ap, ◌∙◌, subst}
+use Rattle.std.proofs.Common.{inl, inr, arith, decimal}
 use Rattle.std.specs.Result.{OkIff, result_ok}
 use Rattle.std.specs.Str.{IsUtf8}
 use Rattle.std.specs.Str.Parse.{ParsesUnsigned, AllDigits, digits_value}
 use Rattle.std.proofs.lemmas.Bool.{cases_lt}
 use Rattle.std.proofs.lemmas.Str.{IsUtf8-from_ascii}
 use Rattle.std.proofs.lemmas.Str.Parse.{IsNumeralModel, numerals_by_value, tells_digits, digit_at, parse_plain}
-use Rattle.std.proofs.lemmas.Fmt.{IsAscii-decimal, decimal_nonempty, decimal_digit, first_decimal, digits_decimal, digits_value-decimal, decimal-digits_value, decimal_injective}
+use Rattle.std.proofs.lemmas.Fmt.{IsAscii-decimal, decimal_nonempty, decimal_digit, first_decimal, digits_decimal, digits_value-decimal}
+use Rattle.std.proofs.lemmas.Fmt.{decimal-digits_value, decimal_injective}
 use Rattle.lfs_script.specs.Words.{IsBare}
 
 own : IsNumeralModel (AllDigits 10) (digits_value 10)
@@ -30,7 +32,8 @@ not_bare word h n fits e = h (subst IsBare e (IsBare-decimal n fits))
 pub not_utf8 : (word : List ℕ) → (IsUtf8 word → ⊥) → (n : ℕ) → n < 2 ^ 64 → decimal n ≢ word
 not_utf8 word h n fits e = h (subst IsUtf8 e (IsUtf8-from_ascii (decimal n) (IsAscii-decimal n fits)))
 
-pub read-found : {E : Type 0} (word : List ℕ) (r : Result ℕ E) → IsBare word → ParsesUnsigned 64 10 word r → IfSome (result_ok r) (λ n. decimal n ≡ word)
+pub read-found : {E : Type 0} (word : List ℕ) (r : Result ℕ E) → IsBare word → ParsesUnsigned 64 10 word r
+    → IfSome (result_ok r) (λ n. decimal n ≡ word)
 read-found {E} word (Ok n) bare h =
     let is = parse_plain own {E = E} 64 word (Ok n) h bare.1 in
     rw is.1 (decimal-digits_value own word is.0.0 bare.0 bare.2 is.0.2)
@@ -45,7 +48,8 @@ read-none {E} word (Err f) bare h none n fits e =
     let value : digits_value 10 word ≡ n = ap (digits_value 10) (sym e) ∙ digits_value-decimal own n fits in
     not (digits, bare.0, rw value fits)
 
-pub small-none : {E : Type 0} (bound : ℕ) (word : List ℕ) (m : ℕ) (r : Result ℕ E) → bound ≤ 2 ^ 64 → m < 2 ^ 64 → decimal m ≡ word → OkIff r (m < bound) m → result_ok r ≡ None
+pub small-none : {E : Type 0} (bound : ℕ) (word : List ℕ) (m : ℕ) (r : Result ℕ E) → bound ≤ 2 ^ 64 → m < 2 ^ 64 → decimal m ≡ word
+    → OkIff r (m < bound) m → result_ok r ≡ None
     → (n : ℕ) → n < bound → decimal n ≢ word
 small-none bound word m (Ok k) small wide is h none n fits e = cc
 small-none bound word m (Err f) small wide is h none n fits e =

@@ -6,9 +6,11 @@ use Rattle.std.proofs.lemmas.List.{length-drop}
 use Rattle.std.proofs.Math.Seq.{take-add, take_all}
 
 pub sent : (a b c : Option (List ℕ)) (xs : List ℕ) (at n : ℕ) → at ≤ length xs → n ≤ length (take (length xs - at) (drop at xs))
-    → Appends a b (take at xs) → Appends b c (take n (take (length xs - at) (drop at xs))) → (at + n ≤ length xs) × Appends a c (take (at + n) xs)
+    → Appends a b (take at xs) → Appends b c (take n (take (length xs - at) (drop at xs)))
+    → (at + n ≤ length xs) × Appends a c (take (at + n) xs)
 sent a b c xs at n within bound first next =
-    let whole : take (length xs - at) (drop at xs) ≡ drop at xs = take_all (length xs - at) (drop at xs) (rw (length-drop at xs) (omega arith)) in (
+    let whole : take (length xs - at) (drop at xs) ≡ drop at xs =
+    take_all (length xs - at) (drop at xs) (rw (length-drop at xs) (omega arith)) in (
       omega (arith, within, rw whole at bound, length-drop at xs),
       subst (Appends a c) (sym (take-add at n xs)) (Appends-trans a b c (take at xs) (take n (drop at xs)) first (rw whole at next)),
     )

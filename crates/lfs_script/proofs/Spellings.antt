@@ -1,5 +1,6 @@
 -- How bytes are spelt is what the model says.
-use Rattle.std.proofs.Common.{◌≡◌, ◌≢◌, Result, Ok, Err, IfOk, Vec, length, ℕ, zero, suc, ◌/◌, ◌%◌, ◌<◌, ◌≤◌, true, false, List, [], ◌∷◌, ◌++◌, Option, get_or, take, subst, flat_map, refl, sym, ap, ◌∙◌, arith}
+use Rattle.std.proofs.Common.{◌≡◌, ◌≢◌, Result, Ok, Err, IfOk, Vec, length, ℕ, zero, suc, ◌/◌, ◌%◌, ◌<◌, ◌≤◌, true, false, List, [], ◌∷◌}
+use Rattle.std.proofs.Common.{◌++◌, Option, get_or, take, subst, flat_map, refl, sym, ap, ◌∙◌, arith}
 use Rattle.std.specs.Io.KnownBytes.{Appends}
 use Rattle.lfs_script.specs.Bytes.{AppendsSome}
 use Rattle.lfs_script.proofs.PieceTexts.{pieces-some}
@@ -45,7 +46,8 @@ byte_is b fits = elim (sort b) [
 bytes_are : (bytes : List ℕ) → IsBytes bytes → escaped_bytes bytes ≡ flat_map word_byte bytes
 unfolding escaped_bytes
 bytes_are [] fits = refl
-bytes_are (b ∷ bytes) fits = ap (λ t. t ++ escaped_bytes bytes) (byte_is b (fits 0)) ∙ ap (λ t. word_byte b ++ t) (bytes_are bytes (λ i. fits (suc i)))
+bytes_are (b ∷ bytes) fits = ap (λ t. t ++ escaped_bytes bytes) (byte_is b (fits 0))
+    ∙ ap (λ t. word_byte b ++ t) (bytes_are bytes (λ i. fits (suc i)))
 
 pub word_is : (bytes : List ℕ) → IsBytes bytes → escaped_word bytes ≡ word bytes
 word_is [] fits = refl
@@ -71,11 +73,13 @@ unescaped bytes text fits e apart = bytes_of_word bytes text (word_is bytes (fit
 pub escaped_as : (bytes text : List ℕ) → IsBytes bytes → escaped_bytes bytes ≡ text → 0 < length text → AreBytes bytes × (word bytes ≡ text)
 escaped_as bytes text fits e some = (are_of bytes fits, sym (word_is bytes fits) ∙ word_of_bytes bytes text e some)
 
-pub IfOk-word : {A E : Type 0} (r : Result (Vec ℕ A) E) (text : List ℕ) → IfOk r (λ bytes. IsBytes bytes.items × (escaped_bytes bytes.items ≡ text)) → 0 < length text → IfOk r (λ bytes. word bytes.items ≡ text)
+pub IfOk-word : {A E : Type 0} (r : Result (Vec ℕ A) E) (text : List ℕ) → IfOk r
+    (λ bytes. IsBytes bytes.items × (escaped_bytes bytes.items ≡ text)) → 0 < length text → IfOk r (λ bytes. word bytes.items ≡ text)
 IfOk-word (Ok v) text h some = (escaped_as v.items text h.0 h.1 some).1
 IfOk-word (Err e) text h some = tt
 
-pub IfOk-bytes : {A E : Type 0} (r : Result (Vec ℕ A) E) (text : List ℕ) → IfOk r (λ bytes. IsBytes bytes.items × (escaped_bytes bytes.items ≡ text)) → IfOk r (λ bytes. AreBytes bytes.items)
+pub IfOk-bytes : {A E : Type 0} (r : Result (Vec ℕ A) E) (text : List ℕ)
+    → IfOk r (λ bytes. IsBytes bytes.items × (escaped_bytes bytes.items ≡ text)) → IfOk r (λ bytes. AreBytes bytes.items)
 IfOk-bytes (Ok v) text h = are_of v.items h.0
 IfOk-bytes (Err e) text h = tt
 
@@ -84,22 +88,27 @@ IfOk-bytes (Err e) text h = tt
 pub plain_word : (b : ℕ) → is_plain b ≡ true → word_byte b ≡ b ∷ []
 plain_word b p = rw p refl
 
-pub other_word : (b : ℕ) (digits : List ℕ) → b < 256 → is_plain b ≡ false → digits ≡ encode_lower (b ∷ []) → word_byte b ≡ 92 ∷ get_or digits 0 0 ∷ get_or digits 1 0 ∷ []
+pub other_word : (b : ℕ) (digits : List ℕ) → b < 256 → is_plain b ≡ false → digits ≡ encode_lower (b ∷ [])
+    → word_byte b ≡ 92 ∷ get_or digits 0 0 ∷ get_or digits 1 0 ∷ []
 other_word b digits fits p e = rw p (ap (λ t. 92 ∷ t) (sym (encoded_byte b fits))) ∙ sym (other_text b digits e)
 
 pub word_of_some : (bytes : List ℕ) → 0 < length bytes → flat_map word_byte bytes ≡ word bytes
 word_of_some [] some = absurd (omega arith)
 word_of_some (b ∷ bytes) some = refl
 
-pub some_of_word : (a b c : Option (List ℕ)) (bytes : List ℕ) (i : ℕ) → i < length bytes → Appends a b (flat_map word_byte (take i bytes)) → AppendsSome b c (word_byte (get_or bytes i 0)) → AppendsSome a c (word bytes)
-some_of_word a b c bytes i lt before next = subst (AppendsSome a c) (word_of_some bytes (omega arith)) (pieces-some word_byte a b c bytes i 0 lt before next)
+pub some_of_word : (a b c : Option (List ℕ)) (bytes : List ℕ) (i : ℕ) → i < length bytes → Appends a b (flat_map word_byte (take i bytes))
+    → AppendsSome b c (word_byte (get_or bytes i 0)) → AppendsSome a c (word bytes)
+some_of_word a b c bytes i lt before next =
+    subst (AppendsSome a c) (word_of_some bytes (omega arith)) (pieces-some word_byte a b c bytes i 0 lt before next)
 
 pub hex_written : (a b : Option (List ℕ)) (bytes : List ℕ) → IsBytes bytes → AppendsSome a b (hex_word bytes) → AppendsSome a b (hex bytes)
 hex_written a b bytes fits h = subst (AppendsSome a b) (hex_is bytes fits) h
 
-hex_whole : (a b : Option (List ℕ)) (bytes : List ℕ) → IsBytes bytes → 0 < length bytes → Appends a b (encode_lower bytes) → Appends a b (hex bytes)
+hex_whole : (a b : Option (List ℕ)) (bytes : List ℕ) → IsBytes bytes → 0 < length bytes → Appends a b (encode_lower bytes)
+    → Appends a b (hex bytes)
 hex_whole a b [] fits some h = absurd (omega arith)
 hex_whole a b (x ∷ bytes) fits some h = subst (Appends a b) (hex_is (x ∷ bytes) fits) h
 
-pub hex_all : (a b : Option (List ℕ)) (bytes : List ℕ) (at : ℕ) → IsBytes bytes → 0 < length bytes → length bytes ≤ at → Appends a b (encode_lower (take at bytes)) → Appends a b (hex bytes)
+pub hex_all : (a b : Option (List ℕ)) (bytes : List ℕ) (at : ℕ) → IsBytes bytes → 0 < length bytes → length bytes ≤ at
+    → Appends a b (encode_lower (take at bytes)) → Appends a b (hex bytes)
 hex_all a b bytes at fits some le h = hex_whole a b bytes fits some (subst (λ t. Appends a b (encode_lower t)) (take_all at bytes le) h)

@@ -1,5 +1,6 @@
 -- What a mount and a run of a script say together, and what a stop after them leaves: a use of a volume.
-use Rattle.std.proofs.Common.{◌≡◌, ◌<◌, ◌≤◌, ◌∷◌, ⊎_elim, arith, map, ℕ, Bool, true, false, Option, Result, Ok, Err, List, sym, ◌∙◌, subst, IfOk, IfErr}
+use Rattle.std.proofs.Common.{◌≡◌, ◌<◌, ◌≤◌, ◌∷◌, ⊎_elim, arith, map, ℕ, Bool, true, false, Option, Result, Ok, Err, List, sym, ◌∙◌, subst}
+use Rattle.std.proofs.Common.{IfOk, IfErr}
 use Rattle.lfs_model.specs.Content.{Content}
 use Rattle.lfs_model.specs.Device.{Carries, DeviceState, Elapses, IsLawful, IsUntouched, LeavesOnly, Only}
 use Rattle.lfs_model.specs.Run.{Point}
@@ -24,35 +25,46 @@ use Rattle.lfs_script.specs.declared.script.StrictEnd.{StrictEnd}
 use Rattle.lfs_script.specs.declared.script.StrictEnd.TheVariants.{Refused}
 
 -- a mount, and then a run of a script
-pub used : {D : Type 0} (state : D → DeviceState) (d : D) (end : ScriptEnd) (r r' w w' : Option (List ℕ)) (v : Fs D) (new : Mounted D) → IsLawful (state d) → FindsState state d v
-    → ((state v.store.log.device).keeps_model → Only (state d).content (state v.store.log.device)) → IsUntouched (state d) (state v.store.log.device) → Carries (state d) (state v.store.log.device)
-    → LeavesOnly (state d) (state v.store.log.device) (state d).may_leave → (state v.store.log.device).failures ≡ (state d).failures → Ends state end r r' w w' (seen v) new → Session end r r' w w' (state d) (state new.log.device)
+pub used : {D : Type 0} (state : D → DeviceState) (d : D) (end : ScriptEnd) (r r' w w' : Option (List ℕ)) (v : Fs D) (new : Mounted D)
+    → IsLawful (state d) → FindsState state d v
+    → ((state v.store.log.device).keeps_model → Only (state d).content (state v.store.log.device))
+    → IsUntouched (state d) (state v.store.log.device) → Carries (state d) (state v.store.log.device)
+    → LeavesOnly (state d) (state v.store.log.device) (state d).may_leave → (state v.store.log.device).failures ≡ (state d).failures
+    → Ends state end r r' w w' (seen v) new → Session end r r' w w' (state d) (state new.log.device)
 used state d end r r' w w' v new lawful finds durable untouched carries moment no_failure ends = record {
   texts = ends.texts;
   script = ends.script;
   answers = ends.answers;
   spelled = ends.spelled;
   bytes = ends.bytes;
-  uses = λ keeps. uses_volume state d lawful v new ends.script ends.answers finds durable untouched carries moment no_failure ends.run keeps;
+  uses = λ keeps.
+      uses_volume state d lawful v new ends.script ends.answers finds durable untouched carries moment no_failure ends.run keeps;
 }
 
 -- and a strict one
-pub used_strictly : {D : Type 0} (state : D → DeviceState) (d : D) (end : StrictEnd) (r r' w w' : Option (List ℕ)) (v : Fs D) (new : Mounted D) → IsLawful (state d) → FindsState state d v
-    → ((state v.store.log.device).keeps_model → Only (state d).content (state v.store.log.device)) → IsUntouched (state d) (state v.store.log.device) → Carries (state d) (state v.store.log.device)
-    → LeavesOnly (state d) (state v.store.log.device) (state d).may_leave → (state v.store.log.device).failures ≡ (state d).failures → EndsBy state true end r r' w w' (seen v) new → StrictSession end r r' w w' (state d) (state new.log.device)
+pub used_strictly : {D : Type 0} (state : D → DeviceState) (d : D) (end : StrictEnd) (r r' w w' : Option (List ℕ)) (v : Fs D)
+    (new : Mounted D) → IsLawful (state d) → FindsState state d v
+    → ((state v.store.log.device).keeps_model → Only (state d).content (state v.store.log.device))
+    → IsUntouched (state d) (state v.store.log.device) → Carries (state d) (state v.store.log.device)
+    → LeavesOnly (state d) (state v.store.log.device) (state d).may_leave → (state v.store.log.device).failures ≡ (state d).failures
+    → EndsBy state true end r r' w w' (seen v) new → StrictSession end r r' w w' (state d) (state new.log.device)
 used_strictly state d end r r' w w' v new lawful finds durable untouched carries moment no_failure ends = record {
   texts = ends.texts;
   script = ends.script;
   answers = ends.answers;
   spelled = ends.spelled;
   bytes = ends.bytes;
-  uses = λ keeps. uses_volume state d lawful v new ends.script ends.answers finds durable untouched carries moment no_failure ends.run keeps;
+  uses = λ keeps.
+      uses_volume state d lawful v new ends.script ends.answers finds durable untouched carries moment no_failure ends.run keeps;
 }
 
 -- and one before a witness
-pub used_told : {D : Type 0} (state : D → DeviceState) (d : D) (strict : Bool) (end : StrictEnd) (r r' w w' : Option (List ℕ)) (v : Fs D) (new : Mounted D) (s s' : List Look) → IsLawful (state d) → FindsState state d v
-    → ((state v.store.log.device).keeps_model → Only (state d).content (state v.store.log.device)) → IsUntouched (state d) (state v.store.log.device) → Carries (state d) (state v.store.log.device)
-    → LeavesOnly (state d) (state v.store.log.device) (state d).may_leave → (state v.store.log.device).failures ≡ (state d).failures → EndsTold state strict end r r' w w' (seen v) new s s' → SessionTold strict end r r' w w' (state d) (state new.log.device) s s'
+pub used_told : {D : Type 0} (state : D → DeviceState) (d : D) (strict : Bool) (end : StrictEnd) (r r' w w' : Option (List ℕ)) (v : Fs D)
+    (new : Mounted D) (s s' : List Look) → IsLawful (state d) → FindsState state d v
+    → ((state v.store.log.device).keeps_model → Only (state d).content (state v.store.log.device))
+    → IsUntouched (state d) (state v.store.log.device) → Carries (state d) (state v.store.log.device)
+    → LeavesOnly (state d) (state v.store.log.device) (state d).may_leave → (state v.store.log.device).failures ≡ (state d).failures
+    → EndsTold state strict end r r' w w' (seen v) new s s' → SessionTold strict end r r' w w' (state d) (state new.log.device) s s'
 used_told state d strict end r r' w w' v new s s' lawful finds durable untouched carries moment no_failure ends = record {
   texts = ends.ends.texts;
   script = ends.ends.script;
@@ -61,22 +73,21 @@ used_told state d strict end r r' w w' v new s s' lawful finds durable untouched
   spelled = ends.ends.spelled;
   bytes = ends.ends.bytes;
   looked = ends.looked;
-  uses = λ keeps. uses_told state d lawful v new ends.ends.script ends.ends.answers finds durable untouched carries moment no_failure ends.clocks ends.told keeps;
+  uses = λ keeps. uses_told state d lawful v new ends.ends.script ends.ends.answers finds durable untouched carries moment no_failure
+      ends.clocks ends.told keeps;
 }
 
 -- where it isn't strict, no refusal ends it
-pub told_goes_on : (end : StrictEnd) (r r' w w' : Option (List ℕ)) (d d' : DeviceState) (s s' : List Look) → end ≡ Refused → SessionTold false end r r' w w' d d' s s' → ⊥
+pub told_goes_on : (end : StrictEnd) (r r' w w' : Option (List ℕ)) (d d' : DeviceState) (s s' : List Look) → end ≡ Refused
+    → SessionTold false end r r' w w' d d' s s' → ⊥
 told_goes_on end r r' w w' d d' s s' is session =
     let ended = subst (λ (e : StrictEnd). SessionTold false e r r' w w' d d' s s') is session in
     let bad : false ≡ true = ended.bytes.refused.0 in cc
 
 -- a session whose end is known
-pub told_of : (strict : Bool) (end is : StrictEnd) (r r' w w' : Option (List ℕ)) (d d' : DeviceState) (s s' : List Look) → end ≡ is → SessionTold strict end r r' w w' d d' s s' → SessionTold strict is r r' w w' d d' s s'
+pub told_of : (strict : Bool) (end is : StrictEnd) (r r' w w' : Option (List ℕ)) (d d' : DeviceState) (s s' : List Look) → end ≡ is
+    → SessionTold strict end r r' w w' d d' s s' → SessionTold strict is r r' w w' d d' s s'
 told_of strict end is r r' w w' d d' s s' same session = subst (λ (e : StrictEnd). SessionTold strict e r r' w w' d d' s s') same session
-
--- a strict session, whose end is known
-pub session_of : (end is : StrictEnd) (r r' w w' : Option (List ℕ)) (d d' : DeviceState) → end ≡ is → StrictSession end r r' w w' d d' → StrictSession is r r' w w' d d'
-session_of end is r r' w w' d d' same session = subst (λ (e : StrictEnd). StrictSession e r r' w w' d d') same session
 
 -- what is said of what a result holds
 pub ok_of : {A E : Type 0} (P : A → Type 0) (r : Result A E) (x : A) → r ≡ Ok x → IfOk r P → P x
@@ -86,15 +97,18 @@ pub err_of : {A E : Type 0} (P : E → Type 0) (r : Result A E) (e : E) → r �
 err_of {A} {E} P r e is has = subst (λ (q : Result A E). IfErr q P) is has
 
 -- A stop, which leaves one of the contents that might be left.
-module _ (mid new : DeviceState) (counts : (t : ℕ) (c : Content) → t ≤ mid.moment → mid.may_leave c → mid.left_since t c) (carries : Carries mid new) (time : Elapses mid new)
+module _ (mid new : DeviceState) (counts : (t : ℕ) (c : Content) → t ≤ mid.moment → mid.may_leave c → mid.left_since t c)
+    (carries : Carries mid new) (time : Elapses mid new)
     (same : new.failures ≡ mid.failures) (only : Only new.content new) (chosen : mid.may_leave new.content) where
   pub was_left : (c : Content) → new.may_leave c → mid.may_leave c
   was_left c left = subst (λ (x : Content). mid.may_leave x) (sym (only c left)) chosen
 
   pub stop_leaves : (d : DeviceState) (P : Content → Type 0) → LeavesOnly d mid P → LeavesOnly d new P
-  stop_leaves d P leaves = goes_on d mid new P leaves carries time (λ c left. leaves.each c (counts d.moment c leaves.later (was_left c left)))
+  stop_leaves d P leaves =
+      goes_on d mid new P leaves carries time (λ c left. leaves.each c (counts d.moment c leaves.later (was_left c left)))
 
-  stopped_use : (d : DeviceState) (lines : List Line) (answers : List Answer) → UsesVolume d mid lines answers → UsesVolume d new lines answers
+  stopped_use : (d : DeviceState) (lines : List Line) (answers : List Answer) → UsesVolume d mid lines answers
+      → UsesVolume d new lines answers
   stopped_use d lines answers uses = record {
     first = uses.first;
     points = uses.points;
@@ -115,7 +129,8 @@ module _ (mid new : DeviceState) (counts : (t : ℕ) (c : Content) → t ≤ mid
         record { began = more.began; moments = stop_leaves d _ more.moments });
   }
 
-  pub stopped : (d : DeviceState) (end : ScriptEnd) (r r' w w' : Option (List ℕ)) → Session end r r' w w' d mid → Session end r r' w w' d new
+  pub stopped : (d : DeviceState) (end : ScriptEnd) (r r' w w' : Option (List ℕ)) → Session end r r' w w' d mid
+      → Session end r r' w w' d new
   stopped d end r r' w w' session = record {
     texts = session.texts;
     script = session.script;
@@ -126,13 +141,16 @@ module _ (mid new : DeviceState) (counts : (t : ℕ) (c : Content) → t ≤ mid
   }
 
   -- what was told is kept over the stop
-  kept_over : (points : List Point) (calls : List Call) (answers : List Answer) (clocks : List ℕ) → AreKeptSince mid points calls answers clocks → AreKeptSince new points calls answers clocks
+  kept_over : (points : List Point) (calls : List Call) (answers : List Answer) (clocks : List ℕ)
+      → AreKeptSince mid points calls answers clocks → AreKeptSince new points calls answers clocks
   kept_over points calls answers clocks kept = record {
     past = λ i t is. (let was = kept.past i t is in let later = carries.later in omega (arith, was, later));
-    since = λ i t is c left. kept.since i t is c (⊎_elim (λ was. was) (λ now. counts t c (kept.past i t is) (was_left c now)) (time t c (kept.past i t is) left));
+    since = λ i t is c left. kept.since i t is c
+        (⊎_elim (λ was. was) (λ now. counts t c (kept.past i t is) (was_left c now)) (time t c (kept.past i t is) left));
   }
 
-  pub stopped_told : (d : DeviceState) (strict : Bool) (end : StrictEnd) (r r' w w' : Option (List ℕ)) (s s' : List Look) → SessionTold strict end r r' w w' d mid s s' → SessionTold strict end r r' w w' d new s s'
+  pub stopped_told : (d : DeviceState) (strict : Bool) (end : StrictEnd) (r r' w w' : Option (List ℕ)) (s s' : List Look)
+      → SessionTold strict end r r' w w' d mid s s' → SessionTold strict end r r' w w' d new s s'
   unfolding stopped_use
   stopped_told d strict end r r' w w' s s' session = record {
     texts = session.texts;

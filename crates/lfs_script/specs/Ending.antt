@@ -27,10 +27,12 @@ replies = flat_map reply
 abbrev pub IsBadText : List ℕ → Type 0
 IsBadText text = (line : Line) → ¬ Spells text line
 
--- The bytes of a bad line, with what was read behind them: a newline, or nothing at the end of the input. Of a line that is too long they are a beginning.
+-- The bytes of a bad line, with what was read behind them: a newline, or nothing
+-- at the end of the input. Of a line that is too long they are a beginning.
 pub record IsBadLine (text more : List ℕ) (left : Option (List ℕ)) : Type 0 where
   pub plain : IsText text
-  pub is_bad : (140000 < length text) ⊎ (IsBadText text × (((rest : List ℕ) × (more ≡ 10 ∷ rest)) ⊎ ((more ≡ []) × (0 < length text) × IsAtEnd left)))
+  pub is_bad : (140000 < length text)
+      ⊎ (IsBadText text × (((rest : List ℕ) × (more ≡ 10 ∷ rest)) ⊎ ((more ≡ []) × (0 < length text) × IsAtEnd left)))
 
 -- these bytes went out, and then some of those
 abbrev pub AppendsTo : Option (List ℕ) → Option (List ℕ) → List ℕ → List ℕ → Type 0
@@ -63,9 +65,12 @@ pub record StopsInBad (r r' w w' : Option (List ℕ)) (texts : List (List ℕ)) 
 -- What each end says: of these texts the calls were made, and these are their answers.
 abbrev pub EndOf : ScriptEnd → Option (List ℕ) → Option (List ℕ) → Option (List ℕ) → Option (List ℕ) → List (List ℕ) → List Answer → Type 0
 -- the input is read to its end, and each of its lines has its reply
-EndOf Done r r' w w' texts answers = (input : List ℕ) × Consumes r r' input × IsAtEnd r' × (lines input ≡ texts) × Appends w w' (replies answers)
-EndOf (BadLine n) r r' w w' texts answers = (n ≡ length texts + 1) × (text : List ℕ) × (more : List ℕ) × IsBadLine text more r' × Consumes r r' (ended_texts texts ++ (text ++ more)) × Appends w w' (replies answers ++ bad n)
+EndOf Done r r' w w' texts answers = (input : List ℕ) × Consumes r r' input × IsAtEnd r' × (lines input ≡ texts)
+    × Appends w w' (replies answers)
+EndOf (BadLine n) r r' w w' texts answers = (n ≡ length texts + 1) × (text : List ℕ) × (more : List ℕ) × IsBadLine text more r'
+    × Consumes r r' (ended_texts texts ++ (text ++ more)) × Appends w w' (replies answers ++ bad n)
 -- no further line was whole in what was read; or so many lines were read as have a number
-EndOf Read r r' w w' texts answers = (part : List ℕ) × (IsText part ⊎ (2 ^ 64 - 2 ≤ length texts)) × Consumes r r' (ended_texts texts ++ part) × Appends w w' (replies answers)
+EndOf Read r r' w w' texts answers = (part : List ℕ) × (IsText part ⊎ (2 ^ 64 - 2 ≤ length texts))
+    × Consumes r r' (ended_texts texts ++ part) × Appends w w' (replies answers)
 EndOf Write r r' w w' texts answers = StopsInReply r r' w w' texts answers ⊎ StopsInBad r r' w w' texts answers
 EndOf Memory r r' w w' texts answers = Keeps r r' × Keeps w w' × (texts ≡ [])

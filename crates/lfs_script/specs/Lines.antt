@@ -1,6 +1,7 @@
 -- The lines of a script, and how they are cut into words. What a line is, and its one text, is the model's.
 use Rattle.std.specs.Prelude.{◌≢◌, ℕ, ◌==◌, if◌then◌else◌, List, [], ◌∷◌, Option, Some, None, codes, decimal}
-use Rattle.lfs_model.specs.Call.{Create, Open, Close, Pread, Pwrite, Truncate, Mkdir, LinkTo, Symlink, Readlink, Unlink, Rmdir, Rename, StatOf, LstatOf, Readdir, Fsync, Sync, Clean, Space, Version, Upgrade, Widen, ListTree}
+use Rattle.lfs_model.specs.Call.{Create, Open, Close, Pread, Pwrite, Truncate, Mkdir, LinkTo, Symlink, Readlink, Unlink, Rmdir, Rename}
+use Rattle.lfs_model.specs.Call.{StatOf, LstatOf, Readdir, Fsync, Sync, Clean, Space, Version, Upgrade, Widen, ListTree}
 use Rattle.lfs_model.specs.Script.{Line, Plain, Fill, InRange, hex, line_of, text_of, word}
 
 -- no line has this text

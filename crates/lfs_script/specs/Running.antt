@@ -25,7 +25,8 @@ RepliesBadLine Read w w' n = ⊥
 RepliesBadLine Memory w w' n = ⊥
 
 module _ {D : Type 0} (state : D → DeviceState) where
-  -- A run of a script: each text spells a line, the lines' answers are a run of the model on the volume, and the bytes are those of the end.
+  -- A run of a script: each text spells a line, the lines' answers are a
+  -- run of the model on the volume, and the bytes are those of the end.
   pub record Ends (end : ScriptEnd) (r r' w w' : Option (List ℕ)) (old new : Mounted D) : Type 0 where
     pub texts : List (List ℕ)
     pub script : List Line
@@ -44,7 +45,8 @@ module _ {D : Type 0} (state : D → DeviceState) where
     pub bytes : StrictEndOf strict end r r' w w' texts answers
 
   -- As `EndsBy`, with the clocks at which the replies went out.
-  pub record EndsTold (strict : Bool) (end : StrictEnd) (r r' w w' : Option (List ℕ)) (old new : Mounted D) (s s' : List Look) : Type 0 where
+  pub record EndsTold (strict : Bool) (end : StrictEnd) (r r' w w' : Option (List ℕ)) (old new : Mounted D)
+      (s s' : List Look) : Type 0 where
     pub ends : EndsBy strict end r r' w w' old new
     pub clocks : List ℕ
     pub told : TellsLines state old new ends.script ends.answers clocks
@@ -67,7 +69,8 @@ module _ {D : Type 0} (state : D → DeviceState) where
   abbrev pub Turns : Bool → Option StrictEnd → Option (List ℕ) → Option (List ℕ) → Mounted D → Mounted D → List ℕ → ℕ → Type 0
   Turns strict None w w' old new text n = (call : Called (Appends w w') old new text) × GoesOnBehind strict call.answer
   Turns strict (Some Refused) w w' old new text n = (call : Called (Appends w w') old new text) × EndsBehind strict call.answer
-  Turns strict (Some (Script end)) w w' old new text n = ((end ≡ Write) × Called (AppendsSome w w') old new text) ⊎ (IsBadText text × RepliesBadLine end w w' n × (new ≡ old))
+  Turns strict (Some (Script end)) w w' old new text n = ((end ≡ Write) × Called (AppendsSome w w') old new text)
+      ⊎ (IsBadText text × RepliesBadLine end w w' n × (new ≡ old))
 
   -- Where the text is a call's, device and writer are looked at once: behind the call, before its reply. A bad text isn't looked at.
   pub record LooksBeforeReply (new : Mounted D) (w : Option (List ℕ)) (text : List ℕ) (s s' : List Look) : Type 0 where
@@ -75,9 +78,11 @@ module _ {D : Type 0} (state : D → DeviceState) where
     pub never : IsBadText text → s' ≡ s
 
   -- Both of the last line, which may be none.
-  abbrev pub Finishes : Bool → StrictEnd → Option (List ℕ) → Option (List ℕ) → Mounted D → Mounted D → List ℕ → ℕ → List Look → List Look → Type 0
+  abbrev pub Finishes : Bool → StrictEnd → Option (List ℕ) → Option (List ℕ) → Mounted D → Mounted D → List ℕ → ℕ → List Look → List Look
+      → Type 0
   Finishes strict end w w' old new text n s s' = ((text ≡ []) × (end ≡ Script Done) × (w' ≡ w) × (new ≡ old) × (s' ≡ s))
-      ⊎ ((0 < length text) × LooksBeforeReply new w text s s' × (((end ≡ Script Done) × Turns strict None w w' old new text n) ⊎ Turns strict (Some end) w w' old new text n))
+      ⊎ ((0 < length text) × LooksBeforeReply new w text s s'
+      × (((end ≡ Script Done) × Turns strict None w w' old new text n) ⊎ Turns strict (Some end) w w' old new text n))
 
   -- How far a script has come before the n-th line, where the reader has this left.
   pub record SoFar (strict : Bool) (n : ℕ) (r left w w' : Option (List ℕ)) (old now : Mounted D) (s s' : List Look) : Type 0 where

@@ -6,4 +6,5 @@ use Rattle.lfs_script.specs.declared.witness.Seen.{Seen, Start, Then'}
 
 abbrev pub looks_in : {D W : Type 0} → (D → DeviceState) → (W → Option (List ℕ)) → Seen D W → List Look
 looks_in state contents Start = []
-looks_in state contents (Then' device writer mark before) = looks_in state contents before ++ (record { moment = (state device.value).moment; written = contents writer.value }) ∷ []
+looks_in state contents (Then' device writer mark before) =
+    looks_in state contents before ++ (record { moment = (state device.value).moment; written = contents writer.value }) ∷ []

@@ -25,7 +25,8 @@ abbrev pub texts_of : List StoppedScript → List (List ℕ)
 texts_of = map (λ s. s.script.items)
 
 module _ {D : Type 0} (state : D → DeviceState) where
-  -- A use by a script of this text, up to a stop that leaves one content. It goes on after the run before, and the next goes on after its own.
+  -- A use by a script of this text, up to a stop that leaves one content.
+  -- It goes on after the run before, and the next goes on after its own.
   pub record UsesOne (text : List ℕ) (old new : Between D) : Type 0 where
     pub end : ScriptEnd
     pub rest : Option (List ℕ)

@@ -30,7 +30,8 @@ module _ {D : Type 0} (state : D → DeviceState) (strict : Bool) where
   -- uses one after the other, each of what the stop before it left
   abbrev pub UsesEachTold : List (List ℕ) → Between D → Between D → List Look → List Look → Type 0
   UsesEachTold [] old new s s' = (new ≡ old) × (s' ≡ s)
-  UsesEachTold (text ∷ texts) old new s s' = (mid : Between D) × (looks : List Look) × UsesOneTold text old mid s looks × UsesEachTold texts mid new looks s'
+  UsesEachTold (text ∷ texts) old new s s' = (mid : Between D) × (looks : List Look) × UsesOneTold text old mid s looks
+      × UsesEachTold texts mid new looks s'
 
   -- All were used in turn. The last stop left a state that was pending then.
   pub record UsesInTurnTold (texts : List (List ℕ)) (old : Between D) (w' : Option (List ℕ)) (d' : D) (s s' : List Look) : Type 0 where
@@ -41,7 +42,8 @@ module _ {D : Type 0} (state : D → DeviceState) (strict : Bool) where
     pub pending : LeavesPrefix (state d') last.points last.calls last.given
 
   -- After some of them a mount failed, with its reason. What was left before it is still there.
-  pub record StopsAtMountTold (texts : List (List ℕ)) (fault : MountFault) (old : Between D) (w' : Option (List ℕ)) (d' : D) (s s' : List Look) : Type 0 where
+  pub record StopsAtMountTold (texts : List (List ℕ)) (fault : MountFault) (old : Between D) (w' : Option (List ℕ)) (d' : D)
+      (s s' : List Look) : Type 0 where
     pub done : List (List ℕ)
     pub others : List (List ℕ)
     pub all : done ++ others ≡ texts

@@ -11,8 +11,9 @@ use Rattle.lfs_script.specs.Told.{Look, Looked}
 use Rattle.lfs_script.specs.declared.script.StrictEnd.{StrictEnd}
 use Rattle.lfs_script.specs.declared.script.ScriptEnd.{ScriptEnd}
 
--- A use of a volume by a script, from the reader, the writer and the device before its mount to those at the end. The texts of these lines were
--- read, and what was written is the replies of these answers, over any device. Where it keeps the device model, they are a use of its volume.
+-- A use of a volume by a script, from the reader, the writer and the device before its mount to
+-- those at the end. The texts of these lines were read, and what was written is the replies of
+-- these answers, over any device. Where it keeps the device model, they are a use of its volume.
 pub record Session (end : ScriptEnd) (r r' w w' : Option (List ℕ)) (d d' : DeviceState) : Type 0 where
   pub texts : List (List ℕ)
   pub script : List Line
@@ -22,7 +23,8 @@ pub record Session (end : ScriptEnd) (r r' w w' : Option (List ℕ)) (d d' : Dev
   pub uses : d'.keeps_model → UsesVolume d d' script answers
 
 -- The same, before a witness, which looked at device and writer before each reply went out.
-pub record SessionTold (strict : Bool) (end : StrictEnd) (r r' w w' : Option (List ℕ)) (d d' : DeviceState) (s s' : List Look) : Type 0 where
+pub record SessionTold (strict : Bool) (end : StrictEnd) (r r' w w' : Option (List ℕ)) (d d' : DeviceState)
+    (s s' : List Look) : Type 0 where
   pub texts : List (List ℕ)
   pub script : List Line
   pub answers : List Answer

@@ -1,4 +1,5 @@
--- Behind which answers a run goes on, and what a run says by its end: a strict run ends at the first refusal, after its reply. The language is an own choice.
+-- Behind which answers a run goes on, and what a run says by its end: a strict
+-- run ends at the first refusal, after its reply. The language is an own choice.
 use Rattle.std.specs.Prelude.{◌≡◌, ◌⊎◌, ℕ, Bool, true, false, IsTrue, Option, Some, None, List, [], ◌∷◌, ◌++◌}
 use Rattle.std.specs.List.{AllByRecursion}
 use Rattle.std.specs.Io.KnownBytes.{Appends, Consumes}
@@ -29,7 +30,8 @@ Follows strict None answer = GoesOnBehind strict answer
 Follows strict (Some Refused) answer = EndsBehind strict answer
 Follows strict (Some (Script end)) answer = ⊥
 
--- All replies went out. The last answer alone is a refusal; the lines are all those of the input, each of them whole, and more may have been read.
+-- All replies went out. The last answer alone is a refusal; the lines are
+-- all those of the input, each of them whole, and more may have been read.
 pub record StopsBehind (strict : Bool) (r r' w w' : Option (List ℕ)) (texts : List (List ℕ)) (answers : List Answer) : Type 0 where
   pub input : List ℕ
   pub more : List ℕ
@@ -44,9 +46,11 @@ pub record StopsBehind (strict : Bool) (r r' w w' : Option (List ℕ)) (texts : 
   pub written : Appends w w' (replies answers)
 
 -- What each end says: as of a run that isn't strict, and which answers aren't refusals. The reply that went out in part may be one.
-abbrev pub StrictEndOf : Bool → StrictEnd → Option (List ℕ) → Option (List ℕ) → Option (List ℕ) → Option (List ℕ) → List (List ℕ) → List Answer → Type 0
+abbrev pub StrictEndOf : Bool → StrictEnd → Option (List ℕ) → Option (List ℕ) → Option (List ℕ) → Option (List ℕ) → List (List ℕ)
+    → List Answer → Type 0
 StrictEndOf strict Refused r r' w w' texts answers = StopsBehind strict r r' w w' texts answers
-StrictEndOf strict (Script Write) r r' w w' texts answers = ((stop : StopsInReply r r' w w' texts answers) × GoesOn strict stop.before) ⊎ (StopsInBad r r' w w' texts answers × GoesOn strict answers)
+StrictEndOf strict (Script Write) r r' w w' texts answers = ((stop : StopsInReply r r' w w' texts answers) × GoesOn strict stop.before)
+    ⊎ (StopsInBad r r' w w' texts answers × GoesOn strict answers)
 StrictEndOf strict (Script end) r r' w w' texts answers = EndOf end r r' w w' texts answers × GoesOn strict answers
 
 -- As `Session`, by a strict run of the script.

@@ -16,7 +16,8 @@ module _ (old new : UsageTable) (s number : ℕ) (go : Begins old new s number) 
 
   -- the segment has room for a block
   pub begins_room : used_of new s < 64
-  begins_room = either (used_of new s < 64) (λ t. let u = t.used.own in omega arith) (λ g. let u = g.used.own in let r = g.room in omega arith)
+  begins_room =
+      either (used_of new s < 64) (λ t. let u = t.used.own in omega arith) (λ g. let u = g.used.own in let r = g.room in omega arith)
 
   pub begins_kept : (i : ℕ) → kept_of new i ≡ kept_of old i
   begins_kept i = either (kept_of new i ≡ kept_of old i) (λ t. t.kept i) (λ g. g.kept i)

@@ -1,5 +1,6 @@
 -- Segments chosen one after the other: they are the first ones of their order.
-use Rattle.std.proofs.Common.{◌≡◌, ◌<◌, ◌≤◌, ◌⊎◌, ⊎_elim, ◌+◌, ℕ, suc, List, [], ◌∷◌, ◌++◌, length, get_or, Option, Some, None, refl, sym, subst, arith, inl, inr}
+use Rattle.std.proofs.Common.{◌≡◌, ◌<◌, ◌≤◌, ◌⊎◌, ⊎_elim, ◌+◌, ℕ, suc, List, [], ◌∷◌, ◌++◌, length, get_or, Option, Some, None, refl, sym}
+use Rattle.std.proofs.Common.{subst, arith, inl, inr}
 use Rattle.std.specs.Prelude.{⊤}
 use Rattle.std.specs.List.{AllByRecursion}
 use Rattle.std.proofs.lemmas.Bool.{cases_lt, cases_eq}
@@ -16,10 +17,6 @@ use Rattle.lfs_segments.proofs.Orders.{is_order}
 
 -- ---- the first candidate so far, of the segments below s
 module _ (t : UsageTable) (p : Preference) (last : Option Candidate) where
-  -- of no segments there is none
-  pub leads_none : Leads t p last 0 None
-  leads_none = record { least = λ i lt used behind. absurd (omega (arith, lt)); known = tt; behind = λ c is. absurd (cc is) }
-
   -- what comes before the next one comes before what that one reaches
   on_reaches : (next : Option Candidate) (c : Candidate) (i : ℕ) → IsAhead t p next c.segment → Reaches t p next i → Reaches t p (Some c) i
   on_reaches None c i ahead reaches = absurd reaches
@@ -34,7 +31,8 @@ module _ (t : UsageTable) (p : Preference) (last : Option Candidate) where
   IsBehindOf (Some c) = IsBehind t p last c.segment
 
   -- a segment takes its place, where it comes before
-  pub leads_on : (next : Option Candidate) (c : Candidate) → Leads t p last c.segment next → IsCandidate t c → IsBehind t p last c.segment → IsAhead t p next c.segment → Leads t p last (suc c.segment) (Some c)
+  pub leads_on : (next : Option Candidate) (c : Candidate) → Leads t p last c.segment next → IsCandidate t c → IsBehind t p last c.segment
+      → IsAhead t p next c.segment → Leads t p last (suc c.segment) (Some c)
   leads_on next c is there behind ahead = record {
     least = λ i low used after. ⊎_elim
         (λ (before : i < c.segment). on_reaches next c i ahead (is.least i before used after))
@@ -43,39 +41,6 @@ module _ (t : UsageTable) (p : Preference) (last : Option Candidate) where
     known = there;
     behind = λ d same. subst (λ (o : Option Candidate). IsBehindOf o) same behind;
   }
-
-  -- else the next one stays, if it comes before or is none
-  still_reaches : (next : Option Candidate) (s : ℕ) → (IsAhead t p next s → ⊥) → Reaches t p next s
-  still_reaches None s past = absurd (past tt)
-  still_reaches (Some n) s past = ⊎_elim
-      (λ (here : n.segment ≡ s). inl here)
-      (λ (away : n.segment ≡ s → ⊥). inr (⊎_elim
-      (λ (before : Precedes t p n.segment s). before)
-      (λ (after : Precedes t p s n.segment). absurd (past after))
-      ((is_order t p).either n.segment s away)))
-      (cases_eq n.segment s)
-
-  leads_past : (next : Option Candidate) (s : ℕ) → Leads t p last s next → (MayBeVictim t s → IsBehind t p last s → Reaches t p next s) → Leads t p last (suc s) next
-  leads_past next s is own = record {
-    least = λ i low used after. ⊎_elim
-        (λ (before : i < s). is.least i before used after)
-        (λ (here : s ≤ i).
-        let e : s ≡ i = omega (arith, here, low) in
-        subst (λ (z : ℕ). Reaches t p next z) e (own (subst (MayBeVictim t) (sym e) used) (subst (λ (z : ℕ). IsBehind t p last z) (sym e) after)))
-        (cases_lt i s);
-    known = is.known;
-    behind = is.behind;
-  }
-
-  pub leads_behind : (next : Option Candidate) (s : ℕ) → Leads t p last s next → (IsBehind t p last s → ⊥) → Leads t p last (suc s) next
-  leads_behind next s is out = leads_past next s is (λ used after. absurd (out after))
-
-  pub leads_after : (next : Option Candidate) (s : ℕ) → Leads t p last s next → (IsAhead t p next s → ⊥) → Leads t p last (suc s) next
-  leads_after next s is out = leads_past next s is (λ used after. still_reaches next s out)
-
-  -- a segment that may not be cleaned is no candidate
-  pub leads_over : (next : Option Candidate) (s : ℕ) → Leads t p last s next → (MayBeVictim t s → ⊥) → Leads t p last (suc s) next
-  leads_over next s is out = leads_past next s is (λ used after. absurd (out used))
 
 -- ---- what is chosen so far, and the last one of it
 abbrev pub IsEnd : UsageTable → Preference → Option Candidate → List ℕ → Type 0
@@ -88,16 +53,6 @@ pub record Picked (t : UsageTable) (p : Preference) (last : Option Candidate) (x
   pub apart : AreApart xs
   pub end : IsEnd t p last xs
   pub known : IsKnown t last
-
--- none is chosen yet
-pub picked_none : (t : UsageTable) (p : Preference) → Picked t p None []
-picked_none t p = record {
-  first = record { ordered = λ i j d less low. absurd (omega (arith, low)); others = λ v s is. absurd is };
-  each = tt;
-  apart = tt;
-  end = refl;
-  known = tt;
-}
 
 module _ (t : UsageTable) (p : Preference) where
   abbrev R : ℕ → ℕ → Type 0
@@ -115,11 +70,13 @@ module _ (t : UsageTable) (p : Preference) where
       (end.1 s is)
 
   -- and what isn't chosen comes behind it
-  behind_out : (last : Option Candidate) (xs : List ℕ) (s : ℕ) → IsEnd t p last xs → AreFirst t R xs → MayBeVictim t s → (IsIn xs s → ⊥) → IsBehind t p last s
+  behind_out : (last : Option Candidate) (xs : List ℕ) (s : ℕ) → IsEnd t p last xs → AreFirst t R xs → MayBeVictim t s → (IsIn xs s → ⊥)
+      → IsBehind t p last s
   behind_out None xs s end first used out = tt
   behind_out (Some c) xs s end first used out = first.others c.segment s end.0 used out
 
-  module _ (last : Option Candidate) (xs : List ℕ) (c : Candidate) (was : Picked t p last xs) (leads : Leads t p last (length t.segments) (Some c)) where
+  module _ (last : Option Candidate) (xs : List ℕ) (c : Candidate) (was : Picked t p last xs)
+      (leads : Leads t p last (length t.segments) (Some c)) where
     x : ℕ
     x = c.segment
 
@@ -143,7 +100,8 @@ module _ (t : UsageTable) (p : Preference) where
     pub picked_next : Picked t p (Some c) (xs ++ c.segment ∷ [])
     picked_next = record {
       first = record {
-        ordered = all_pairs_push R xs c.segment was.first.ordered (λ k d low. was.first.others (get_or xs k d) c.segment (at_in xs k d low) used new);
+        ordered = all_pairs_push R xs c.segment was.first.ordered
+            (λ k d low. was.first.others (get_or xs k d) c.segment (at_in xs k d low) used new);
         others = λ v s is there out. ⊎_elim
             (λ (before : IsIn xs v). was.first.others v s before there (λ in_xs. out (was_in xs c.segment s in_xs)))
             (λ (here : v ≡ c.segment). subst (λ (z : ℕ). R z s) (sym here) (before_others s there out))
@@ -162,7 +120,8 @@ module _ (t : UsageTable) (p : Preference) where
     }
 
   -- where no candidate is left, each segment that may be cleaned is chosen
-  pub none_left : (last : Option Candidate) (xs : List ℕ) → Picked t p last xs → Leads t p last (length t.segments) None → (s : ℕ) → MayBeVictim t s → IsIn xs s
+  pub none_left : (last : Option Candidate) (xs : List ℕ) → Picked t p last xs → Leads t p last (length t.segments) None → (s : ℕ)
+      → MayBeVictim t s → IsIn xs s
   none_left last xs was leads s there = ⊎_elim
       (λ (is : IsIn xs s). is)
       (λ (out : IsIn xs s → ⊥). absurd (leads.least s there.0 there (behind_out last xs s was.end was.first there out)))

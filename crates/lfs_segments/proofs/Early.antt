@@ -1,5 +1,6 @@
 -- The totals that are kept beside a usage table, as one segment changes.
-use Rattle.std.proofs.Common.{◌≡◌, ◌<◌, ◌≤◌, ◌+◌, ◌-◌, ◌*◌, ◌==◌, cond, ℕ, zero, suc, Bool, true, false, List, [], ◌∷◌, length, get_or, replicate, refl, sym, ap, ◌∙◌, arith, rules, eq-eqb, eqb-true, not}
+use Rattle.std.proofs.Common.{◌≡◌, ◌<◌, ◌≤◌, ◌+◌, ◌-◌, ◌*◌, ◌==◌, cond, ℕ, zero, suc, Bool, true, false, List, [], ◌∷◌, length, get_or}
+use Rattle.std.proofs.Common.{replicate, refl, sym, ap, ◌∙◌, arith, rules, eq-eqb, eqb-true, not}
 use Rattle.std.specs.Prelude.{slice_set, sum_by}
 use Rattle.std.proofs.lemmas.List.Sums.{sum_by-cons}
 use Rattle.lfs_segments.specs.Table.{SegmentNumbers, UsageTable, no_segment, used_of, live_of, held_of, kept_of, FitsSegment, FitsTable}
@@ -19,13 +20,15 @@ sum_change f (n ∷ rest) (suc s) x lt =
     omega (arith, below, sum_by-cons f n (slice_set rest s x), sum_by-cons f n rest)
 
 -- a term of a sum isn't above it
-sum_has : (f : SegmentNumbers → ℕ) (segments : List SegmentNumbers) (s : ℕ) → s < length segments → f (get_or segments s no_segment) ≤ sum_by f segments
+sum_has : (f : SegmentNumbers → ℕ) (segments : List SegmentNumbers) (s : ℕ) → s < length segments
+    → f (get_or segments s no_segment) ≤ sum_by f segments
 sum_has f [] s lt = absurd (omega (arith, lt))
 sum_has f (n ∷ rest) zero lt = omega (arith, sum_by-cons f n rest)
 sum_has f (n ∷ rest) (suc s) lt = let below = sum_has f rest s (omega (arith, lt)) in omega (arith, below, sum_by-cons f n rest)
 
 -- nor is a sum above as many of the largest term
-sum_most : (f : SegmentNumbers → ℕ) (most : ℕ) (segments : List SegmentNumbers) → ((s : ℕ) → f (get_or segments s no_segment) ≤ most) → sum_by f segments ≤ most * length segments
+sum_most : (f : SegmentNumbers → ℕ) (most : ℕ) (segments : List SegmentNumbers) → ((s : ℕ) → f (get_or segments s no_segment) ≤ most)
+    → sum_by f segments ≤ most * length segments
 sum_most f most [] each = omega arith
 sum_most f most (n ∷ rest) each =
     let below = sum_most f most rest (λ s. each (suc s)) in
@@ -33,7 +36,8 @@ sum_most f most (n ∷ rest) each =
     omega (arith, below, first, sum_by-cons f n rest)
 
 -- two lists with the same terms
-sum_same : (f : SegmentNumbers → ℕ) (old new : List SegmentNumbers) → length new ≡ length old → ((i : ℕ) → f (get_or new i no_segment) ≡ f (get_or old i no_segment)) → sum_by f new ≡ sum_by f old
+sum_same : (f : SegmentNumbers → ℕ) (old new : List SegmentNumbers) → length new ≡ length old
+    → ((i : ℕ) → f (get_or new i no_segment) ≡ f (get_or old i no_segment)) → sum_by f new ≡ sum_by f old
 sum_same f [] [] size same = refl
 sum_same f [] (b ∷ new) size same = absurd (omega (arith, size))
 sum_same f (a ∷ old) [] size same = absurd (omega (arith, size))
@@ -43,7 +47,8 @@ sum_same f (a ∷ old) (b ∷ new) size same =
     omega (arith, rest, first, sum_by-cons f a old, sum_by-cons f b new)
 
 -- where none of them has any, it is none
-sum_none : (f : SegmentNumbers → ℕ) (segments : List SegmentNumbers) → ((s : ℕ) → f (get_or segments s no_segment) ≡ 0) → sum_by f segments ≡ 0
+sum_none : (f : SegmentNumbers → ℕ) (segments : List SegmentNumbers) → ((s : ℕ) → f (get_or segments s no_segment) ≡ 0)
+    → sum_by f segments ≡ 0
 sum_none f [] each = refl
 sum_none f (n ∷ rest) each =
     let below = sum_none f rest (λ s. each (suc s)) in
@@ -67,11 +72,13 @@ early_most n fits = by_kept (n.kept == 0)
     by_kept true = let fewer = fits.fewer in let used = fits.used in omega (arith, fewer, used)
     by_kept false = omega arith
 
-pub early_total : (segments : List SegmentNumbers) → ((s : ℕ) → FitsSegment (get_or segments s no_segment)) → early_in segments ≤ 64 * length segments
+pub early_total : (segments : List SegmentNumbers) → ((s : ℕ) → FitsSegment (get_or segments s no_segment))
+    → early_in segments ≤ 64 * length segments
 unfolding early_in
 early_total segments each = sum_most early_of 64 segments (λ s. early_most (get_or segments s no_segment) (each s))
 
-pub taken_total : (segments : List SegmentNumbers) → ((s : ℕ) → FitsSegment (get_or segments s no_segment)) → taken_in segments ≤ 64 * length segments
+pub taken_total : (segments : List SegmentNumbers) → ((s : ℕ) → FitsSegment (get_or segments s no_segment))
+    → taken_in segments ≤ 64 * length segments
 unfolding taken_in
 taken_total segments each = sum_most taken_of 64 segments (λ s. let used = (each s).used in omega (arith, used))
 
@@ -94,7 +101,8 @@ unfolding taken_in
 taken_has segments s lt = sum_has taken_of segments s lt
 
 -- The totals, as each loses the term of a segment and gains that of its new numbers.
-pub totals_change : (segments : List SegmentNumbers) (s : ℕ) (x : SegmentNumbers) (clean early taken clean' early' taken' : ℕ) → s < length segments → AreTotals segments clean early taken
+pub totals_change : (segments : List SegmentNumbers) (s : ℕ) (x : SegmentNumbers) (clean early taken clean' early' taken' : ℕ)
+    → s < length segments → AreTotals segments clean early taken
     → clean' + cond ((get_or segments s no_segment).used == 0) 1 0 ≡ clean + cond (x.used == 0) 1 0
     → early' + early_of (get_or segments s no_segment) ≡ early + early_of x
     → taken' + taken_of (get_or segments s no_segment) ≡ taken + taken_of x
@@ -113,7 +121,8 @@ totals_new segments n is = record {
 }
 
 -- A term that is none in a sum that is none.
-sum_zero : (f : SegmentNumbers → ℕ) (segments : List SegmentNumbers) → f no_segment ≡ 0 → sum_by f segments ≡ 0 → (s : ℕ) → f (get_or segments s no_segment) ≡ 0
+sum_zero : (f : SegmentNumbers → ℕ) (segments : List SegmentNumbers) → f no_segment ≡ 0 → sum_by f segments ≡ 0 → (s : ℕ)
+    → f (get_or segments s no_segment) ≡ 0
 sum_zero f [] past none s = past
 sum_zero f (n ∷ rest) past none zero = omega (arith, none, sum_by-cons f n rest)
 sum_zero f (n ∷ rest) past none (suc s) = sum_zero f rest past (omega (arith, none, sum_by-cons f n rest)) s
@@ -130,18 +139,6 @@ pub taken_of_untaken : (t : UsageTable) → AreUntaken t → taken_in t.segments
 unfolding taken_in
 taken_of_untaken t un = sum_none taken_of t.segments (λ s. let same = un s in omega (arith, same))
 
--- and then no block is early, for none stands in a segment that isn't in use
-pub early_of_untaken : (t : UsageTable) → FitsTable t → AreUntaken t → early_in t.segments ≡ 0
-unfolding early_in
-early_of_untaken t fits un = sum_none early_of t.segments each
-  where
-    own : (n : SegmentNumbers) → FitsSegment n → n.kept ≡ n.used → (b : Bool) → (n.kept == 0) ≡ b → cond b (n.live + n.held) 0 ≡ 0
-    own n is same true here = let fewer = is.fewer in let zeros = eqb-true n.kept 0 here in omega (arith, fewer, same, zeros)
-    own n is same false here = refl
-
-    each : (s : ℕ) → early_of (get_or t.segments s no_segment) ≡ 0
-    each s = own (get_or t.segments s no_segment) (fits.each s) (un s) ((get_or t.segments s no_segment).kept == 0) refl
-
 -- two lists that differ in one term
 sum_moved : (f : SegmentNumbers → ℕ) (old new : List SegmentNumbers) (s : ℕ) → length new ≡ length old → s < length old
     → ((i : ℕ) → (i ≡ s → ⊥) → f (get_or new i no_segment) ≡ f (get_or old i no_segment))
@@ -157,23 +154,28 @@ sum_moved f (a ∷ old) (b ∷ new) (suc s) size lt same =
     omega (arith, rest, first, sum_by-cons f a old, sum_by-cons f b new)
 
 -- A block that is noted in a segment of which nothing is kept is early.
-pub early_noted : (old new : UsageTable) (s : ℕ) (lives : Bool) → s < length old.segments → kept_of old s ≡ 0 → Notes old new s lives → early_in new.segments ≡ early_in old.segments + 1
+pub early_noted : (old new : UsageTable) (s : ℕ) (lives : Bool) → s < length old.segments → kept_of old s ≡ 0 → Notes old new s lives
+    → early_in new.segments ≡ early_in old.segments + 1
 unfolding early_in
 early_noted old new s lives lt kept notes =
     let moved = sum_moved early_of old.segments new.segments s notes.size lt away in
-    let before : early_of (get_or old.segments s no_segment) ≡ live_of old s + held_of old s = ap {B = ℕ} (λ (b : Bool). cond {A = ℕ} b (live_of old s + held_of old s) 0) (eq-eqb (kept_of old s) 0 kept) in
-    let now : early_of (get_or new.segments s no_segment) ≡ live_of new s + held_of new s = ap {B = ℕ} (λ (b : Bool). cond {A = ℕ} b (live_of new s + held_of new s) 0) (eq-eqb (kept_of new s) 0 (notes.kept s ∙ kept)) in
+    let before : early_of (get_or old.segments s no_segment) ≡ live_of old s + held_of old s =
+    ap {B = ℕ} (λ (b : Bool). cond {A = ℕ} b (live_of old s + held_of old s) 0) (eq-eqb (kept_of old s) 0 kept) in
+    let now : early_of (get_or new.segments s no_segment) ≡ live_of new s + held_of new s =
+    ap {B = ℕ} (λ (b : Bool). cond {A = ℕ} b (live_of new s + held_of new s) 0) (eq-eqb (kept_of new s) 0 (notes.kept s ∙ kept)) in
     let one = one_more lives notes.live notes.held in
     omega (arith, moved, before, now, one)
   where
     away : (i : ℕ) → (i ≡ s → ⊥) → early_of (get_or new.segments i no_segment) ≡ early_of (get_or old.segments i no_segment)
     away i ne = search rules
 
-    one_more : (l : Bool) → CountsUp l (live_of old) (live_of new) s → CountsUp (not l) (held_of old) (held_of new) s → live_of new s + held_of new s ≡ live_of old s + held_of old s + 1
+    one_more : (l : Bool) → CountsUp l (live_of old) (live_of new) s → CountsUp (not l) (held_of old) (held_of new) s
+        → live_of new s + held_of new s ≡ live_of old s + held_of old s + 1
     one_more l live held = search rules
 
 -- Where live, held and kept are the same, as many blocks are early.
-pub early_same : (old new : UsageTable) → length new.segments ≡ length old.segments → ((i : ℕ) → live_of new i ≡ live_of old i) → ((i : ℕ) → held_of new i ≡ held_of old i) → ((i : ℕ) → kept_of new i ≡ kept_of old i)
+pub early_same : (old new : UsageTable) → length new.segments ≡ length old.segments → ((i : ℕ) → live_of new i ≡ live_of old i)
+    → ((i : ℕ) → held_of new i ≡ held_of old i) → ((i : ℕ) → kept_of new i ≡ kept_of old i)
     → early_in new.segments ≡ early_in old.segments
 unfolding early_in
 early_same old new size live held kept = sum_same early_of old.segments new.segments size each

@@ -1,5 +1,6 @@
 -- What is gained as a checkpoint is acknowledged: the segments that were emptied are clean, besides those that were.
-use Rattle.std.proofs.Common.{◌≡◌, ◌<◌, ◌≤◌, ⊎_elim, ◌+◌, ◌==◌, ◌&&◌, cond, ℕ, zero, suc, Bool, true, false, List, [], ◌∷◌, length, get_or, refl, sym, ◌∙◌, ap, ap₂, subst, arith, inl, inr, eq-eqb}
+use Rattle.std.proofs.Common.{◌≡◌, ◌<◌, ◌≤◌, ⊎_elim, ◌+◌, ◌==◌, ◌&&◌, cond, ℕ, zero, suc, Bool, true, false, List, [], ◌∷◌, length, get_or}
+use Rattle.std.proofs.Common.{refl, sym, ◌∙◌, ap, ap₂, subst, arith, inl, inr, eq-eqb}
 use Rattle.std.specs.List.{AllByRecursion}
 use Rattle.std.proofs.lemmas.Bool.{cases_eq, cond-true, cond-false, ne_eqb}
 use Rattle.lfs_model.specs.Members.{IsIn, AreApart}
@@ -60,7 +61,8 @@ count_less p q (suc n) less =
     either false b h = omega arith
 
 -- so many distinct ones that didn't pass pass now
-pub count_gained : (vs : List ℕ) (p q : ℕ → Bool) (n : ℕ) → AreApart vs → AllByRecursion (λ s. s < n) vs → AllByRecursion (λ s. (p s ≡ false) × (q s ≡ true)) vs → ((s : ℕ) → s < n → p s ≡ true → q s ≡ true)
+pub count_gained : (vs : List ℕ) (p q : ℕ → Bool) (n : ℕ) → AreApart vs → AllByRecursion (λ s. s < n) vs
+    → AllByRecursion (λ s. (p s ≡ false) × (q s ≡ true)) vs → ((s : ℕ) → s < n → p s ≡ true → q s ≡ true)
     → count_up p n + length vs ≤ count_up q n
 count_gained [] p q n apart low change less = let l = count_less p q n less in omega (arith, l)
 count_gained (v ∷ vs) p q n apart low change less =
@@ -73,12 +75,14 @@ count_gained (v ∷ vs) p q n apart low change less =
     (cases_eq s v)) in
     omega (arith, more, rest)
   where
-    still : (ws : List ℕ) → ((s : ℕ) → IsIn ws s → s ≡ v → ⊥) → AllByRecursion (λ s. (p s ≡ false) × (q s ≡ true)) ws → AllByRecursion (λ s. (with_one p v s ≡ false) × (q s ≡ true)) ws
+    still : (ws : List ℕ) → ((s : ℕ) → IsIn ws s → s ≡ v → ⊥) → AllByRecursion (λ s. (p s ≡ false) × (q s ≡ true)) ws
+        → AllByRecursion (λ s. (with_one p v s ≡ false) × (q s ≡ true)) ws
     still [] away all = tt
     still (w ∷ ws) away all = ((other_one p v w (away w (inl refl)) ∙ all.0.0, all.0.1), still ws (λ s is e. away s (inr is) e) all.1)
 
 -- Segments that were emptied are clean once the checkpoint is acknowledged, besides those that were.
-pub emptied_gained : (t t' : UsageTable) → Releases t t' → (vs : List ℕ) → AreApart vs → AllByRecursion (λ s. s < length t.segments) vs → AllByRecursion (IsEmptied t) vs
+pub emptied_gained : (t t' : UsageTable) → Releases t t' → (vs : List ℕ) → AreApart vs → AllByRecursion (λ s. s < length t.segments) vs
+    → AllByRecursion (IsEmptied t) vs
     → clean_in t.segments + length vs ≤ clean_in t'.segments
 unfolding clean_in
 emptied_gained t t' release vs apart low emptied =
@@ -89,12 +93,14 @@ emptied_gained t t' release vs apart low emptied =
     is_released : (s : ℕ) → is_clean_in t'.segments s ≡ ((released (get_or t.segments s no_segment)).used == 0)
     is_released s = ap (λ (n : SegmentNumbers). n.used == 0) (release.each s)
 
-    each : (ws : List ℕ) → AllByRecursion (IsEmptied t) ws → AllByRecursion (λ s. (is_clean_in t.segments s ≡ false) × (is_clean_in t'.segments s ≡ true)) ws
+    each : (ws : List ℕ) → AllByRecursion (IsEmptied t) ws
+        → AllByRecursion (λ s. (is_clean_in t.segments s ≡ false) × (is_clean_in t'.segments s ≡ true)) ws
     each [] all = tt
     each (w ∷ ws) all = (
       (
         ne_eqb _ 0 (λ e. let u = all.0.used in omega (arith, e, u)),
-        is_released w ∙ ap (λ (n : ℕ). n == 0) (cond-true _ _ _ (ap₂ (λ (a b : Bool). a && b) (eq-eqb _ 0 all.0.live) (eq-eqb _ 0 all.0.held))),
+        is_released w
+            ∙ ap (λ (n : ℕ). n == 0) (cond-true _ _ _ (ap₂ (λ (a b : Bool). a && b) (eq-eqb _ 0 all.0.live) (eq-eqb _ 0 all.0.held))),
       ),
       each ws all.1,
     )

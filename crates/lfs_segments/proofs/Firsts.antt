@@ -1,5 +1,6 @@
 -- Lists that are the first ones of an order: of two the shorter one is the beginning of the other.
-use Rattle.std.proofs.Common.{◌≡◌, ◌<◌, ◌≤◌, ◌⊎◌, ⊎_elim, ℕ, zero, suc, List, [], ◌∷◌, ◌++◌, length, get_or, take, drop, take-append-drop, refl, sym, ap₂, ◌∙◌, subst, inl, inr, arith}
+use Rattle.std.proofs.Common.{◌≡◌, ◌<◌, ◌≤◌, ◌⊎◌, ⊎_elim, ℕ, zero, suc, List, [], ◌∷◌, ◌++◌, length, get_or, take, drop, take-append-drop}
+use Rattle.std.proofs.Common.{refl, sym, ap₂, ◌∙◌, subst, inl, inr, arith}
 use Rattle.std.specs.Prelude.{AllPairs}
 use Rattle.std.specs.List.{AllByRecursion}
 use Rattle.std.proofs.lemmas.Bool.{cases_eq}
@@ -83,9 +84,11 @@ module _ (R : ℕ → ℕ → Type 0) where
   pairs_left : (xs ys : List ℕ) → AllPairs R (xs ++ ys) → AllPairs R xs
   pairs_left [] ys pairs i j d less low = absurd (omega (arith, low))
   pairs_left (x ∷ xs) ys pairs zero zero d less low = absurd (omega (arith, less))
-  pairs_left (x ∷ xs) ys pairs zero (suc j) d less low = first_before x (xs ++ ys) pairs (get_or xs j d) (in_left xs ys (get_or xs j d) (at_in xs j d (omega (arith, low))))
+  pairs_left (x ∷ xs) ys pairs zero (suc j) d less low =
+      first_before x (xs ++ ys) pairs (get_or xs j d) (in_left xs ys (get_or xs j d) (at_in xs j d (omega (arith, low))))
   pairs_left (x ∷ xs) ys pairs (suc i) zero d less low = absurd (omega (arith, less))
-  pairs_left (x ∷ xs) ys pairs (suc i) (suc j) d less low = pairs_left xs ys (others_pairs x (xs ++ ys) pairs) i j d (omega (arith, less)) (omega (arith, low))
+  pairs_left (x ∷ xs) ys pairs (suc i) (suc j) d less low =
+      pairs_left xs ys (others_pairs x (xs ++ ys) pairs) i j d (omega (arith, less)) (omega (arith, low))
 
   -- ---- the first ones of those for which P holds
   record AreFirstOf (P : ℕ → Type 0) (xs : List ℕ) : Type 0 where
@@ -129,7 +132,8 @@ module _ (R : ℕ → ℕ → Type 0) where
     same_firsts P [] (w ∷ ws) one other few = absurd (omega (arith, few))
     same_firsts P (x ∷ xs) (w ∷ ws) one other few =
         let head = same_head P x w xs ws one other in
-        let rest = same_firsts (λ s. P s × (s ≡ x → ⊥)) xs ws (rest_first P x x xs refl one) (rest_first P x w ws head other) (omega (arith, few)) in
+        let rest = same_firsts (λ s. P s × (s ≡ x → ⊥)) xs ws (rest_first P x x xs refl one) (rest_first P x w ws head other)
+        (omega (arith, few)) in
         ap₂ (λ (y : ℕ) (ys : List ℕ). y ∷ ys) head rest
 
 -- ---- the first ones of those that may be cleaned
@@ -147,12 +151,14 @@ module _ (t : UsageTable) (R : ℕ → ℕ → Type 0) where
   taken_first xs k first = beginning_first (take k xs) (drop k xs) (subst (AreFirst t R) (sym (take-append-drop k xs)) first)
 
   pub taken_each : (xs : List ℕ) (k : ℕ) → AllByRecursion (MayBeVictim t) xs → AllByRecursion (MayBeVictim t) (take k xs)
-  taken_each xs k each = all_left (MayBeVictim t) (take k xs) (drop k xs) (subst (AllByRecursion (MayBeVictim t)) (sym (take-append-drop k xs)) each)
+  taken_each xs k each =
+      all_left (MayBeVictim t) (take k xs) (drop k xs) (subst (AllByRecursion (MayBeVictim t)) (sym (take-append-drop k xs)) each)
 
   pub taken_apart : (xs : List ℕ) (k : ℕ) → AreApart xs → AreApart (take k xs)
   taken_apart xs k apart = apart_left (take k xs) (drop k xs) (subst AreApart (sym (take-append-drop k xs)) apart)
 
-  pub same_beginning : IsOrder R → (xs ws : List ℕ) → AreFirst t R xs → AreFirst t R ws → AllByRecursion (MayBeVictim t) xs → AllByRecursion (MayBeVictim t) ws → length ws ≤ length xs → ws ≡ take (length ws) xs
+  pub same_beginning : IsOrder R → (xs ws : List ℕ) → AreFirst t R xs → AreFirst t R ws → AllByRecursion (MayBeVictim t) xs
+      → AllByRecursion (MayBeVictim t) ws → length ws ≤ length xs → ws ≡ take (length ws) xs
   same_beginning order xs ws one other each each' few =
       same_firsts R order (MayBeVictim t) xs ws
       (record { ordered = one.ordered; each = all_in (MayBeVictim t) xs each; others = one.others })

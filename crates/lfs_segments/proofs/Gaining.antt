@@ -1,5 +1,6 @@
 -- Of the beginnings of a list that is chosen, that which gains most so far; at the end it is the choice.
-use Rattle.std.proofs.Common.{◌≡◌, ◌<◌, ◌≤◌, ◌⊎◌, ⊎_elim, ◌+◌, ◌-◌, ◌/◌, ℕ, zero, suc, List, [], ◌∷◌, ◌++◌, length, take, length-take-le, take_all, refl, sym, ap, ◌∙◌, subst, arith}
+use Rattle.std.proofs.Common.{◌≡◌, ◌<◌, ◌≤◌, ◌⊎◌, ⊎_elim, ◌+◌, ◌-◌, ◌/◌, ℕ, zero, suc, List, [], ◌∷◌, ◌++◌, length, take, length-take-le}
+use Rattle.std.proofs.Common.{take_all, refl, sym, ap, ◌∙◌, subst, arith}
 use Rattle.std.specs.Prelude.{sum_by, Option, Some, None, IfSome, IfNone, is_some, true}
 use Rattle.std.specs.List.{AllByRecursion}
 use Rattle.std.proofs.lemmas.Bool.{cases_lt}
@@ -37,20 +38,6 @@ pub record Tried (t : UsageTable) (meta : ℕ) (xs : List ℕ) (best count : ℕ
   pub none : best ≡ 0 → count ≡ 0
   pub low : best < wanted_gain t
 
-pub tried_none : (t : UsageTable) (meta : ℕ) → Tried t meta [] 0 0
-tried_none t meta = record {
-  inside = omega arith;
-  gains = omega arith;
-  all = λ k le. nothing k;
-  fewer = λ k lt. absurd (omega (arith, lt));
-  none = λ is. refl;
-  low = omega arith;
-}
-  where
-    nothing : (k : ℕ) → gain_of t meta (take k []) ≤ 0
-    nothing zero = omega arith
-    nothing (suc k) = omega arith
-
 -- those of a list with one more: those of the list, and itself
 module _ (t : UsageTable) (meta : ℕ) (xs : List ℕ) (x best count : ℕ) (was : Tried t meta xs best count) where
   same_gain : (k : ℕ) → k ≤ length xs → gain_of t meta (take k (xs ++ x ∷ [])) ≡ gain_of t meta (take k xs)
@@ -59,13 +46,15 @@ module _ (t : UsageTable) (meta : ℕ) (xs : List ℕ) (x best count : ℕ) (was
   whole_gain : (k : ℕ) → length xs < k → gain_of t meta (take k (xs ++ x ∷ [])) ≡ gain_of t meta (xs ++ x ∷ [])
   whole_gain k lt = ap (gain_of t meta) (take_all k (xs ++ x ∷ []) (let l = length_pushed xs x in omega (arith, l, lt)))
 
-  all_pushed_gain : (most : ℕ) → best ≤ most → gain_of t meta (xs ++ x ∷ []) ≤ most → (k : ℕ) → gain_of t meta (take k (xs ++ x ∷ [])) ≤ most
+  all_pushed_gain : (most : ℕ) → best ≤ most → gain_of t meta (xs ++ x ∷ []) ≤ most → (k : ℕ)
+      → gain_of t meta (take k (xs ++ x ∷ [])) ≤ most
   all_pushed_gain most old new k = ⊎_elim
       (λ (past : length xs < k). let w = whole_gain k past in omega (arith, w, new))
       (λ (le : k ≤ length xs). let s = same_gain k le in let a = was.all k le in omega (arith, s, a, old))
       (cases_lt (length xs) k)
 
-  pub tried_more : best < gain_of t meta (xs ++ x ∷ []) → gain_of t meta (xs ++ x ∷ []) < wanted_gain t → Tried t meta (xs ++ x ∷ []) (gain_of t meta (xs ++ x ∷ [])) (length xs + 1)
+  pub tried_more : best < gain_of t meta (xs ++ x ∷ []) → gain_of t meta (xs ++ x ∷ []) < wanted_gain t
+      → Tried t meta (xs ++ x ∷ []) (gain_of t meta (xs ++ x ∷ [])) (length xs + 1)
   tried_more more small = record {
     inside = let l = length_pushed xs x in omega (arith, l);
     gains = whole_gain (length xs + 1) (omega arith);
@@ -86,18 +75,22 @@ module _ (t : UsageTable) (meta : ℕ) (xs : List ℕ) (x best count : ℕ) (was
   }
 
   -- with the numbers that a step has for them
-  pub tried_next_more : (best' count' : ℕ) → best' ≡ gain_of t meta (xs ++ x ∷ []) → count' ≡ length xs + 1 → best < best' → best' < wanted_gain t → Tried t meta (xs ++ x ∷ []) best' count'
+  pub tried_next_more : (best' count' : ℕ) → best' ≡ gain_of t meta (xs ++ x ∷ []) → count' ≡ length xs + 1 → best < best'
+      → best' < wanted_gain t → Tried t meta (xs ++ x ∷ []) best' count'
   tried_next_more best' count' gain longer more small =
       subst (λ (n : ℕ). Tried t meta (xs ++ x ∷ []) best' n) (sym longer)
-      (subst (λ (n : ℕ). Tried t meta (xs ++ x ∷ []) n (length xs + 1)) (sym gain) (tried_more (omega (arith, gain, more)) (omega (arith, gain, small))))
+      (subst (λ (n : ℕ). Tried t meta (xs ++ x ∷ []) n (length xs + 1)) (sym gain)
+      (tried_more (omega (arith, gain, more)) (omega (arith, gain, small))))
 
-  pub tried_next_still : (best' count' gain : ℕ) → best' ≡ best → count' ≡ count → gain ≡ gain_of t meta (xs ++ x ∷ []) → gain ≤ best → Tried t meta (xs ++ x ∷ []) best' count'
+  pub tried_next_still : (best' count' gain : ℕ) → best' ≡ best → count' ≡ count → gain ≡ gain_of t meta (xs ++ x ∷ []) → gain ≤ best
+      → Tried t meta (xs ++ x ∷ []) best' count'
   tried_next_still best' count' gain same as_many is less =
       subst (λ (n : ℕ). Tried t meta (xs ++ x ∷ []) best' n) (sym as_many)
       (subst (λ (n : ℕ). Tried t meta (xs ++ x ∷ []) n count) (sym same) (tried_still (omega (arith, is, less))))
 
 -- what a list with one more gains
-pub gain_pushed : (t : UsageTable) (meta : ℕ) (xs : List ℕ) (x blocks load others gain : ℕ) → blocks ≡ sum_by (load_of t) xs → load ≡ load_of t x → length xs ≡ others
+pub gain_pushed : (t : UsageTable) (meta : ℕ) (xs : List ℕ) (x blocks load others gain : ℕ) → blocks ≡ sum_by (load_of t) xs
+    → load ≡ load_of t x → length xs ≡ others
     → gain ≡ others + 1 - (blocks + load + meta + 48 + 62) / 63 → gain ≡ gain_of t meta (xs ++ x ∷ [])
 gain_pushed t meta xs x blocks load others gain sum own long is =
     let p = sum_by_push (load_of t) xs x in
@@ -106,37 +99,43 @@ gain_pushed t meta xs x blocks load others gain sum own long is =
 
 -- ---- victims
 -- what gains is a list of victims
-pub gains_some : (t : UsageTable) (meta most : ℕ) (xs : List ℕ) → length xs ≤ most → AreApart xs → AllByRecursion (MayBeVictim t) xs → 0 < gain_of t meta xs → AreVictims t meta most xs
+pub gains_some : (t : UsageTable) (meta most : ℕ) (xs : List ℕ) → length xs ≤ most → AreApart xs → AllByRecursion (MayBeVictim t) xs
+    → 0 < gain_of t meta xs → AreVictims t meta most xs
 gains_some t meta most xs few apart each some = record { few = few; apart = apart; each = each; gain = omega (arith, some) }
 
 -- and such a list gains
 pub victims_gain : (t : UsageTable) (meta most : ℕ) (ws : List ℕ) → AreVictims t meta most ws → 0 < gain_of t meta ws
 victims_gain t meta most ws are = let g = are.gain in omega (arith, g)
 
-module _ (t : UsageTable) (meta most : ℕ) (p : Preference) (xs : List ℕ) (first : AreFirst t (Precedes t p) xs) (each : AllByRecursion (MayBeVictim t) xs) (apart : AreApart xs) where
+module _ (t : UsageTable) (meta most : ℕ) (p : Preference) (xs : List ℕ) (first : AreFirst t (Precedes t p) xs)
+    (each : AllByRecursion (MayBeVictim t) xs) (apart : AreApart xs) where
   abbrev R : ℕ → ℕ → Type 0
   R = Precedes t p
 
   -- other first ones are a beginning of these
-  pub gain_there : (ws : List ℕ) → AreVictims t meta most ws → AreFirst t R ws → length ws ≤ length xs → gain_of t meta ws ≡ gain_of t meta (take (length ws) xs)
+  pub gain_there : (ws : List ℕ) → AreVictims t meta most ws → AreFirst t R ws → length ws ≤ length xs
+      → gain_of t meta ws ≡ gain_of t meta (take (length ws) xs)
   gain_there ws are other few = ap (gain_of t meta) (same_beginning t R (is_order t p) xs ws first other each are.each few)
 
   -- as many as there are or may be taken: no list of victims is longer
-  pub not_longer : (length xs ≡ most) ⊎ ((s : ℕ) → MayBeVictim t s → IsIn xs s) → (ws : List ℕ) → AreVictims t meta most ws → length ws ≤ length xs
+  pub not_longer : (length xs ≡ most) ⊎ ((s : ℕ) → MayBeVictim t s → IsIn xs s) → (ws : List ℕ) → AreVictims t meta most ws
+      → length ws ≤ length xs
   not_longer ended ws are = ⊎_elim
       (λ (full : length xs ≡ most). let f = are.few in omega (arith, full, f))
       (λ (all : (s : ℕ) → MayBeVictim t s → IsIn xs s). fewer xs ws are.apart (λ y is. all y (all_in (MayBeVictim t) ws are.each y is)))
       ended
 
   -- The one that is chosen at the end gains most.
-  pub choice_at_end : (best count : ℕ) → Tried t meta xs best count → length xs ≤ most → (length xs ≡ most) ⊎ ((s : ℕ) → MayBeVictim t s → IsIn xs s) → 0 < count → IsChoice t meta most R (take count xs)
+  pub choice_at_end : (best count : ℕ) → Tried t meta xs best count → length xs ≤ most
+      → (length xs ≡ most) ⊎ ((s : ℕ) → MayBeVictim t s → IsIn xs s) → 0 < count → IsChoice t meta most R (take count xs)
   choice_at_end best count tried few ended some =
       let gains = tried.gains in
       let low = tried.low in
       let inside = tried.inside in
       let long = length-take-le count xs inside in
       record {
-        victims = gains_some t meta most (take count xs) (omega (arith, long, inside, few)) (taken_apart t R xs count apart) (taken_each t R xs count each)
+        victims = gains_some t meta most (take count xs) (omega (arith, long, inside, few)) (taken_apart t R xs count apart)
+            (taken_each t R xs count each)
             (let z = tried.fewer 0 some in omega (arith, z, gains));
         first = taken_first t R xs count first;
         best = λ ws are other.
@@ -151,7 +150,8 @@ module _ (t : UsageTable) (meta most : ℕ) (p : Preference) (xs : List ℕ) (fi
       }
 
   -- Where none gains, no first ones are victims.
-  pub exhausts : FitsTable t → (best count : ℕ) → Tried t meta xs best count → length xs ≤ most → (length xs ≡ most) ⊎ ((s : ℕ) → MayBeVictim t s → IsIn xs s) → count ≡ 0 → Exhausts t meta most p
+  pub exhausts : FitsTable t → (best count : ℕ) → Tried t meta xs best count → length xs ≤ most
+      → (length xs ≡ most) ⊎ ((s : ℕ) → MayBeVictim t s → IsIn xs s) → count ≡ 0 → Exhausts t meta most p
   exhausts table best count tried few ended none = record {
     table = table;
     all = xs;
@@ -168,7 +168,8 @@ module _ (t : UsageTable) (meta most : ℕ) (p : Preference) (xs : List ℕ) (fi
   }
 
 -- The first one that gains as many as are wanted is the choice.
-pub choice_at_once : (t : UsageTable) (meta most : ℕ) (p : Preference) (xs : List ℕ) (x best count : ℕ) → Tried t meta xs best count → AreFirst t (Precedes t p) (xs ++ x ∷ []) → AllByRecursion (MayBeVictim t) (xs ++ x ∷ []) → AreApart (xs ++ x ∷ [])
+pub choice_at_once : (t : UsageTable) (meta most : ℕ) (p : Preference) (xs : List ℕ) (x best count : ℕ) → Tried t meta xs best count
+    → AreFirst t (Precedes t p) (xs ++ x ∷ []) → AllByRecursion (MayBeVictim t) (xs ++ x ∷ []) → AreApart (xs ++ x ∷ [])
     → length xs < most → wanted_gain t ≤ gain_of t meta (xs ++ x ∷ []) → IsChoice t meta most (Precedes t p) (xs ++ x ∷ [])
 choice_at_once t meta most p xs x best count tried first each apart few enough =
     let low = tried.low in
@@ -186,7 +187,8 @@ choice_at_once t meta most p xs x best count tried first each apart few enough =
     }
 
 -- So no first ones of an order of which no beginning gains are victims.
-pub no_choice : (t : UsageTable) (meta most : ℕ) (p : Preference) → Exhausts t meta most p → (ws : List ℕ) → AreVictims t meta most ws → AreFirst t (Precedes t p) ws → ⊥
+pub no_choice : (t : UsageTable) (meta most : ℕ) (p : Preference) → Exhausts t meta most p → (ws : List ℕ) → AreVictims t meta most ws
+    → AreFirst t (Precedes t p) ws → ⊥
 no_choice t meta most p is ws are other =
     let le = not_longer t meta most p is.all is.first is.each is.apart is.ended ws are in
     let g = gain_there t meta most p is.all is.first is.each is.apart ws are other le in

@@ -1,5 +1,6 @@
 -- Sums over lists whose members differ: none is greater than the sum over a list that has all those that count.
-use Rattle.std.proofs.Common.{◌≡◌, ◌<◌, ◌≤◌, ◌⊎◌, ⊎_elim, ◌+◌, ◌-◌, ◌*◌, ◌==◌, cond, ℕ, zero, suc, List, [], ◌∷◌, ◌++◌, length, refl, sym, ap, arith, inl, inr, subst, eq-eqb}
+use Rattle.std.proofs.Common.{◌≡◌, ◌<◌, ◌≤◌, ◌⊎◌, ⊎_elim, ◌+◌, ◌-◌, ◌*◌, ◌==◌, cond, ℕ, zero, suc, List, [], ◌∷◌, ◌++◌, length, refl, sym}
+use Rattle.std.proofs.Common.{ap, arith, inl, inr, subst, eq-eqb}
 use Rattle.std.specs.Prelude.{sum_by}
 use Rattle.std.specs.List.{AllByRecursion}
 use Rattle.std.proofs.lemmas.Bool.{cases_eq, cases_lt, cond-true, cond-false, ne_eqb}
@@ -17,7 +18,8 @@ all_in P (y ∷ ys) all x is = ⊎_elim (λ (here : x ≡ y). subst P (sym here)
 -- a member of a list with one more is that one, or was a member
 pub in_pushed : (xs : List ℕ) (y x : ℕ) → IsIn (xs ++ y ∷ []) x → IsIn xs x ⊎ (x ≡ y)
 in_pushed [] y x is = ⊎_elim (λ (here : x ≡ y). inr here) (λ (none : ⊥). absurd none) is
-in_pushed (z ∷ zs) y x is = ⊎_elim (λ (here : x ≡ z). inl (inl here)) (λ (later : IsIn (zs ++ y ∷ []) x). ⊎_elim (λ (i : IsIn zs x). inl (inr i)) (λ (e : x ≡ y). inr e) (in_pushed zs y x later)) is
+in_pushed (z ∷ zs) y x is = ⊎_elim (λ (here : x ≡ z). inl (inl here))
+    (λ (later : IsIn (zs ++ y ∷ []) x). ⊎_elim (λ (i : IsIn zs x). inl (inr i)) (λ (e : x ≡ y). inr e) (in_pushed zs y x later)) is
 
 -- a member stays one
 pub was_in : (xs : List ℕ) (y x : ℕ) → IsIn xs x → IsIn (xs ++ y ∷ []) x
@@ -72,9 +74,11 @@ except_in f y (x ∷ xs) is =
     let a = sum_by-cons (except f y) x xs in
     let b = sum_by-cons f x xs in
     ⊎_elim
-    (λ (here : x ≡ y). let e = except_own f y x here in let s = ap f here in let rest = except_most f y xs in omega (arith, rest, a, b, e, s))
+    (λ (here : x ≡ y). let e = except_own f y x here in let s = ap f here in let rest = except_most f y xs in
+    omega (arith, rest, a, b, e, s))
     (λ (away : x ≡ y → ⊥). let e = except_other f y x away in
-    let rest = except_in f y xs (⊎_elim (λ (h : y ≡ x). absurd (away (sym h))) (λ (later : IsIn xs y). later) is) in omega (arith, rest, a, b, e))
+    let rest = except_in f y xs (⊎_elim (λ (h : y ≡ x). absurd (away (sym h))) (λ (later : IsIn xs y). later) is) in
+    omega (arith, rest, a, b, e))
     (cases_eq x y)
 
 -- but the same where it is none
@@ -89,7 +93,8 @@ except_out f y (x ∷ xs) out =
 
 -- ---- lists with all members that count
 -- a list whose counting members are all in another has no greater sum
-pub sum_among : (ys : List ℕ) (f : ℕ → ℕ) (xs : List ℕ) → AreApart ys → ((y : ℕ) → IsIn ys y → 0 < f y → IsIn xs y) → sum_by f ys ≤ sum_by f xs
+pub sum_among : (ys : List ℕ) (f : ℕ → ℕ) (xs : List ℕ) → AreApart ys → ((y : ℕ) → IsIn ys y → 0 < f y → IsIn xs y)
+    → sum_by f ys ≤ sum_by f xs
 sum_among [] f xs apart among = omega arith
 sum_among (y ∷ ys) f xs apart among =
     let a = sum_by-cons f y ys in
@@ -128,7 +133,8 @@ filled t f (y ∷ ys) =
     omega (arith, rest, a, b, m)
 
 -- for a list of no greater ones exactly
-pub filled_up : (t : ℕ) (f : ℕ → ℕ) (xs : List ℕ) → ((x : ℕ) → IsIn xs x → f x ≤ t) → sum_by f xs + sum_by (λ (x : ℕ). t - f x) xs ≡ length xs * t
+pub filled_up : (t : ℕ) (f : ℕ → ℕ) (xs : List ℕ) → ((x : ℕ) → IsIn xs x → f x ≤ t)
+    → sum_by f xs + sum_by (λ (x : ℕ). t - f x) xs ≡ length xs * t
 filled_up t f [] most = omega arith
 filled_up t f (x ∷ xs) most =
     let rest = filled_up t f xs (λ y is. most y (inr is)) in
@@ -139,7 +145,8 @@ filled_up t f (x ∷ xs) most =
     omega (arith, rest, here, a, b, m)
 
 -- So no list of as many members has a smaller sum than one that has all members below its greatest.
-pub least_sum : (t : ℕ) (f : ℕ → ℕ) (xs ys : List ℕ) → AreApart ys → length ys ≡ length xs → ((x : ℕ) → IsIn xs x → f x ≤ t) → ((y : ℕ) → IsIn ys y → f y < t → IsIn xs y) → sum_by f xs ≤ sum_by f ys
+pub least_sum : (t : ℕ) (f : ℕ → ℕ) (xs ys : List ℕ) → AreApart ys → length ys ≡ length xs → ((x : ℕ) → IsIn xs x → f x ≤ t)
+    → ((y : ℕ) → IsIn ys y → f y < t → IsIn xs y) → sum_by f xs ≤ sum_by f ys
 least_sum t f xs ys apart same most among =
     let lacks = sum_among ys (λ (y : ℕ). t - f y) xs apart (λ y is some. among y is (omega (arith, some))) in
     let a = filled t f ys in
@@ -156,7 +163,8 @@ down (suc n) = n ∷ down n
 -- each is below n
 in_down : (n x : ℕ) → IsIn (down n) x → x < n
 in_down zero x is = absurd is
-in_down (suc n) x is = ⊎_elim (λ (here : x ≡ n). omega (arith, here)) (λ (later : IsIn (down n) x). let l = in_down n x later in omega (arith, l)) is
+in_down (suc n) x is =
+    ⊎_elim (λ (here : x ≡ n). omega (arith, here)) (λ (later : IsIn (down n) x). let l = in_down n x later in omega (arith, l)) is
 
 -- no two are the same
 apart_down : (n : ℕ) → AreApart (down n)
@@ -175,7 +183,8 @@ below_among n f xs among =
     omega (arith, s, sum_down f n)
 
 -- where t times u is no more than a and b together, so are the sums
-pub below_times : (t : ℕ) (u a b : ℕ → ℕ) (n : ℕ) → ((x : ℕ) → x < n → u x * t ≤ a x + b x) → sum_below u n * t ≤ sum_below a n + sum_below b n
+pub below_times : (t : ℕ) (u a b : ℕ → ℕ) (n : ℕ) → ((x : ℕ) → x < n → u x * t ≤ a x + b x)
+    → sum_below u n * t ≤ sum_below a n + sum_below b n
 below_times t u a b zero most = omega arith
 below_times t u a b (suc n) most =
     let rest = below_times t u a b n (λ x lt. most x (omega (arith, lt))) in

@@ -1,5 +1,6 @@
 -- The list of segments whose numbers change as a checkpoint is acknowledged: as one has other numbers, and as all of them change.
-use Rattle.std.proofs.Common.{◌≡◌, ◌<◌, ◌≤◌, ◌⊎◌, ⊎_elim, inl, inr, ◌+◌, ◌==◌, ◌&&◌, cond, ℕ, suc, Bool, true, false, List, length, get_or, replicate, refl, sym, ◌∙◌, ap, subst, arith, eq-eqb, eqb-true, length-set, get_or-set_other, get_or-set_same}
+use Rattle.std.proofs.Common.{◌≡◌, ◌<◌, ◌≤◌, ◌⊎◌, ⊎_elim, inl, inr, ◌+◌, ◌==◌, ◌&&◌, cond, ℕ, suc, Bool, true, false, List, length, get_or}
+use Rattle.std.proofs.Common.{replicate, refl, sym, ◌∙◌, ap, subst, arith, eq-eqb, eqb-true, length-set, get_or-set_other, get_or-set_same}
 use Rattle.std.specs.Prelude.{slice_set}
 use Rattle.std.proofs.lemmas.Bool.{cases_eq}
 use Rattle.lfs_segments.specs.declared.releasing.Unsettled.{Unsettled}
@@ -33,13 +34,15 @@ released_twice n =
     λ i. record { used = same i; live = n.live; held = n.held; age = n.age; kept = same i }
 
 pub settled_after : (n : SegmentNumbers) → is_settled (released n) ≡ true
-settled_after n = ap (λ (m : SegmentNumbers). (m.used == (released n).used) && (m.kept == (released n).kept)) (released_twice n) ∙ same (released n).used (released n).kept
+settled_after n = ap (λ (m : SegmentNumbers). (m.used == (released n).used) && (m.kept == (released n).kept)) (released_twice n)
+    ∙ same (released n).used (released n).kept
   where
     same : (a b : ℕ) → ((a == a) && (b == b)) ≡ true
     same a b = ap (λ (x : Bool). x && (b == b)) (eq-eqb a a refl) ∙ eq-eqb b b refl
 
 -- ---- the list, as a segment has other numbers
-module _ (l : Unsettled) (segments : List SegmentNumbers) (s : ℕ) (x : SegmentNumbers) (lt : s < length segments) (lists : ListsUnsettled l segments) where
+module _ (l : Unsettled) (segments : List SegmentNumbers) (s : ℕ) (x : SegmentNumbers) (lt : s < length segments)
+    (lists : ListsUnsettled l segments) where
   within : (i : ℕ) → i < l.count → get_or l.segments i 0 < length (slice_set segments s x)
   within i low = let was = lists.inside i low in let size = length-set segments s x in omega (arith, was, size)
 
@@ -53,7 +56,8 @@ module _ (l : Unsettled) (segments : List SegmentNumbers) (s : ℕ) (x : Segment
     few = lists.few;
     inside = within;
     all = λ room i off. ⊎_elim
-        (λ (here : i ≡ s). subst (IsListed l) (sym here) (own room (ap is_settled (sym (set_own segments s x lt)) ∙ ap (λ (j : ℕ). is_settled (get_or (slice_set segments s x) j no_segment)) (sym here) ∙ off)))
+        (λ (here : i ≡ s). subst (IsListed l) (sym here) (own room (ap is_settled (sym (set_own segments s x lt))
+        ∙ ap (λ (j : ℕ). is_settled (get_or (slice_set segments s x) j no_segment)) (sym here) ∙ off)))
         (λ (away : i ≡ s → ⊥). others room i away off)
         (cases_eq i s);
   }
@@ -62,19 +66,22 @@ module _ (l : Unsettled) (segments : List SegmentNumbers) (s : ℕ) (x : Segment
   pub noted_settled : is_settled x ≡ true → ListsUnsettled l (slice_set segments s x)
   noted_settled on = listed_by (λ room off. let bad : true ≡ false = sym on ∙ off in absurd cc)
 
-  pub noted_before : (was : SegmentNumbers) → get_or segments s no_segment ≡ was → is_settled was ≡ false → ListsUnsettled l (slice_set segments s x)
+  pub noted_before : (was : SegmentNumbers) → get_or segments s no_segment ≡ was → is_settled was ≡ false
+      → ListsUnsettled l (slice_set segments s x)
   noted_before was is off = listed_by (λ room new. lists.all room s (ap is_settled is ∙ off))
 
   pub noted_full : 64 ≤ l.count → ListsUnsettled l (slice_set segments s x)
   noted_full full = listed_by (λ room new. absurd (omega (arith, full, room)))
 
   -- or it comes to the list
-  pub noted_more : (l' : Unsettled) → l.count < 64 → l'.segments ≡ slice_set l.segments l.count s → l'.count ≡ suc l.count → ListsUnsettled l' (slice_set segments s x)
+  pub noted_more : (l' : Unsettled) → l.count < 64 → l'.segments ≡ slice_set l.segments l.count s → l'.count ≡ suc l.count
+      → ListsUnsettled l' (slice_set segments s x)
   noted_more l' room items count = record {
     size = ap length items ∙ length-set l.segments l.count s ∙ lists.size;
     few = omega (arith, room, count);
     inside = λ i low. ⊎_elim
-        (λ (here : i ≡ l.count). let size = length-set segments s x in let is = ap (λ (j : ℕ). get_or l'.segments j 0) here ∙ own in omega (arith, size, lt, is))
+        (λ (here : i ≡ l.count). let size = length-set segments s x in let is = ap (λ (j : ℕ). get_or l'.segments j 0) here ∙ own in
+        omega (arith, size, lt, is))
         (λ (away : i ≡ l.count → ⊥). let was = within i (omega (arith, low, count, away)) in let is = old i away in omega (arith, was, is))
         (cases_eq i l.count);
     all = λ more i off. ⊎_elim
@@ -96,7 +103,8 @@ module _ (l : Unsettled) (segments : List SegmentNumbers) (s : ℕ) (x : Segment
       old i away = ap (λ (xs : List ℕ). get_or xs i 0) items ∙ get_or-set_other l.segments l.count i s 0 away
 
 -- ---- an empty list, where the numbers of all segments stay
-pub lists_none : (l : Unsettled) (segments : List SegmentNumbers) → l.count ≡ 0 → length l.segments ≡ 64 → ((s : ℕ) → is_settled (get_or segments s no_segment) ≡ true) → ListsUnsettled l segments
+pub lists_none : (l : Unsettled) (segments : List SegmentNumbers) → l.count ≡ 0 → length l.segments ≡ 64
+    → ((s : ℕ) → is_settled (get_or segments s no_segment) ≡ true) → ListsUnsettled l segments
 lists_none l segments none size settled = record {
   size = size;
   few = omega (arith, none);
@@ -104,32 +112,29 @@ lists_none l segments none size settled = record {
   all = λ room s off. let bad : true ≡ false = sym (settled s) ∙ off in absurd cc;
 }
 
-pub lists_new : (l : Unsettled) (segments : List SegmentNumbers) (n : ℕ) → l.count ≡ 0 → length l.segments ≡ 64 → segments ≡ replicate n no_segment → ListsUnsettled l segments
-lists_new l segments n none size is = lists_none l segments none size (λ s. ap (λ (xs : List SegmentNumbers). is_settled (get_or xs s no_segment)) is ∙ ap is_settled (no_segment_there n s))
+pub lists_new : (l : Unsettled) (segments : List SegmentNumbers) (n : ℕ) → l.count ≡ 0 → length l.segments ≡ 64
+    → segments ≡ replicate n no_segment → ListsUnsettled l segments
+lists_new l segments n none size is = lists_none l segments none size
+    (λ s. ap (λ (xs : List SegmentNumbers). is_settled (get_or xs s no_segment)) is ∙ ap is_settled (no_segment_there n s))
 
-pub lists_released : (l : Unsettled) (old new : UsageTable) → l.count ≡ 0 → length l.segments ≡ 64 → Releases old new → ListsUnsettled l new.segments
-lists_released l old new none size done = lists_none l new.segments none size (λ s. ap is_settled (done.each s) ∙ settled_after (get_or old.segments s no_segment))
+pub lists_released : (l : Unsettled) (old new : UsageTable) → l.count ≡ 0 → length l.segments ≡ 64 → Releases old new
+    → ListsUnsettled l new.segments
+lists_released l old new none size done =
+    lists_none l new.segments none size (λ s. ap is_settled (done.each s) ∙ settled_after (get_or old.segments s no_segment))
 
 -- ---- releasing the segments of a list, one after the other
 pub record ReleasesListed (old now : UsageTable) (l : Unsettled) (k : ℕ) : Type 0 where
   pub size : length now.segments ≡ length old.segments
   pub blocks : now.blocks ≡ old.blocks
   pub last : now.last ≡ old.last
-  pub done : (i : ℕ) → i < k → get_or now.segments (get_or l.segments i 0) no_segment ≡ released (get_or old.segments (get_or l.segments i 0) no_segment)
-  pub either : (s : ℕ) → (get_or now.segments s no_segment ≡ released (get_or old.segments s no_segment)) ⊎ (get_or now.segments s no_segment ≡ get_or old.segments s no_segment)
+  pub done : (i : ℕ) → i < k
+      → get_or now.segments (get_or l.segments i 0) no_segment ≡ released (get_or old.segments (get_or l.segments i 0) no_segment)
+  pub either : (s : ℕ) → (get_or now.segments s no_segment ≡ released (get_or old.segments s no_segment))
+      ⊎ (get_or now.segments s no_segment ≡ get_or old.segments s no_segment)
   pub clean : clean_in old.segments ≤ clean_in now.segments
 
-pub listed_begins : (old : UsageTable) (l : Unsettled) → ReleasesListed old old l 0
-listed_begins old l = record {
-  size = refl;
-  blocks = refl;
-  last = refl;
-  done = λ i lt. absurd (omega (arith, lt));
-  either = λ s. inr refl;
-  clean = omega arith;
-}
-
-pub listed_goes_on : (old now new : UsageTable) (l : Unsettled) (k s : ℕ) → ReleasesListed old now l k → s ≡ get_or l.segments k 0 → s < length now.segments → new.segments ≡ slice_set now.segments s (released (get_or now.segments s no_segment)) → new.blocks ≡ now.blocks
+pub listed_goes_on : (old now new : UsageTable) (l : Unsettled) (k s : ℕ) → ReleasesListed old now l k → s ≡ get_or l.segments k 0 → s
+    < length now.segments → new.segments ≡ slice_set now.segments s (released (get_or now.segments s no_segment)) → new.blocks ≡ now.blocks
     → new.last ≡ now.last → ReleasesListed old new l (k + 1)
 listed_goes_on old now new l k s so is lt segments blocks last = record {
   size = ap length segments ∙ length-set now.segments s (released (get_or now.segments s no_segment)) ∙ so.size;
@@ -141,20 +146,24 @@ listed_goes_on old now new l k s so is lt segments blocks last = record {
       (cases_eq (get_or l.segments i 0) s);
   either = λ i. ⊎_elim
       (λ (here : i ≡ s). inl (own i here))
-      (λ (away : i ≡ s → ⊥). subst (λ (n : SegmentNumbers). (n ≡ released (get_or old.segments i no_segment)) ⊎ (n ≡ get_or old.segments i no_segment)) (sym (other i away)) (so.either i))
+      (λ (away : i ≡ s → ⊥). subst (λ (n : SegmentNumbers). (n ≡ released (get_or old.segments i no_segment))
+      ⊎ (n ≡ get_or old.segments i no_segment)) (sym (other i away)) (so.either i))
       (cases_eq i s);
   clean = let more = never_fewer now new s lt segments in let was = so.clean in omega (arith, more, was);
 }
   where
     other : (i : ℕ) → (i ≡ s → ⊥) → get_or new.segments i no_segment ≡ get_or now.segments i no_segment
-    other i away = ap (λ (xs : List SegmentNumbers). get_or xs i no_segment) segments ∙ set_other now.segments s (released (get_or now.segments s no_segment)) i away
+    other i away = ap (λ (xs : List SegmentNumbers). get_or xs i no_segment) segments
+        ∙ set_other now.segments s (released (get_or now.segments s no_segment)) i away
 
     there : get_or new.segments s no_segment ≡ released (get_or now.segments s no_segment)
-    there = ap (λ (xs : List SegmentNumbers). get_or xs s no_segment) segments ∙ set_own now.segments s (released (get_or now.segments s no_segment)) lt
+    there = ap (λ (xs : List SegmentNumbers). get_or xs s no_segment) segments
+        ∙ set_own now.segments s (released (get_or now.segments s no_segment)) lt
 
     once : released (get_or now.segments s no_segment) ≡ released (get_or old.segments s no_segment)
     once = ⊎_elim
-        (λ (e : get_or now.segments s no_segment ≡ released (get_or old.segments s no_segment)). ap released e ∙ released_twice (get_or old.segments s no_segment))
+        (λ (e : get_or now.segments s no_segment ≡ released (get_or old.segments s no_segment)). ap released e
+        ∙ released_twice (get_or old.segments s no_segment))
         (λ (e : get_or now.segments s no_segment ≡ get_or old.segments s no_segment). ap released e)
         (so.either s)
 
@@ -167,7 +176,8 @@ listed_goes_on old now new l k s so is lt segments blocks last = record {
         (λ (ne : i ≡ k → ⊥). omega (arith, low, ne))
         (cases_eq i k)
 
-pub listed_ends : (old now : UsageTable) (l : Unsettled) (k : ℕ) → ReleasesListed old now l k → l.count ≤ k → ListsUnsettled l old.segments → l.count < 64 → Releases old now
+pub listed_ends : (old now : UsageTable) (l : Unsettled) (k : ℕ) → ReleasesListed old now l k → l.count ≤ k → ListsUnsettled l old.segments
+    → l.count < 64 → Releases old now
 listed_ends old now l k so le lists room = record {
   each = λ s. by_settled s (is_settled (get_or old.segments s no_segment)) refl;
   size = so.size;
@@ -176,7 +186,8 @@ listed_ends old now l k so le lists room = record {
   clean = so.clean;
 }
   where
-    by_settled : (s : ℕ) (b : Bool) → is_settled (get_or old.segments s no_segment) ≡ b → get_or now.segments s no_segment ≡ released (get_or old.segments s no_segment)
+    by_settled : (s : ℕ) (b : Bool) → is_settled (get_or old.segments s no_segment) ≡ b
+        → get_or now.segments s no_segment ≡ released (get_or old.segments s no_segment)
     by_settled s true on = ⊎_elim
         (λ (e : get_or now.segments s no_segment ≡ released (get_or old.segments s no_segment)). e)
         (λ (e : get_or now.segments s no_segment ≡ get_or old.segments s no_segment). e ∙ sym (stays (get_or old.segments s no_segment) on))
@@ -184,4 +195,5 @@ listed_ends old now l k so le lists room = record {
     by_settled s false off =
         let listed = lists.all room s off in
         let low = listed.low in
-        subst (λ (j : ℕ). get_or now.segments j no_segment ≡ released (get_or old.segments j no_segment)) listed.is (so.done listed.at (omega (arith, low, le)))
+        subst (λ (j : ℕ). get_or now.segments j no_segment ≡ released (get_or old.segments j no_segment)) listed.is
+        (so.done listed.at (omega (arith, low, le)))

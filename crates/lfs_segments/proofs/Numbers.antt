@@ -1,5 +1,6 @@
 -- Numbers of segments, as one changes.
-use Rattle.std.proofs.Common.{Option, ◌≡◌, ◌≢◌, ◌<◌, ◌≤◌, ⊎_elim, ◌+◌, ◌==◌, cond, ℕ, zero, suc, Bool, true, false, List, length, get_or, replicate, refl, sym, ◌∙◌, ap, subst, arith, eq-eqb, eqb-true, length-set, get_or-set_other, get_or-set_same}
+use Rattle.std.proofs.Common.{Option, ◌≡◌, ◌≢◌, ◌<◌, ◌≤◌, ⊎_elim, ◌+◌, ◌==◌, cond, ℕ, zero, suc, Bool, true, false, List, length, get_or}
+use Rattle.std.proofs.Common.{replicate, refl, sym, ◌∙◌, ap, subst, arith, eq-eqb, eqb-true, length-set, get_or-set_other, get_or-set_same}
 use Rattle.std.specs.Prelude.{slice_set}
 use Rattle.std.proofs.lemmas.Bool.{cases_eq, false_from_ne_true}
 use Rattle.lfs_model.specs.Stands.{count_up}
@@ -7,7 +8,8 @@ use Rattle.lfs_model.proofs.Live.{count_up_none, count_up_more, count_up_same}
 use Rattle.lfs_segments.specs.Table.{SegmentNumbers, no_segment, is_clean_in, clean_in, PlaceInSegment, FitsSegment, FitsTable}
 
 -- one more passes the test
-count_one_more : (p q : ℕ → Bool) (n o : ℕ) → o < n → ((x : ℕ) → (x ≡ o → ⊥) → p x ≡ q x) → p o ≡ false → q o ≡ true → count_up q n ≡ suc (count_up p n)
+count_one_more : (p q : ℕ → Bool) (n o : ℕ) → o < n → ((x : ℕ) → (x ≡ o → ⊥) → p x ≡ q x) → p o ≡ false → q o ≡ true
+    → count_up q n ≡ suc (count_up p n)
 count_one_more p q zero o lt same off on = absurd (omega arith)
 count_one_more p q (suc n) o lt same off on =
     ⊎_elim
@@ -23,7 +25,8 @@ count_one_more p q (suc n) o lt same off on =
     (cases_eq n o)
 
 -- one changes
-count_change : (p q : ℕ → Bool) (n o : ℕ) → o < n → ((x : ℕ) → (x ≡ o → ⊥) → p x ≡ q x) → count_up q n + cond (p o) 1 0 ≡ count_up p n + cond (q o) 1 0
+count_change : (p q : ℕ → Bool) (n o : ℕ) → o < n → ((x : ℕ) → (x ≡ o → ⊥) → p x ≡ q x)
+    → count_up q n + cond (p o) 1 0 ≡ count_up p n + cond (q o) 1 0
 count_change p q zero o lt same = absurd (omega arith)
 count_change p q (suc n) o lt same =
     ⊎_elim
@@ -50,21 +53,25 @@ pub clean_most : (segments : List SegmentNumbers) → clean_in segments ≤ leng
 unfolding clean_in
 clean_most segments = count_most (is_clean_in segments) (length segments)
 
-pub set_own : (segments : List SegmentNumbers) (s : ℕ) (x : SegmentNumbers) → s < length segments → get_or (slice_set segments s x) s no_segment ≡ x
+pub set_own : (segments : List SegmentNumbers) (s : ℕ) (x : SegmentNumbers) → s < length segments
+    → get_or (slice_set segments s x) s no_segment ≡ x
 set_own segments s x lt = get_or-set_same segments s x no_segment lt
 
-pub set_other : (segments : List SegmentNumbers) (s : ℕ) (x : SegmentNumbers) (i : ℕ) → (i ≡ s → ⊥) → get_or (slice_set segments s x) i no_segment ≡ get_or segments i no_segment
+pub set_other : (segments : List SegmentNumbers) (s : ℕ) (x : SegmentNumbers) (i : ℕ) → (i ≡ s → ⊥)
+    → get_or (slice_set segments s x) i no_segment ≡ get_or segments i no_segment
 set_other segments s x i ne = get_or-set_other segments s i x no_segment ne
 
 -- what holds of each segment, where it holds of the new one
-pub set_each : (P : SegmentNumbers → Type 0) (segments : List SegmentNumbers) (s : ℕ) (x : SegmentNumbers) → s < length segments → P x → ((i : ℕ) → P (get_or segments i no_segment)) → (i : ℕ) → P (get_or (slice_set segments s x) i no_segment)
+pub set_each : (P : SegmentNumbers → Type 0) (segments : List SegmentNumbers) (s : ℕ) (x : SegmentNumbers) → s < length segments → P x
+    → ((i : ℕ) → P (get_or segments i no_segment)) → (i : ℕ) → P (get_or (slice_set segments s x) i no_segment)
 set_each P segments s x lt own each i = ⊎_elim
     (λ (here : i ≡ s). subst P (sym (ap (λ (i : ℕ). get_or (slice_set segments s x) i no_segment) here ∙ set_own segments s x lt)) own)
     (λ (away : i ≡ s → ⊥). subst P (sym (set_other segments s x i away)) (each i))
     (cases_eq i s)
 
 -- a clean segment less
-pub one_taken : (segments : List SegmentNumbers) (s : ℕ) (x : SegmentNumbers) → s < length segments → (get_or segments s no_segment).used ≡ 0 → x.used ≢ 0 → clean_in segments ≡ suc (clean_in (slice_set segments s x))
+pub one_taken : (segments : List SegmentNumbers) (s : ℕ) (x : SegmentNumbers) → s < length segments
+    → (get_or segments s no_segment).used ≡ 0 → x.used ≢ 0 → clean_in segments ≡ suc (clean_in (slice_set segments s x))
 unfolding clean_in
 one_taken segments s x lt clean ne =
     let size = length-set segments s x in
@@ -76,12 +83,14 @@ one_taken segments s x lt clean ne =
     ∙ ap (λ (n : ℕ). suc (count_up (is_clean_in (slice_set segments s x)) n)) (sym size)
 
 -- as many, where a segment stays clean or stays in use
-pub still_clean : (segments : List SegmentNumbers) (s : ℕ) (x : SegmentNumbers) → s < length segments → ((get_or segments s no_segment).used == 0) ≡ (x.used == 0) → clean_in (slice_set segments s x) ≡ clean_in segments
+pub still_clean : (segments : List SegmentNumbers) (s : ℕ) (x : SegmentNumbers) → s < length segments
+    → ((get_or segments s no_segment).used == 0) ≡ (x.used == 0) → clean_in (slice_set segments s x) ≡ clean_in segments
 unfolding clean_in
 still_clean segments s x lt same =
     ap (count_up (is_clean_in (slice_set segments s x))) (length-set segments s x)
     ∙ count_up_same (is_clean_in (slice_set segments s x)) (is_clean_in segments) (length segments) (λ i low. ⊎_elim
-    (λ (here : i ≡ s). ap (is_clean_in (slice_set segments s x)) here ∙ ap (λ (n : SegmentNumbers). n.used == 0) (set_own segments s x lt) ∙ sym same ∙ ap (is_clean_in segments) (sym here))
+    (λ (here : i ≡ s). ap (is_clean_in (slice_set segments s x)) here ∙ ap (λ (n : SegmentNumbers). n.used == 0) (set_own segments s x lt)
+    ∙ sym same ∙ ap (is_clean_in segments) (sym here))
     (λ (away : i ≡ s → ⊥). ap (λ (n : SegmentNumbers). n.used == 0) (set_other segments s x i away))
     (cases_eq i s))
 
@@ -109,7 +118,8 @@ all_clean n = ap (count_up (is_clean_in (replicate n no_segment))) (long n) ∙ 
 pub all_fit : (n : ℕ) (i : ℕ) → FitsSegment (get_or (replicate n no_segment) i no_segment)
 all_fit n i = subst FitsSegment (sym (no_segment_there n i)) (record { used = omega arith; fewer = omega arith; kept = omega arith })
 
-pub new_fits : (o : Option ℕ) (segments : List SegmentNumbers) (blocks : List PlaceInSegment) (n : ℕ) → n ≤ 1024 → segments ≡ replicate n no_segment → length blocks ≡ 16 → FitsTable (record { segments = segments; blocks = blocks; last = o })
+pub new_fits : (o : Option ℕ) (segments : List SegmentNumbers) (blocks : List PlaceInSegment) (n : ℕ) → n ≤ 1024
+    → segments ≡ replicate n no_segment → length blocks ≡ 16 → FitsTable (record { segments = segments; blocks = blocks; last = o })
 new_fits o segments blocks n few is whole = record {
   few = let l = ap length is ∙ long n in omega arith;
   blocks = whole;
@@ -117,7 +127,8 @@ new_fits o segments blocks n few is whole = record {
 }
 
 -- the table with a segment's numbers changed
-pub set_fits : (o : Option ℕ) (segments : List SegmentNumbers) (blocks : List PlaceInSegment) (s : ℕ) (x : SegmentNumbers) → FitsTable (record { segments = segments; blocks = blocks; last = o }) → s < length segments → FitsSegment x
+pub set_fits : (o : Option ℕ) (segments : List SegmentNumbers) (blocks : List PlaceInSegment) (s : ℕ) (x : SegmentNumbers)
+    → FitsTable (record { segments = segments; blocks = blocks; last = o }) → s < length segments → FitsSegment x
     → FitsTable (record { segments = slice_set segments s x; blocks = blocks; last = o })
 set_fits o segments blocks s x fits lt own = record {
   few = let l = length-set segments s x in let f = fits.few in omega arith;
@@ -132,5 +143,6 @@ unfolding clean_in
 clean_change segments s x lt =
     let size = ap (count_up (is_clean_in (slice_set segments s x))) (length-set segments s x) in
     let there = ap (λ (n : SegmentNumbers). cond {A = ℕ} (n.used == 0) 1 0) (set_own segments s x lt) in
-    let change = count_change (is_clean_in segments) (is_clean_in (slice_set segments s x)) (length segments) s lt (λ i away. ap (λ (n : SegmentNumbers). n.used == 0) (sym (set_other segments s x i away))) in
+    let change = count_change (is_clean_in segments) (is_clean_in (slice_set segments s x)) (length segments) s lt
+    (λ i away. ap (λ (n : SegmentNumbers). n.used == 0) (sym (set_other segments s x i away))) in
     omega (arith, size, there, change)

@@ -1,4 +1,5 @@
--- The orders in which segments are chosen: of two segments one comes first, and what comes before one that comes before a third comes before that too.
+-- The orders in which segments are chosen: of two segments one comes first,
+-- and what comes before one that comes before a third comes before that too.
 use Rattle.std.proofs.Common.{◌≡◌, ◌<◌, ◌≤◌, ◌⊎◌, ⊎_elim, ◌*◌, ℕ, sym, inl, inr, arith}
 use Rattle.std.proofs.Math.Nat.{mul-le-mul_right}
 use Rattle.std.proofs.lemmas.Bool.{cases_lt}
@@ -34,7 +35,8 @@ abbrev Goes : (n d s n' d' s' : ℕ) → Type 0
 Goes n d s n' d' s' = (n' * d < n * d') ⊎ ((n' * d ≡ n * d') × (s < s'))
 
 goes_least : (n d s n' d' s' : ℕ) → Goes n d s n' d' s' → AtLeast n d n' d'
-goes_least n d s n' d' s' go = ⊎_elim (λ (g : n' * d < n * d'). omega (arith, g)) (λ (e : (n' * d ≡ n * d') × (s < s')). let same = e.0 in omega (arith, same)) go
+goes_least n d s n' d' s' go =
+    ⊎_elim (λ (g : n' * d < n * d'). omega (arith, g)) (λ (e : (n' * d ≡ n * d') × (s < s')). let same = e.0 in omega (arith, same)) go
 
 goes_one_way : (n d s n' d' s' : ℕ) → Goes n d s n' d' s' → Goes n' d' s' n d s → ⊥
 goes_one_way n d s n' d' s' go back =
@@ -44,10 +46,12 @@ goes_one_way n d s n' d' s' go back =
     (λ (g : n' * d < n * d'). omega (arith, g, b))
     (λ (e : (n' * d ≡ n * d') × (s < s')).
     let low = e.1 in
-    ⊎_elim (λ (g : n * d' < n' * d). omega (arith, g, a)) (λ (f : (n * d' ≡ n' * d) × (s' < s)). let high = f.1 in omega (arith, low, high)) back)
+    ⊎_elim (λ (g : n * d' < n' * d). omega (arith, g, a)) (λ (f : (n * d' ≡ n' * d) × (s' < s)). let high = f.1 in omega (arith, low, high))
+    back)
     go
 
-goes_through : (n d s n' d' s' n'' d'' s'' : ℕ) → 0 < d → 0 < d' → 0 < d'' → Goes n d s n' d' s' → Goes n' d' s' n'' d'' s'' → Goes n d s n'' d'' s''
+goes_through : (n d s n' d' s' n'' d'' s'' : ℕ) → 0 < d → 0 < d' → 0 < d'' → Goes n d s n' d' s' → Goes n' d' s' n'' d'' s''
+    → Goes n d s n'' d'' s''
 goes_through n d s n' d' s' n'' d'' s'' some some' some'' go on =
     let a = goes_least n d s n' d' s' go in
     let b = goes_least n' d' s' n'' d'' s'' on in
@@ -93,23 +97,28 @@ costs t s = omega arith
 by_benefit : (t : UsageTable) (now : ℕ) → IsOrder (IsPreferred t now)
 by_benefit t now = record {
   one_way = λ a b. goes_one_way (benefit_of t now a) (cost_of t a) a (benefit_of t now b) (cost_of t b) b;
-  through = λ a b c. goes_through (benefit_of t now a) (cost_of t a) a (benefit_of t now b) (cost_of t b) b (benefit_of t now c) (cost_of t c) c (costs t a) (costs t b) (costs t c);
+  through = λ a b c. goes_through (benefit_of t now a) (cost_of t a) a (benefit_of t now b) (cost_of t b) b (benefit_of t now c)
+      (cost_of t c) c (costs t a) (costs t b) (costs t c);
   either = λ a b. goes_either (benefit_of t now a) (cost_of t a) a (benefit_of t now b) (cost_of t b) b;
 }
 
 lighter_one_way : (x s y s' : ℕ) → IsLighterAs x s y s' → IsLighterAs y s' x s → ⊥
 lighter_one_way x s y s' go back = ⊎_elim
-    (λ (less : x < y). ⊎_elim (λ (more : y < x). omega (arith, less, more)) (λ (e : (y ≡ x) × (s' < s)). let same = e.0 in omega (arith, less, same)) back)
-    (λ (f : (x ≡ y) × (s < s')). let same = f.0 in let low = f.1 in ⊎_elim (λ (more : y < x). omega (arith, same, more)) (λ (e : (y ≡ x) × (s' < s)). let high = e.1 in omega (arith, low, high)) back)
+    (λ (less : x < y).
+    ⊎_elim (λ (more : y < x). omega (arith, less, more)) (λ (e : (y ≡ x) × (s' < s)). let same = e.0 in omega (arith, less, same)) back)
+    (λ (f : (x ≡ y) × (s < s')). let same = f.0 in let low = f.1 in
+    ⊎_elim (λ (more : y < x). omega (arith, same, more)) (λ (e : (y ≡ x) × (s' < s)). let high = e.1 in omega (arith, low, high)) back)
     go
 
 lighter_through : (x s y s' z s'' : ℕ) → IsLighterAs x s y s' → IsLighterAs y s' z s'' → IsLighterAs x s z s''
 lighter_through x s y s' z s'' go on = ⊎_elim
-    (λ (less : x < y). ⊎_elim (λ (more : y < z). inl (omega (arith, less, more))) (λ (e : (y ≡ z) × (s' < s'')). let same = e.0 in inl (omega (arith, less, same))) on)
+    (λ (less : x < y). ⊎_elim (λ (more : y < z). inl (omega (arith, less, more)))
+    (λ (e : (y ≡ z) × (s' < s'')). let same = e.0 in inl (omega (arith, less, same))) on)
     (λ (f : (x ≡ y) × (s < s')).
     let same = f.0 in
     let low = f.1 in
-    ⊎_elim (λ (more : y < z). inl (omega (arith, same, more))) (λ (e : (y ≡ z) × (s' < s'')). let as_well = e.0 in let high = e.1 in inr (omega (arith, same, as_well), omega (arith, low, high))) on)
+    ⊎_elim (λ (more : y < z). inl (omega (arith, same, more))) (λ (e : (y ≡ z) × (s' < s'')). let as_well = e.0 in let high = e.1 in
+    inr (omega (arith, same, as_well), omega (arith, low, high))) on)
     go
 
 lighter_either : (x s y s' : ℕ) → (s ≡ s' → ⊥) → IsLighterAs x s y s' ⊎ IsLighterAs y s' x s

@@ -1,5 +1,7 @@
--- Where fewer than a quarter of the segments is clean, and the blocks of all are as many as a tree may need at most, an eighth of the segments and one more gain.
-use Rattle.std.proofs.Common.{◌≡◌, ◌<◌, ◌≤◌, ⊎_elim, ◌+◌, ◌-◌, ◌*◌, ◌/◌, ◌==◌, cond, not, ℕ, zero, suc, Bool, true, false, List, length, Option, Some, refl, sym, ◌∙◌, ap, arith, None, eq-eqb, take_all}
+-- Where fewer than a quarter of the segments is clean, and the blocks of all are
+-- as many as a tree may need at most, an eighth of the segments and one more gain.
+use Rattle.std.proofs.Common.{◌≡◌, ◌<◌, ◌≤◌, ⊎_elim, ◌+◌, ◌-◌, ◌*◌, ◌/◌, ◌==◌, cond, not, ℕ, zero, suc, Bool, true, false, List, length}
+use Rattle.std.proofs.Common.{Option, Some, refl, sym, ◌∙◌, ap, arith, None, eq-eqb, take_all}
 use Rattle.std.proofs.Math.Nat.{add-mul, mul-le-mul_right, one-mul, zero-mul}
 use Rattle.std.specs.Prelude.{sum_by}
 use Rattle.std.proofs.lemmas.Bool.{cases_eq, cases_lt, cond-true, cond-false, ne_eqb}
@@ -31,7 +33,8 @@ one t s = cond (is_counted t s) 1 0
 -- what is counted may be cleaned
 counted : (t : UsageTable) (s : ℕ) → is_counted t s ≡ true → (0 < used_of t s) × (t.last ≡ Some s → ⊥)
 counted t s is = ⊎_elim
-    (λ (none : used_of t s ≡ 0). let e = cond-true {A = Bool} (used_of t s == 0) false (not (is_open t.last s)) (eq-eqb (used_of t s) 0 none) in absurd (cc (sym e ∙ is)))
+    (λ (none : used_of t s ≡ 0). let e =
+    cond-true {A = Bool} (used_of t s == 0) false (not (is_open t.last s)) (eq-eqb (used_of t s) 0 none) in absurd (cc (sym e ∙ is)))
     (λ (some : used_of t s ≡ 0 → ⊥).
     let e = cond-false {A = Bool} (used_of t s == 0) false (not (is_open t.last s)) (ne_eqb (used_of t s) 0 some) in (
       omega (arith, some),
@@ -42,7 +45,8 @@ counted t s is = ⊎_elim
     (cases_eq (used_of t s) 0)
 
 -- the others are clean, or the open one
-others_clean : (t : UsageTable) (n : ℕ) → n ≤ sum_below (one t) n + sum_below (λ (s : ℕ). cond {A = ℕ} (is_open t.last s) 1 0) n + count_up (is_clean_in t.segments) n
+others_clean : (t : UsageTable) (n : ℕ)
+    → n ≤ sum_below (one t) n + sum_below (λ (s : ℕ). cond {A = ℕ} (is_open t.last s) 1 0) n + count_up (is_clean_in t.segments) n
 others_clean t zero = omega arith
 others_clean t (suc n) =
     let rest = others_clean t n in
@@ -57,7 +61,8 @@ others_clean t (suc n) =
     either false false = omega arith
 
 -- there is one open segment at most
-one_open : (o n : ℕ) → (n ≤ o → sum_below (λ (s : ℕ). cond {A = ℕ} (o == s) 1 0) n ≡ 0) × (sum_below (λ (s : ℕ). cond {A = ℕ} (o == s) 1 0) n ≤ 1)
+one_open : (o n : ℕ) → (n ≤ o → sum_below (λ (s : ℕ). cond {A = ℕ} (o == s) 1 0) n ≡ 0)
+    × (sum_below (λ (s : ℕ). cond {A = ℕ} (o == s) 1 0) n ≤ 1)
 one_open o zero = (λ le. refl, omega arith)
 one_open o (suc n) =
     let rest = one_open o n in
@@ -101,7 +106,8 @@ counted_used : (t : UsageTable) (s : ℕ) → s < length t.segments → 0 < one 
 counted_used t s low counts = let c = counted t s (only_where (is_counted t s) 1 counts) in (low, c.0, c.1)
 
 -- All segments that may be cleaned can't be so few.
-pub not_all : (t : UsageTable) (meta most : ℕ) (xs : List ℕ) → ((s : ℕ) → MayBeVictim t s → IsIn xs s) → IsPressed t meta → most ≡ length t.segments / 8 + 1 → length xs < most → ⊥
+pub not_all : (t : UsageTable) (meta most : ℕ) (xs : List ℕ) → ((s : ℕ) → MayBeVictim t s → IsIn xs s) → IsPressed t meta
+    → most ≡ length t.segments / 8 + 1 → length xs < most → ⊥
 not_all t meta most xs all pressed is few =
     let b = below_among (length t.segments) (one t) xs (λ y low counts. all y (counted_used t y low counts)) in
     let l = sum_less (one t) (λ (s : ℕ). 1) xs (one_most t) in
@@ -151,11 +157,13 @@ times_six a top =
     omega (arith, two, four, six, m)
 
 -- the numbers, with p for a times top
-no_room : (a top p meta blocks all : ℕ) → top ≤ 63 → blocks ≤ p + top → 6 * p + blocks ≤ all + (p + top) → all + 6 * meta + 672 ≤ 376 * a → 63 * a < blocks + meta + 48 → ⊥
+no_room : (a top p meta blocks all : ℕ) → top ≤ 63 → blocks ≤ p + top → 6 * p + blocks ≤ all + (p + top) → all + 6 * meta + 672 ≤ 376 * a
+    → 63 * a < blocks + meta + 48 → ⊥
 no_room a top p meta blocks all low each sum room lacks = omega (arith, low, each, sum, room, lacks)
 
 -- An eighth of the segments and one more, those with the least blocks, gain.
-pub gains_then : (t : UsageTable) (meta : ℕ) (xs : List ℕ) → FitsTable t → AreFirst t (ComesBefore t) xs → IsPressed t meta → length xs ≡ length t.segments / 8 + 1 → 63 * (length xs - 1) < sum_by (load_of t) xs + meta + 48 → ⊥
+pub gains_then : (t : UsageTable) (meta : ℕ) (xs : List ℕ) → FitsTable t → AreFirst t (ComesBefore t) xs → IsPressed t meta
+    → length xs ≡ length t.segments / 8 + 1 → 63 * (length xs - 1) < sum_by (load_of t) xs + meta + 48 → ⊥
 gains_then t meta xs fits first pressed long lacking_one =
     let greatest = greatest_in (load_of t) xs (omega (arith, long)) in
     let v = greatest.0 in
@@ -179,10 +187,12 @@ gains_then t meta xs fits first pressed long lacking_one =
     let o = one-mul top in
     let room = pressed.blocks in
     let all = loads_below t in
-    no_room a top (a * top) meta (sum_by (load_of t) xs) (loads t) (omega (arith, most, fewer)) (omega (arith, filled, own, o)) (omega (arith, times, among, less, filled, product, six, own, o, all)) (omega (arith, room, e)) (omega (arith, lacking_one, long))
+    no_room a top (a * top) meta (sum_by (load_of t) xs) (loads t) (omega (arith, most, fewer)) (omega (arith, filled, own, o))
+    (omega (arith, times, among, less, filled, product, six, own, o, all)) (omega (arith, room, e)) (omega (arith, lacking_one, long))
 
 -- So a volume that is pressed has victims.
-pub pressed_gains : (t : UsageTable) (meta most : ℕ) → Exhausts t meta most preference.Load → IsPressed t meta → most ≡ length t.segments / 8 + 1 → ⊥
+pub pressed_gains : (t : UsageTable) (meta most : ℕ) → Exhausts t meta most preference.Load → IsPressed t meta
+    → most ≡ length t.segments / 8 + 1 → ⊥
 pressed_gains t meta most is pressed limit =
     let few = is.few in
     ⊎_elim
@@ -193,7 +203,8 @@ pressed_gains t meta most is pressed limit =
     (λ (long : most ≤ length is.all).
     let same : length is.all ≡ length t.segments / 8 + 1 = omega (arith, few, long, limit) in
     ⊎_elim
-    (λ (lacking_one : 63 * (length is.all - 1) < sum_by (load_of t) is.all + meta + 48). gains_then t meta is.all is.table is.first pressed same lacking_one)
+    (λ (lacking_one : 63 * (length is.all - 1) < sum_by (load_of t) is.all + meta + 48).
+    gains_then t meta is.all is.table is.first pressed same lacking_one)
     (λ (gain : sum_by (load_of t) is.all + meta + 48 ≤ 63 * (length is.all - 1)).
     let l = is.lacks (length is.all) (omega arith) in
     let w = ap (gain_of t meta) (take_all (length is.all) is.all (omega arith)) in

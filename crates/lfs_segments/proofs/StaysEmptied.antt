@@ -40,7 +40,8 @@ stays_emptied t t' s is = (λ c age. ⊎_elim (taken c age) (gone_on c age), not
 
     gone_on : (c age : ℕ) → GoesOn t t' c age → IsEmptied t' s
     gone_on c age go =
-        let away : s ≡ c → ⊥ = λ e. let l = ap (live_of t) e in let h = ap (held_of t) e in let some = go.some in let a = is.live in let b = is.held in omega arith in
+        let away : s ≡ c → ⊥ = λ e. let l = ap (live_of t) e in let h = ap (held_of t) e in let some = go.some in let a = is.live in
+        let b = is.held in omega arith in
         record {
           used = subst (λ (n : ℕ). 0 < n) (sym (go.used.others s away)) is.used;
           before = go.kept s ∙ is.before ∙ sym (go.used.others s away);
@@ -69,7 +70,8 @@ stays_emptied t t' s is = (λ c age. ⊎_elim (taken c age) (gone_on c age), not
     put : (j at : ℕ) (stale : Bool) → PutsPlace t t' j at stale → IsEmptied t' s
     put j at stale go = record {
       used = subst (λ (l : List SegmentNumbers). 0 < (get_or l s no_segment).used) (sym go.segments) is.used;
-      before = ap (λ (l : List SegmentNumbers). (get_or l s no_segment).kept) go.segments ∙ is.before ∙ sym (ap (λ (l : List SegmentNumbers). (get_or l s no_segment).used) go.segments);
+      before = ap (λ (l : List SegmentNumbers). (get_or l s no_segment).kept) go.segments ∙ is.before
+          ∙ sym (ap (λ (l : List SegmentNumbers). (get_or l s no_segment).used) go.segments);
       live = ap (λ (l : List SegmentNumbers). (get_or l s no_segment).live) go.segments ∙ is.live;
       held = ap (λ (l : List SegmentNumbers). (get_or l s no_segment).held) go.segments ∙ is.held;
     }

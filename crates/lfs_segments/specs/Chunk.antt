@@ -1,4 +1,5 @@
--- The chunk that is being filled. Chunks of blocks behind a summary are those of the Sprite LFS paper (1992, section 3.3), called partial segments there.
+-- The chunk that is being filled. Chunks of blocks behind a summary are those
+-- of the Sprite LFS paper (1992, section 3.3), called partial segments there.
 use Rattle.std.specs.Prelude.{◌≡◌, ◌<◌, ◌≤◌, ◌+◌, ◌-◌, ◌/◌, ◌%◌, ◌==◌, cond, nat_lt, ℕ, suc, List, Option, Some, None, map, length, get_or}
 use Rattle.lfs_model.specs.Entry.{Entry, entry_of}
 use Rattle.lfs_model.specs.Summary.{BlockNameValue, IsPlaced, no_block}
@@ -18,7 +19,8 @@ entries_of c = map entry_of c.names
 -- a summary has room for these names, and may hold each of them
 pub record IsChunk (names : List BlockNameValue) : Type 0 where
   pub room : length names ≤ 63
-  pub each : (i : ℕ) → i < length names → IsPlaced (get_or names i no_block).kind (get_or names i no_block).file (get_or names i no_block).index
+  pub each : (i : ℕ) → i < length names
+      → IsPlaced (get_or names i no_block).kind (get_or names i no_block).file (get_or names i no_block).index
 
 -- the chunk is the last of its segment, and starts where the acknowledged checkpoint needs nothing
 pub record IsOpenChunk (c : Chunk) (t : UsageTable) : Type 0 where

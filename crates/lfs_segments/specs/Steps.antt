@@ -3,7 +3,8 @@ use Rattle.std.specs.Prelude.{Some, ◌≡◌, ◌<◌, ◌≤◌, ◌⊎◌, �
 use Rattle.lfs_model.specs.Entry.{half, word}
 use Rattle.lfs_model.specs.Running.{IsSet, CountsUp, CountsDown}
 use Rattle.lfs_model.specs.Usage.{SegmentUse}
-use Rattle.lfs_segments.specs.Table.{SegmentNumbers, UsageTable, no_segment, used_of, live_of, held_of, age_of, kept_of, address_of, stale_of, clean_in}
+use Rattle.lfs_segments.specs.Table.{SegmentNumbers, UsageTable, no_segment, used_of, live_of, held_of, age_of, kept_of, address_of}
+use Rattle.lfs_segments.specs.Table.{stale_of, clean_in}
 
 -- where usage blocks stand, and which differ from what the device has, is as it was but for one, which differs
 pub record Stales (old new : UsageTable) (j : ℕ) : Type 0 where

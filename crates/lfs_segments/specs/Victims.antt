@@ -1,5 +1,6 @@
 -- Which segments a pass of the cleaner empties, and when there are such.
--- That the cleaner reads a number of segments and writes their live blocks to fewer is the Sprite LFS paper's (1992, section 3.3); the bounds are an own choice.
+-- That the cleaner reads a number of segments and writes their live blocks to fewer
+-- is the Sprite LFS paper's (1992, section 3.3); the bounds are an own choice.
 use Rattle.std.specs.Prelude.{Some, ◌≡◌, ◌<◌, ◌≤◌, ◌⊎◌, ◌+◌, ◌-◌, ◌*◌, ◌/◌, ℕ, List, length, get_or, max, min, sum_by, AllPairs}
 use Rattle.std.specs.List.{AllByRecursion}
 use Rattle.lfs_model.specs.Checkpoint.{IsSegmentCount}
@@ -21,8 +22,8 @@ loads t = sum_by load t.segments
 abbrev pub MayBeVictim : UsageTable → ℕ → Type 0
 MayBeVictim t s = (s < length t.segments) × (0 < used_of t s) × (t.last ≡ Some s → ⊥)
 
--- A pass over these segments gains one at least: their blocks, with so many inodes and blocks of pointers and with the 48 blocks of the inode map and
--- the usage table, fill fewer segments than they are. Beside the summary of its chunk a segment takes 63 blocks.
+-- A pass over these segments gains one at least: their blocks, with so many inodes and blocks of pointers and with the 48 blocks of
+-- the inode map and the usage table, fill fewer segments than they are. Beside the summary of its chunk a segment takes 63 blocks.
 pub record AreVictims (t : UsageTable) (meta most : ℕ) (vs : List ℕ) : Type 0 where
   pub few : length vs ≤ most
   pub apart : AreApart vs

@@ -1,6 +1,7 @@
 -- What a store holds as it commits, makes room and stages its draft.
 use Rattle.std.specs.Prelude.{Result, Ok, Err, OnErr, OnOk, min}
-use Rattle.std.proofs.Common.{◌≡◌, ◌<◌, ◌≤◌, ◌+◌, ◌-◌, ◌*◌, ◌/◌, ◌^◌, inl, inr, ⊎_elim, Bool, true, false, ℕ, length, refl, sym, ◌∙◌, ap, subst, arith}
+use Rattle.std.proofs.Common.{◌≡◌, ◌<◌, ◌≤◌, ◌+◌, ◌-◌, ◌*◌, ◌/◌, ◌^◌, inl, inr, ⊎_elim, Bool, true, false, ℕ, length, refl, sym, ◌∙◌, ap}
+use Rattle.std.proofs.Common.{subst, arith}
 use Rattle.lfs_model.specs.Checkpoint.{CheckpointValue}
 use Rattle.lfs_model.specs.Crash.{StandsOn}
 use Rattle.lfs_model.specs.Device.{DeviceState, IsLawful, Carries, AllLeft, LeavesOnly}
@@ -22,16 +23,20 @@ use Rattle.lfs_cleaner.specs.log.Held.{Held, Halts, Holds, IsFull, IsSaved, Save
 use Rattle.lfs_cleaner.proofs.of_log.Unsaved.{all_saved}
 use Rattle.lfs_cleaner.specs.Room.{HaltsLater, HasQuarter, IsAtRest, IsRoomFault, KeepsMap, MayNotMakeRoom, most_checkpoints}
 use Rattle.lfs_cleaner.proofs.RoomBounds.{same_need, segment_count}
-use Rattle.lfs_cleaner.proofs.Rooms.{fault_then, halts_at_once, halts_then, halts_weaker, keeps_none, keeps_saves, keeps_then, keeps_weaker, rest_saves}
-use Rattle.lfs_store.specs.Accepting.{HasClean, Stores, StoresOver, LeavesEither, Commits, Acknowledges, CannotMakeRoom, MakesRoom, Readies, SavesFew, StaysUnsaved, Accepts, Declines, IsAcceptFault, most_written}
+use Rattle.lfs_cleaner.proofs.Rooms.{fault_then, halts_at_once, halts_then, halts_weaker, keeps_none, keeps_saves, keeps_then, keeps_weaker}
+use Rattle.lfs_cleaner.proofs.Rooms.{rest_saves}
+use Rattle.lfs_store.specs.Accepting.{HasClean, Stores, StoresOver, LeavesEither, Commits, Acknowledges, CannotMakeRoom, MakesRoom, Readies}
+use Rattle.lfs_store.specs.Accepting.{SavesFew, StaysUnsaved, Accepts, Declines, IsAcceptFault, most_written}
 
 -- where anything isn't saved a checkpoint is written
 pub written_most : (D : Type 0) (h : Held D) (saved : Bool) → most_written h saved ≤ length h.memory.usage.segments / 8 + 1
-written_most D h true = let le : length h.memory.usage.segments / 8 + min 1 (waiting_in h) ≤ length h.memory.usage.segments / 8 + 1 = omega arith in le
+written_most D h true =
+    let le : length h.memory.usage.segments / 8 + min 1 (waiting_in h) ≤ length h.memory.usage.segments / 8 + 1 = omega arith in le
 written_most D h false = let le : length h.memory.usage.segments / 8 + 1 ≤ length h.memory.usage.segments / 8 + 1 = omega arith in le
 
 written_least : (D : Type 0) (h : Held D) (saved : Bool) → length h.memory.usage.segments / 8 ≤ most_written h saved
-written_least D h true = let le : length h.memory.usage.segments / 8 ≤ length h.memory.usage.segments / 8 + min 1 (waiting_in h) = omega arith in le
+written_least D h true =
+    let le : length h.memory.usage.segments / 8 ≤ length h.memory.usage.segments / 8 + min 1 (waiting_in h) = omega arith in le
 written_least D h false = let le : length h.memory.usage.segments / 8 ≤ length h.memory.usage.segments / 8 + 1 = omega arith in le
 
 -- what isn't saved stays so
@@ -42,16 +47,23 @@ stays_then : (D : Type 0) (a b c : Held D) → StaysUnsaved a b → StaysUnsaved
 stays_then D a b c one two =
     let first = one.fewer in
     let second = two.fewer in
-    record { number = two.number ∙ one.number; fewer = omega (arith, first, second); capacity = two.capacity ∙ one.capacity; clean = λ enough. two.clean (one.clean enough) }
+    record {
+      number = two.number ∙ one.number;
+      fewer = omega (arith, first, second);
+      capacity = two.capacity ∙ one.capacity;
+      clean = λ enough. two.clean (one.clean enough);
+    }
 
 module _ {D : Type 0} (state : D → DeviceState) where
   -- what is left now stands for what is acknowledged
-  acknowledged : (h : Held D) (k : CheckpointValue) (m0 m : LogMap) → Holds state h k m0 m → AllLeft (state h.device) (λ c. StandsOn k.segments c m0)
+  acknowledged : (h : Held D) (k : CheckpointValue) (m0 m : LogMap) → Holds state h k m0 m
+      → AllLeft (state h.device) (λ c. StandsOn k.segments c m0)
   acknowledged h k m0 m is = settled_stands (state h.device) k m0 is.log.running.settled
 
   -- nothing happens
   quiet : (h : Held D) (saved : Bool) → IsLawful (state h.device) → LeavesEither state h saved h
-  quiet h saved lawful k m0 m keeps is map = started (state h.device) (IsSaved state k.segments m0 m) lawful (λ c left. inl (acknowledged h k m0 m is.holds c left))
+  quiet h saved lawful k m0 m keeps is map =
+      started (state h.device) (IsSaved state k.segments m0 m) lawful (λ c left. inl (acknowledged h k m0 m is.holds c left))
 
   -- ---- a commit
   pub commits_none : (h : Held D) → IsLawful (state h.device) → h.halted ≡ false → Commits state h true h
@@ -79,7 +91,8 @@ module _ {D : Type 0} (state : D → DeviceState) where
     segments = s.segments;
     clean = s.clean;
     no_failure = s.no_failure;
-    stores = λ k m0 m keeps is map. (let n = s.holds k m0 m keeps is.holds map in (n.0, record { holds = n.1; nothing_new = λ _. refl; rest = λ _. rest_saves state h h' s }));
+    stores = λ k m0 m keeps is map. (let n = s.holds k m0 m keeps is.holds map in
+        (n.0, record { holds = n.1; nothing_new = λ _. refl; rest = λ _. rest_saves state h h' s }));
     left = λ k m0 m keeps is map. s.left k m0 m keeps is.holds map;
     moment = λ k m0 m keeps is map. s.moment k m0 m keeps is.holds map;
   }
@@ -112,7 +125,8 @@ module _ {D : Type 0} (state : D → DeviceState) where
           all = λ e. inr s.holds;
           rest = λ e rest. rest_saves state h h' s;
         };
-        spent = (let spent : h'.number + (length h'.memory.usage.segments / 8 + min 1 (waiting_in h')) ≤ h.number + (length h.memory.usage.segments / 8 + 1) = omega (arith, none, size, rose) in spent);
+        spent = (let spent : h'.number + (length h'.memory.usage.segments / 8 + min 1 (waiting_in h'))
+            ≤ h.number + (length h.memory.usage.segments / 8 + 1) = omega (arith, none, size, rose) in spent);
         able = λ k m0 m keeps can.
             let next = s.holds k m0 m keeps can.stores.holds can.shown in
             let most : h.number + (length h.memory.usage.segments / 8 + 1) ≤ 2 ^ 64 - 1 = can.number in (
@@ -125,7 +139,8 @@ module _ {D : Type 0} (state : D → DeviceState) where
                 counted = subst (λ (t : BlockTotals). IsCounted m t.data_blocks t.meta_blocks) (sym totals) can.counted;
                 need = same_need state h h' totals size can.need;
                 enough = λ never. absurd (cc);
-                number = (let fits : h'.number + (length h'.memory.usage.segments / 8 + min 1 (waiting_in h')) ≤ 2 ^ 64 - 1 = omega (arith, none, size, rose, most) in fits);
+                number = (let fits : h'.number + (length h'.memory.usage.segments / 8 + min 1 (waiting_in h')) ≤ 2 ^ 64 - 1 =
+                    omega (arith, none, size, rose, most) in fits);
               },
             );
       }
@@ -135,10 +150,12 @@ module _ {D : Type 0} (state : D → DeviceState) where
   acks_then a b c x acks two k m0 m keeps is map =
       let one = acks k m0 m (two.carries.kept_before keeps) is map in
       let over = two.holds one.0 (dropped m) m keeps one.1 map in
-      let same : over.acknowledged ≡ dropped m = ⊎_elim (λ (e : over.acknowledged ≡ dropped m). e) (λ (e : over.acknowledged ≡ dropped m). e) over.either in
+      let same : over.acknowledged ≡ dropped m =
+      ⊎_elim (λ (e : over.acknowledged ≡ dropped m). e) (λ (e : over.acknowledged ≡ dropped m). e) over.either in
       (over.checkpoint, subst (λ (l : LogMap). Holds state c over.checkpoint l m) same over.holds)
 
-  acks_before : (a b c : Held D) (x : ℕ) → KeepsMap state a b x → Carries (state b.device) (state c.device) → Acknowledges state b c → Acknowledges state a c
+  acks_before : (a b c : Held D) (x : ℕ) → KeepsMap state a b x → Carries (state b.device) (state c.device) → Acknowledges state b c
+      → Acknowledges state a c
   acks_before a b c x one after acks k m0 m keeps is map =
       let over = one.holds k m0 m (after.kept_before keeps) is map in
       acks over.checkpoint over.acknowledged m keeps over.holds map
@@ -174,10 +191,13 @@ module _ {D : Type 0} (state : D → DeviceState) where
         let number = two.keeps.number in
         let spent = ready.spent in
         record {
-          keeps = keeps_numbered a c _ (most_written a saved) (keeps_then state a b c _ ready.room.keeps _ two.keeps) (omega (arith, number, spent));
-          unsaved = λ e. (let second = two.unsaved e in let first = ready.room.unsaved second.0 in (first.0, stays_then D a b c first.1 second.1));
+          keeps = keeps_numbered a c _ (most_written a saved) (keeps_then state a b c _ ready.room.keeps _ two.keeps)
+              (omega (arith, number, spent));
+          unsaved = λ e.
+              (let second = two.unsaved e in let first = ready.room.unsaved second.0 in (first.0, stays_then D a b c first.1 second.1));
           all = λ e. ⊎_elim
-              (λ (was : kept ≡ true). ⊎_elim (λ (first : saved ≡ true). inl first) (λ (acks : Acknowledges state a b). inr (acks_then a b c _ acks two.keeps)) (ready.room.all was))
+              (λ (was : kept ≡ true). ⊎_elim (λ (first : saved ≡ true). inl first)
+              (λ (acks : Acknowledges state a b). inr (acks_then a b c _ acks two.keeps)) (ready.room.all was))
               (λ (acks : Acknowledges state b c). inr (acks_before a b c _ ready.room.keeps two.keeps.carries acks))
               (two.all e);
           rest = λ e rest. two.rest e (λ was. ready.room.rest was rest);
@@ -190,14 +210,16 @@ module _ {D : Type 0} (state : D → DeviceState) where
         halts_numbered a c _ (most_written a saved) (halts_then state a b c _ ready.room.keeps _ halts) (omega (arith, number, spent))
 
     pub cannot_after : Carries (state b.device) (state c.device) → CannotMakeRoom state b kept c → CannotMakeRoom state a saved c
-    cannot_after after cannot k m0 m keeps can = let next = ready.able k m0 m (after.kept_before keeps) can in cannot next.0 next.1 m keeps next.2
+    cannot_after after cannot k m0 m keeps can = let next = ready.able k m0 m (after.kept_before keeps) can in
+        cannot next.0 next.1 m keeps next.2
 
     pub fault_after : Carries (state b.device) (state c.device) → IsRoomFault state b c → IsRoomFault state a c
     fault_after after failed = fault_then state a b c _ ready.room.keeps after failed
 
   -- passes where all is saved
   pub room_cleaned : (b c : Held D) → KeepsMap state b c (most_checkpoints b) → MakesRoom state b true c true
-  room_cleaned b c keeps = record { keeps = keeps; unsaved = λ never. absurd (cc); all = λ e. inl refl; rest = λ e rest. keeps.rest (rest refl) }
+  room_cleaned b c keeps =
+      record { keeps = keeps; unsaved = λ never. absurd (cc); all = λ e. inl refl; rest = λ e rest. keeps.rest (rest refl) }
 
   pub cannot_pass : (b c : Held D) → MayNotMakeRoom state b c → CannotMakeRoom state b true c
   cannot_pass b c lacks k m0 m keeps can =
@@ -221,7 +243,8 @@ module _ {D : Type 0} (state : D → DeviceState) where
     ready_all = subst (λ (flag : Bool). Readies state a saved b flag) all ready
 
     pub clean_room : KeepsMap state b c (most_checkpoints b) → MakesRoom state a saved c kept
-    clean_room keeps = subst (λ (flag : Bool). MakesRoom state a saved c flag) (sym all) (room_then a b c saved true ready_all true (room_cleaned b c keeps))
+    clean_room keeps = subst (λ (flag : Bool). MakesRoom state a saved c flag) (sym all)
+        (room_then a b c saved true ready_all true (room_cleaned b c keeps))
 
     pub clean_cannot : Carries (state b.device) (state c.device) → MayNotMakeRoom state b c → CannotMakeRoom state a saved c
     clean_cannot after lacks = cannot_after a b c saved true ready_all after (cannot_pass b c lacks)
@@ -230,12 +253,15 @@ module _ {D : Type 0} (state : D → DeviceState) where
     clean_halts halts = halts_after a b c saved true ready_all halts
 
   -- nothing happened
-  pub room_same : (a b : Held D) (saved kept : Bool) → IsLawful (state a.device) → a.halted ≡ false → b ≡ a → kept ≡ saved → MakesRoom state a saved b kept
+  pub room_same : (a b : Held D) (saved kept : Bool) → IsLawful (state a.device) → a.halted ≡ false → b ≡ a → kept ≡ saved
+      → MakesRoom state a saved b kept
   room_same a b saved kept lawful running same flag =
-      subst (λ (f : Bool). MakesRoom state a saved b f) (sym flag) (subst (λ (h : Held D). MakesRoom state a saved h saved) (sym same) (room_none a saved lawful running))
+      subst (λ (f : Bool). MakesRoom state a saved b f) (sym flag)
+      (subst (λ (h : Held D). MakesRoom state a saved h saved) (sym same) (room_none a saved lawful running))
 
   -- where room can be made a commit finds enough clean segments
-  pub cannot_commit : (h after : Held D) (saved : Bool) → IsLawful (state h.device) → saved ≡ false → IsFull h → CannotMakeRoom state h saved after
+  pub cannot_commit : (h after : Held D) (saved : Bool) → IsLawful (state h.device) → saved ≡ false → IsFull h
+      → CannotMakeRoom state h saved after
   cannot_commit h after saved lawful unsaved full k m0 m keeps can =
       let clean = can.enough unsaved in
       let count = segment_count state h k m0 m lawful can.stores.holds in
@@ -249,7 +275,8 @@ module _ {D : Type 0} (state : D → DeviceState) where
       full
 
   -- and a quarter of the segments is enough for one
-  pub cannot_lack : (h after : Held D) (saved kept : Bool) → IsLawful (state after.device) → MakesRoom state h saved after kept → HasQuarter after
+  pub cannot_lack : (h after : Held D) (saved kept : Bool) → IsLawful (state after.device) → MakesRoom state h saved after kept
+      → HasQuarter after
       → clean_in after.memory.usage.segments < length after.memory.usage.segments / 8 + 8 → CannotMakeRoom state h saved after
   cannot_lack h after saved kept lawful room quarter few k m0 m keeps can =
       let over = room.keeps.holds k m0 m keeps can.stores.holds can.shown in
@@ -269,7 +296,8 @@ module _ {D : Type 0} (state : D → DeviceState) where
       ready = λ ready e. (let none = room.unsaved e in none.1.clean (ready none.0));
     }
 
-    pub room_stores : (k : CheckpointValue) (m0 m : LogMap) → (state h'.device).keeps_model → Stores state h saved k m0 m → IsLogMap (dropped m) → StoresOver state k.segments m0 m h' saved' m
+    pub room_stores : (k : CheckpointValue) (m0 m : LogMap) → (state h'.device).keeps_model → Stores state h saved k m0 m
+        → IsLogMap (dropped m) → StoresOver state k.segments m0 m h' saved' m
     room_stores k m0 m keeps is map = by_flag saved' refl
       where
         rest : saved' ≡ true → IsAtRest h'
@@ -280,8 +308,15 @@ module _ {D : Type 0} (state : D → DeviceState) where
             ⊎_elim
             (λ (was : saved ≡ true).
             let over = room.keeps.holds k m0 m keeps is.holds map in
-            let new : over.acknowledged ≡ dropped m = ⊎_elim (λ (old : over.acknowledged ≡ m0). old ∙ is.nothing_new was) (λ (new : over.acknowledged ≡ dropped m). new) over.either in
-            record { checkpoint = over.checkpoint; acknowledged = over.acknowledged; either = over.either; same = over.same; stores = record { holds = over.holds; nothing_new = λ t. new; rest = rest } })
+            let new : over.acknowledged ≡ dropped m = ⊎_elim (λ (old : over.acknowledged ≡ m0). old ∙ is.nothing_new was)
+            (λ (new : over.acknowledged ≡ dropped m). new) over.either in
+            record {
+              checkpoint = over.checkpoint;
+              acknowledged = over.acknowledged;
+              either = over.either;
+              same = over.same;
+              stores = record { holds = over.holds; nothing_new = λ t. new; rest = rest };
+            })
             (λ (acks : Acknowledges state h h').
             let next = acks k m0 m keeps is.holds map in
             record {
@@ -294,22 +329,32 @@ module _ {D : Type 0} (state : D → DeviceState) where
             (room.all e)
         by_flag false e =
             let over = room.keeps.holds k m0 m keeps is.holds map in
-            record { checkpoint = over.checkpoint; acknowledged = over.acknowledged; either = over.either; same = over.same; stores = record { holds = over.holds; nothing_new = λ (t : saved' ≡ true). absurd (cc); rest = rest } }
+            record {
+              checkpoint = over.checkpoint;
+              acknowledged = over.acknowledged;
+              either = over.either;
+              same = over.same;
+              stores = record { holds = over.holds; nothing_new = λ (t : saved' ≡ true). absurd (cc); rest = rest };
+            }
 
     pub room_moment : LeavesEither state h saved h'
     room_moment k m0 m keeps is map = room.keeps.moment k m0 m keeps is.holds map
 
   -- ---- the draft is staged, or refused
-  module _ (h mid h' : Held D) (saved kept : Bool) (c : Changes) (lawful : IsLawful (state mid.device)) (running : h.halted ≡ false) (room : MakesRoom state h saved mid kept) {raised : Bool} (alters : Alters state mid h' (room_for c) raised) where
+  module _ (h mid h' : Held D) (saved kept : Bool) (c : Changes) (lawful : IsLawful (state mid.device)) (running : h.halted ≡ false)
+      (room : MakesRoom state h saved mid kept) {raised : Bool} (alters : Alters state mid h' (room_for c) raised) where
     before : (state h'.device).keeps_model → (state mid.device).keeps_model
     before = alters.looks.carries.kept_before
 
     -- a stop as it is staged leaves what is acknowledged
-    still_either : (segments : ℕ) (m0 m : LogMap) → StoresOver state segments m0 m mid kept m → LeavesOnly (state mid.device) (state h'.device) (IsSaved state segments m0 m)
+    still_either : (segments : ℕ) (m0 m : LogMap) → StoresOver state segments m0 m mid kept m
+        → LeavesOnly (state mid.device) (state h'.device) (IsSaved state segments m0 m)
     still_either segments m0 m over =
         let is = over.stores.holds in
-        weaker (state mid.device) (state h'.device) (λ x. StandsOn over.checkpoint.segments x over.acknowledged) (IsSaved state segments m0 m)
-        (λ x there. let stands : StandsOn segments x over.acknowledged = subst (λ (l : ℕ). StandsOn l x over.acknowledged) over.same there in ⊎_elim
+        weaker (state mid.device) (state h'.device) (λ x. StandsOn over.checkpoint.segments x over.acknowledged)
+        (IsSaved state segments m0 m)
+        (λ x there.
+        let stands : StandsOn segments x over.acknowledged = subst (λ (l : ℕ). StandsOn l x over.acknowledged) over.same there in ⊎_elim
         (λ (old : over.acknowledged ≡ m0). inl (subst (λ (l : LogMap). StandsOn segments x l) old stands))
         (λ (new : over.acknowledged ≡ dropped m). inr (subst (λ (l : LogMap). StandsOn segments x l) new stands))
         over.either)
@@ -318,8 +363,10 @@ module _ {D : Type 0} (state : D → DeviceState) where
 
     moments : LeavesEither state h saved h'
     moments k m0 m keeps is map =
-        joined (state h.device) (state mid.device) (state h'.device) (IsSaved state k.segments m0 m) (IsSaved state k.segments m0 m) (IsSaved state k.segments m0 m)
-        (room_moment h saved mid kept room k m0 m (before keeps) is map) (still_either k.segments m0 m (room_stores h saved mid kept room k m0 m (before keeps) is map)) (λ x p. p) (λ x p. p)
+        joined (state h.device) (state mid.device) (state h'.device) (IsSaved state k.segments m0 m) (IsSaved state k.segments m0 m)
+        (IsSaved state k.segments m0 m)
+        (room_moment h saved mid kept room k m0 m (before keeps) is map)
+        (still_either k.segments m0 m (room_stores h saved mid kept room k m0 m (before keeps) is map)) (λ x p. p) (λ x p. p)
 
     carried : Carries (state h.device) (state h'.device)
     carried = carries_then (state h.device) (state mid.device) (state h'.device) room.keeps.carries alters.looks.carries
@@ -356,7 +403,11 @@ module _ {D : Type 0} (state : D → DeviceState) where
             acknowledged = over.acknowledged;
             either = over.either;
             same = over.same;
-            stores = record { holds = s.holds over.checkpoint over.acknowledged m keeps over.stores.holds fits; nothing_new = λ never. absurd (cc); rest = λ never. absurd (cc) };
+            stores = record {
+              holds = s.holds over.checkpoint over.acknowledged m keeps over.stores.holds fits;
+              nothing_new = λ never. absurd (cc);
+              rest = λ never. absurd (cc);
+            };
           });
       moment = moments;
     }
@@ -374,7 +425,11 @@ module _ {D : Type 0} (state : D → DeviceState) where
             acknowledged = over.acknowledged;
             either = over.either;
             same = over.same;
-            stores = record { holds = s.holds over.checkpoint over.acknowledged m keeps over.stores.holds fits; nothing_new = λ never. absurd (cc); rest = λ never. absurd (cc) };
+            stores = record {
+              holds = s.holds over.checkpoint over.acknowledged m keeps over.stores.holds fits;
+              nothing_new = λ never. absurd (cc);
+              rest = λ never. absurd (cc);
+            };
           });
       moment = moments;
     }
@@ -387,7 +442,8 @@ module _ {D : Type 0} (state : D → DeviceState) where
         omega (arith, more, before)
 
   -- no room is made
-  pub declines_room : (h h' : Held D) (saved kept : Bool) (c : Changes) → h.halted ≡ false → MakesRoom state h saved h' kept → Declines state h saved h' kept c
+  pub declines_room : (h h' : Held D) (saved kept : Bool) (c : Changes) → h.halted ≡ false → MakesRoom state h saved h' kept
+      → Declines state h saved h' kept c
   declines_room h h' saved kept c running room = record {
     carries = room.keeps.carries;
     halted = room.keeps.running ∙ sym running;

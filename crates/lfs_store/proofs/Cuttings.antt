@@ -1,7 +1,8 @@
 -- A file cut, or made longer, in a draft over a log.
 use Rattle.std.specs.Prelude.{IsFalse}
 use Rattle.std.specs.Int.{div_ceil}
-use Rattle.std.proofs.Common.{◌≡◌, ◌<◌, ◌≤◌, ◌/◌, ◌%◌, ◌+◌, ◌-◌, ◌*◌, ◌==◌, nat_lt, nat_le, ℕ, Bool, List, [], length, Some, None, refl, sym, ◌∙◌, ap, ap₂, subst, arith, false}
+use Rattle.std.proofs.Common.{◌≡◌, ◌<◌, ◌≤◌, ◌/◌, ◌%◌, ◌+◌, ◌-◌, ◌*◌, ◌==◌, nat_lt, nat_le, ℕ, Bool, List, [], length, Some, None, refl}
+use Rattle.std.proofs.Common.{sym, ◌∙◌, ap, ap₂, subst, arith, false}
 use Rattle.std.proofs.lemmas.Bool.{and_right, cond_both, lt-leb, ltb-false}
 use Rattle.lfs_model.specs.Changing.{IsWithHeader}
 use Rattle.lfs_model.specs.Cutting.{is_past}
@@ -36,9 +37,11 @@ use Rattle.lfs_store.proofs.Writings.{block_read, block_put, header_put, takes_h
 
 only_cut : (c : Changes) (n len : ℕ) (m : LogMap) → DraftsCut c n len → staged c m ≡ cut_from n (div_ceil len 512) m
 only_cut c n len m is =
-    edits_are c.loss (Blocks is.lost.cut) c.headers.items [] c.blocks.items [] m is.lost.loss is.headers is.blocks ∙ ap₂ (λ (l first : ℕ). cut_from l first m) is.lost.number is.lost.start
+    edits_are c.loss (Blocks is.lost.cut) c.headers.items [] c.blocks.items [] m is.lost.loss is.headers is.blocks
+    ∙ ap₂ (λ (l first : ℕ). cut_from l first m) is.lost.number is.lost.start
 
-pub drafts_cut : (old new : Changes) (n len : ℕ) (cut : Cut) → IsNoChange old → new.headers ≡ old.headers → new.blocks ≡ old.blocks → new.loss ≡ Blocks cut → cut.number ≡ n → cut.first ≡ div_ceil len 512 → DraftsCut new n len
+pub drafts_cut : (old new : Changes) (n len : ℕ) (cut : Cut) → IsNoChange old → new.headers ≡ old.headers → new.blocks ≡ old.blocks
+    → new.loss ≡ Blocks cut → cut.number ≡ n → cut.first ≡ div_ceil len 512 → DraftsCut new n len
 drafts_cut old new n len cut none headers blocks loss number first = record {
   lost = record { cut = cut; loss = loss; number = number; start = first };
   headers = ap (λ v. v.items) headers ∙ none.headers;
@@ -47,7 +50,8 @@ drafts_cut old new n len cut none headers blocks loss number first = record {
 
 far_cut : (c : Changes) (n len first : ℕ) (m : LogMap) → DraftsCut c n len → div_ceil len 512 ≡ first → CutSoFar m (staged c m) n first
 far_cut c n len first m is at =
-    subst (λ (l : ℕ). CutSoFar m (staged c m) n l) at (subst (λ (a : LogMap). CutSoFar m a n (div_ceil len 512)) (sym (only_cut c n len m is)) (cut_begins m n (div_ceil len 512)))
+    subst (λ (l : ℕ). CutSoFar m (staged c m) n l) at
+    (subst (λ (a : LogMap). CutSoFar m a n (div_ceil len 512)) (sym (only_cut c n len m is)) (cut_begins m n (div_ceil len 512)))
 
 -- ---- they fit
 
@@ -59,9 +63,11 @@ cut_fits c n len m is = fits_lost c (Blocks is.lost.cut) m is.lost.loss is.heade
 
 -- the leaf above the last block, which stays in part, stays
 leaf_stays : (x n len : ℕ) → 0 < len % 512 → is_past x (div_ceil len 512) (parent (Data n (len / 512))) ≡ false
-leaf_stays x n len odd = cond_both (nat_lt (len / 512) 112) (Inode n) (Leaf n ((len / 512 - 112) / 128)) (λ (y : Entry). is_past x (div_ceil len 512) y ≡ false)
+leaf_stays x n len odd =
+    cond_both (nat_lt (len / 512) 112) (Inode n) (Leaf n ((len / 512 - 112) / 128)) (λ (y : Entry). is_past x (div_ceil len 512) y ≡ false)
     (λ on. refl)
-    (λ off. and_right (n == x) (nat_le (div_ceil len 512) (112 + 128 * ((len / 512 - 112) / 128))) (lt-leb _ _ (behind (ltb-false (len / 512) 112 off))))
+    (λ off. and_right (n == x) (nat_le (div_ceil len 512) (112 + 128 * ((len / 512 - 112) / 128)))
+    (lt-leb _ _ (behind (ltb-false (len / 512) 112 off))))
   where
     behind : 112 ≤ len / 512 → 112 + 128 * ((len / 512 - 112) / 128) < div_ceil len 512
     behind le = omega (arith, le, odd)
@@ -69,7 +75,8 @@ leaf_stays x n len odd = cond_both (nat_lt (len / 512) 112) (Inode n) (Leaf n ((
 cut_takes : (c : Changes) (n len : ℕ) (m : LogMap) → 0 < len % 512 → DraftsCut c n len → HasInode m n → TakesBlock c m n (len / 512)
 cut_takes c n len m odd is there = record {
   there = (there.0, cut_header c n len m is ∙ there.1);
-  apart = ap (λ (x : Loss). is_lost x (parent (Data n (len / 512)))) is.lost.loss ∙ ap (λ (first : ℕ). is_past is.lost.cut.number first (parent (Data n (len / 512)))) is.lost.start ∙ leaf_stays is.lost.cut.number n len odd;
+  apart = ap (λ (x : Loss). is_lost x (parent (Data n (len / 512)))) is.lost.loss ∙ ap (λ (first : ℕ).
+      is_past is.lost.cut.number first (parent (Data n (len / 512)))) is.lost.start ∙ leaf_stays is.lost.cut.number n len odd;
   within = λ none. (let never : None ≡ Some there.0 = sym none ∙ there.1 in absurd (cc));
 }
 
@@ -86,7 +93,8 @@ module _ {D : Type 0} (state : D → DeviceState) where
     file = λ k m0 m keeps holds. cut_between m (staged c m) n len even (far_cut c n len (len / 512) m is (omega (arith, even)));
   }
 
-  pub cuts_none : (h h' : Held D) (c : Changes) (n len : ℕ) (out : List ℕ) (found : Bool) → found ≡ false → 0 < len % 512 → DraftsCut c n len → ReadsBlock state h h' c n (len / 512) out found
+  pub cuts_none : (h h' : Held D) (c : Changes) (n len : ℕ) (out : List ℕ) (found : Bool) → found ≡ false → 0 < len % 512
+      → DraftsCut c n len → ReadsBlock state h h' c n (len / 512) out found
       → CutsDraft state h h' c n len
   cuts_none h h' c n len out found off odd is answer = record {
     loss = is.lost;
@@ -98,8 +106,10 @@ module _ {D : Type 0} (state : D → DeviceState) where
         (subst (λ (stored : Bool). BlockAnswer (staged c m) n (len / 512) out stored) off (answer k m0 m keeps holds));
   }
 
-  pub cuts_inside : (h h' : Held D) (c c' : Changes) (n len : ℕ) (old new : List ℕ) (found : Bool) → 0 < len % 512 → DraftsCut c n len → length old ≡ 512 → length new ≡ 512 → (IsFalse found → old ≡ zeros 512)
-      → ReadsBlock state h h' c n (len / 512) old found → CutsTail (len % 512) old new → PutsBlock c c' n (len / 512) new → CutsDraft state h h' c' n len
+  pub cuts_inside : (h h' : Held D) (c c' : Changes) (n len : ℕ) (old new : List ℕ) (found : Bool) → 0 < len % 512 → DraftsCut c n len
+      → length old ≡ 512 → length new ≡ 512 → (IsFalse found → old ≡ zeros 512)
+      → ReadsBlock state h h' c n (len / 512) old found → CutsTail (len % 512) old new → PutsBlock c c' n (len / 512) new
+      → CutsDraft state h h' c' n len
   cuts_inside h h' c c' n len old new found odd is long stays blank answer cuts puts = record {
     loss = record { cut = is.lost.cut; loss = puts.loss ∙ is.lost.loss; number = is.lost.number; start = is.lost.start };
     headers = ap (λ v. v.items) puts.headers ∙ is.headers;
@@ -107,19 +117,22 @@ module _ {D : Type 0} (state : D → DeviceState) where
     header = λ m. ap (λ (a : LogMap). a.header n) (puts.map m) ∙ cut_header c n len m is;
     fits = λ m there. puts.fits m (cut_fits c n len m is) (cut_takes c n len m odd is there);
     file = λ k m0 m keeps holds.
-        cut_inside m (staged c m) (staged c' m) n len old new odd (far_cut c n len (len / 512 + 1) m is (omega (arith, odd))) (block_read (staged c m) n (len / 512) old found long blank (answer k m0 m keeps holds))
+        cut_inside m (staged c m) (staged c' m) n len old new odd (far_cut c n len (len / 512 + 1) m is (omega (arith, odd)))
+        (block_read (staged c m) n (len / 512) old found long blank (answer k m0 m keeps holds))
         cuts stays (block_put (staged c m) (staged c' m) n (len / 512) (stored new) (puts.map m));
   }
 
   -- ---- and its header says so
 
-  pub sets_shorter : (h h' : Held D) (c c' : Changes) (n : ℕ) (head : Header) (len : ℕ) → len < head.size → CutsDraft state h h' c n len → PutsHeader c c' n (resized head len) → SetsLen state h h' c' n head len
+  pub sets_shorter : (h h' : Held D) (c c' : Changes) (n : ℕ) (head : Header) (len : ℕ) → len < head.size → CutsDraft state h h' c n len
+      → PutsHeader c c' n (resized head len) → SetsLen state h h' c' n head len
   sets_shorter h h' c c' n head len less is puts = record {
     lost = λ lt. record { cut = is.loss.cut; loss = puts.loss ∙ is.loss.loss; number = is.loss.number; start = is.loss.start };
     kept = λ le. absurd (omega (arith, less, le));
     headers = let none = ap length is.headers in let some = puts.few in omega (arith, none, some);
     blocks = let few = is.blocks in let same = ap length (ap (λ v. v.items) puts.blocks) in omega (arith, few, same);
-    fits = λ m there fits. puts.fits m (is.fits m (as_header head, there)) (takes_header c m n head (resized head len) (is.header m ∙ there) refl (ap (λ (x : Loss). is_lost x (Inode n)) is.loss.loss) fits);
+    fits = λ m there fits. puts.fits m (is.fits m (as_header head, there))
+        (takes_header c m n head (resized head len) (is.header m ∙ there) refl (ap (λ (x : Loss). is_lost x (Inode n)) is.loss.loss) fits);
     file = λ k m0 m keeps holds. file m (is.file k m0 m keeps holds);
   }
     where
@@ -136,23 +149,27 @@ module _ {D : Type 0} (state : D → DeviceState) where
             header = with_it.own;
           }
 
-  pub sets_longer : (h h' : Held D) (c c' : Changes) (n : ℕ) (head : Header) (len : ℕ) → head.size ≤ len → IsNoChange c → PutsHeader c c' n (resized head len) → SetsLen state h h' c' n head len
+  pub sets_longer : (h h' : Held D) (c c' : Changes) (n : ℕ) (head : Header) (len : ℕ) → head.size ≤ len → IsNoChange c
+      → PutsHeader c c' n (resized head len) → SetsLen state h h' c' n head len
   sets_longer h h' c c' n head len more none puts = record {
     lost = λ lt. absurd (omega (arith, more, lt));
     kept = λ le. puts.loss ∙ none.loss;
     headers = let was = ap length none.headers in let some = puts.few in omega (arith, was, some);
     blocks = let was = ap length none.blocks in let same = ap length (ap (λ v. v.items) puts.blocks) in omega (arith, was, same);
-    fits = λ m there fits. puts.fits m (draft_empty c m none).1 (takes_header c m n head (resized head len) (ap (λ (a : LogMap). a.header n) (no_change c m none) ∙ there) refl (ap (λ (x : Loss). is_lost x (Inode n)) none.loss) fits);
+    fits = λ m there fits. puts.fits m (draft_empty c m none).1 (takes_header c m n head (resized head len)
+        (ap (λ (a : LogMap). a.header n) (no_change c m none) ∙ there) refl (ap (λ (x : Loss). is_lost x (Inode n)) none.loss) fits);
     file = λ k m0 m keeps holds. file m;
   }
     where
       with_it : (m : LogMap) → IsWithHeader m n (Some (as_header (resized head len))) (staged c' m)
-      with_it m = subst (λ (a : LogMap). IsWithHeader a n (Some (as_header (resized head len))) (staged c' m)) (no_change c m none) (header_put (staged c m) (staged c' m) n (resized head len) (puts.map m))
+      with_it m = subst (λ (a : LogMap). IsWithHeader a n (Some (as_header (resized head len))) (staged c' m)) (no_change c m none)
+          (header_put (staged c m) (staged c' m) n (resized head len) (puts.map m))
 
       file : (m : LogMap) → SizesFile m (staged c' m) n head (resized head len) len
       file m = record {
         shorter = λ lt. absurd (omega (arith, more, lt));
-        longer = λ le map there. lengthened m (staged c' m) n (as_header head) (as_header (resized head len)) map there len le refl ((with_it m).block n);
+        longer = λ le map there.
+            lengthened m (staged c' m) n (as_header head) (as_header (resized head len)) map there len le refl ((with_it m).block n);
         below = λ i lt. (with_it m).block n i;
         only = record { headers = (with_it m).others; blocks = λ k i ne. (with_it m).block k i; version = (with_it m).version };
         whole = λ was. same_whole m (staged c' m) n ((with_it m).block n) was;
@@ -160,7 +177,8 @@ module _ {D : Type 0} (state : D → DeviceState) where
       }
 
   -- a log that is only read before and after
-  pub sets_around : (h a b h' : Held D) (c : Changes) (n : ℕ) (head : Header) (len : ℕ) → Reads state h a → SetsLen state a b c n head len → Reads state b h' → SetsLen state h h' c n head len
+  pub sets_around : (h a b h' : Held D) (c : Changes) (n : ℕ) (head : Header) (len : ℕ) → Reads state h a → SetsLen state a b c n head len
+      → Reads state b h' → SetsLen state h h' c n head len
   sets_around h a b h' c n head len first sets last = record {
     lost = sets.lost;
     kept = sets.kept;

@@ -1,5 +1,6 @@
 -- What a draft says and what is put into it, from the lists of its edits.
-use Rattle.std.proofs.Common.{◌≡◌, ◌≢◌, ◌<◌, ◌≤◌, ◌+◌, ◌-◌, ◌==◌, cond, ℕ, suc, Bool, true, false, List, [], ◌∷◌, ◌++◌, length, take, drop, set, get_or, Option, Some, None, refl, sym, ◌∙◌, ap, subst, arith}
+use Rattle.std.proofs.Common.{◌≡◌, ◌≢◌, ◌<◌, ◌≤◌, ◌+◌, ◌-◌, ◌==◌, cond, ℕ, suc, Bool, true, false, List, [], ◌∷◌, ◌++◌, length, take, drop}
+use Rattle.std.proofs.Common.{set, get_or, Option, Some, None, refl, sym, ◌∙◌, ap, subst, arith}
 use Rattle.std.proofs.Math.Path.{fun_ext}
 use Rattle.std.proofs.lemmas.List.{drop_more, take-append-drop, set_split}
 use Rattle.lfs_model.specs.Stands.{LogMap}
@@ -31,8 +32,10 @@ header_over m n h h' = same_headers m _ _ (λ k. over (k == n) (m.header k))
     over false x = refl
 
 -- headers of two files
-headers_apart : (m : LogMap) (n n' : ℕ) (h h' : Option entry.Header) → n' ≢ n → with_header (with_header m n h) n' h' ≡ with_header (with_header m n' h') n h
-headers_apart m n n' h h' ne = same_headers m _ _ (λ k. apart (k == n) (k == n') (m.header k) (λ a b. let x = equal_is k n a in let y = equal_is k n' b in ne (sym y ∙ x)))
+headers_apart : (m : LogMap) (n n' : ℕ) (h h' : Option entry.Header) → n' ≢ n
+    → with_header (with_header m n h) n' h' ≡ with_header (with_header m n' h') n h
+headers_apart m n n' h h' ne = same_headers m _ _
+    (λ k. apart (k == n) (k == n') (m.header k) (λ a b. let x = equal_is k n a in let y = equal_is k n' b in ne (sym y ∙ x)))
   where
     apart : (b b' : Bool) (x : Option entry.Header) → (b ≡ true → b' ≡ true → ⊥) → cond b' h' (cond b h x) ≡ cond b h (cond b' h' x)
     apart true true x never = absurd (never refl refl)
@@ -52,17 +55,21 @@ after_more [] fs m = refl
 after_more (e ∷ es) fs m = after_more es fs (after_header e m)
 
 -- a header of none of these files may come before or behind them
-header_through : (es : List HeaderEdit) (m : LogMap) (n : ℕ) (h : Option entry.Header) → NoHeader n es → after_headers es (with_header m n h) ≡ with_header (after_headers es m) n h
+header_through : (es : List HeaderEdit) (m : LogMap) (n : ℕ) (h : Option entry.Header) → NoHeader n es
+    → after_headers es (with_header m n h) ≡ with_header (after_headers es m) n h
 header_through [] m n h none = refl
 header_through (e ∷ es) m n h none =
-    ap (after_headers es) (headers_apart m n e.number h (Some (as_header e.header)) none.0) ∙ header_through es (after_header e m) n h none.1
+    ap (after_headers es) (headers_apart m n e.number h (Some (as_header e.header)) none.0)
+    ∙ header_through es (after_header e m) n h none.1
 
 header_stays : (es : List HeaderEdit) (m : LogMap) (n : ℕ) → NoHeader n es → (after_headers es m).header n ≡ m.header n
 header_stays [] m n none = refl
-header_stays (e ∷ es) m n none = header_stays es (after_header e m) n none.1 ∙ other_header m e.number n (Some (as_header e.header)) (λ is. none.0 (sym is))
+header_stays (e ∷ es) m n none = header_stays es (after_header e m) n none.1
+    ∙ other_header m e.number n (Some (as_header e.header)) (λ is. none.0 (sym is))
 
 -- ---- blocks leave headers
-blocks_headers : (bs : List BlockEdit) (m : LogMap) (n : ℕ) (h : Option entry.Header) → after_blocks bs (with_header m n h) ≡ with_header (after_blocks bs m) n h
+blocks_headers : (bs : List BlockEdit) (m : LogMap) (n : ℕ) (h : Option entry.Header)
+    → after_blocks bs (with_header m n h) ≡ with_header (after_blocks bs m) n h
 blocks_headers [] m n h = refl
 blocks_headers (e ∷ bs) m n h = blocks_headers bs (after_block e m) n h
 
@@ -82,7 +89,8 @@ module _ (es : List HeaderEdit) (n p : ℕ) (is : LastHeader es n p) where
   split = sym (take-append-drop p es) ∙ ap (λ (fs : List HeaderEdit). take p es ++ fs) is.there
 
   -- the list with this edit at its place
-  with_edit : (e : HeaderEdit) (m : LogMap) → e.number ≡ n → after_headers (take p es ++ e ∷ drop (p + 1) es) m ≡ with_header (behind (before m)) n (Some (as_header e.header))
+  with_edit : (e : HeaderEdit) (m : LogMap) → e.number ≡ n
+      → after_headers (take p es ++ e ∷ drop (p + 1) es) m ≡ with_header (behind (before m)) n (Some (as_header e.header))
   with_edit e m own =
       after_more (take p es) (e ∷ drop (p + 1) es) m
       ∙ ap (λ (k : ℕ). behind (with_header (before m) k (Some (as_header e.header)))) own
@@ -94,19 +102,22 @@ module _ (es : List HeaderEdit) (n p : ℕ) (is : LastHeader es n p) where
       ∙ ap (λ (w : LogMap). w.header n) (with_edit is.edit m is.number)
       ∙ own_header (behind (before m)) n (Some (as_header is.edit.header))
 
-  pub edit_replaced : (e : HeaderEdit) (m : LogMap) → e.number ≡ n → after_headers (set es p e) m ≡ with_header (after_headers es m) n (Some (as_header e.header))
+  pub edit_replaced : (e : HeaderEdit) (m : LogMap) → e.number ≡ n
+      → after_headers (set es p e) m ≡ with_header (after_headers es m) n (Some (as_header e.header))
   edit_replaced e m own =
       let next : suc p ≡ p + 1 = omega arith in
       ap (λ (fs : List HeaderEdit). after_headers fs m) (set_split es p e is.inside ∙ ap (λ (k : ℕ). take p es ++ e ∷ drop k es) next)
       ∙ with_edit e m own
       ∙ sym (header_over (behind (before m)) n (Some (as_header is.edit.header)) (Some (as_header e.header)))
-      ∙ ap (λ (w : LogMap). with_header w n (Some (as_header e.header))) (sym (with_edit is.edit m is.number) ∙ ap (λ (fs : List HeaderEdit). after_headers fs m) (sym split))
+      ∙ ap (λ (w : LogMap). with_header w n (Some (as_header e.header)))
+      (sym (with_edit is.edit m is.number) ∙ ap (λ (fs : List HeaderEdit). after_headers fs m) (sym split))
 
   edit_there : (e : HeaderEdit) → get_or es p e ≡ e → is.edit ≡ e
   edit_there e own = ap (λ (fs : List HeaderEdit). get_or fs 0 e) (sym is.there ∙ drop_more es p e is.inside) ∙ own
 
 -- ---- the search for it, from the end on
-header_found : (es : List HeaderEdit) (n p : ℕ) (e : HeaderEdit) → p < length es → NoHeader n (drop (p + 1) es) → get_or es p e ≡ e → e.number ≡ n → LastHeader es n p
+header_found : (es : List HeaderEdit) (n p : ℕ) (e : HeaderEdit) → p < length es → NoHeader n (drop (p + 1) es) → get_or es p e ≡ e
+    → e.number ≡ n → LastHeader es n p
 header_found es n p e inside none own is = record {
   edit = e;
   number = is;
@@ -115,23 +126,31 @@ header_found es n p e inside none own is = record {
   last = none;
 }
 
-pub found_header : (es : List HeaderEdit) (n p : ℕ) (e : HeaderEdit) → 0 < p → p ≤ length es → NoHeader n (drop p es) → e ≡ get_or es (p - 1) e → (get_or es (p - 1) e).number ≡ n → LastHeader es n (p - 1)
+pub found_header : (es : List HeaderEdit) (n p : ℕ) (e : HeaderEdit) → 0 < p → p ≤ length es → NoHeader n (drop p es)
+    → e ≡ get_or es (p - 1) e → (get_or es (p - 1) e).number ≡ n → LastHeader es n (p - 1)
 found_header es n p e some le none own is =
     let step : p ≡ p - 1 + 1 = omega (arith, some) in
-    header_found es n (p - 1) e (omega (arith, some, le)) (subst (λ (k : ℕ). NoHeader n (drop k es)) step none) (sym own) (ap (λ (f : HeaderEdit). f.number) own ∙ is)
+    header_found es n (p - 1) e (omega (arith, some, le)) (subst (λ (k : ℕ). NoHeader n (drop k es)) step none) (sym own)
+    (ap (λ (f : HeaderEdit). f.number) own ∙ is)
 
 -- ---- what a draft says
-pub says_header : (c : Changes) (n p : ℕ) (e : HeaderEdit) → LastHeader c.headers.items n p → e ≡ get_or c.headers.items p e → DraftsHeader c n (Some e.header)
+pub says_header : (c : Changes) (n p : ℕ) (e : HeaderEdit) → LastHeader c.headers.items n p → e ≡ get_or c.headers.items p e
+    → DraftsHeader c n (Some e.header)
 says_header c n p e is own m =
     header_kept c.blocks.items (after_headers c.headers.items (lost c.loss m)) n
     ∙ last_says c.headers.items n p is (lost c.loss m)
     ∙ ap (λ (f : HeaderEdit). Some (as_header f.header)) (edit_there c.headers.items n p is e (sym own))
 
 pub says_no_header : (c : Changes) (n : ℕ) → NoHeader n c.headers.items → DraftsHeader c n None
-says_no_header c n none = (none, λ m. header_kept c.blocks.items (after_headers c.headers.items (lost c.loss m)) n ∙ header_stays c.headers.items (lost c.loss m) n none)
+says_no_header c n none = (
+  none,
+  λ m. header_kept c.blocks.items (after_headers c.headers.items (lost c.loss m)) n
+      ∙ header_stays c.headers.items (lost c.loss m) n none,
+)
 
 -- ---- what is put into it
-pub put_into : (old new : Changes) (n : ℕ) (h : entry.Header) → ((m : LogMap) → after_headers new.headers.items m ≡ with_header (after_headers old.headers.items m) n (Some h)) → new.blocks ≡ old.blocks → new.loss ≡ old.loss
+pub put_into : (old new : Changes) (n : ℕ) (h : entry.Header) → ((m : LogMap) → after_headers new.headers.items m
+    ≡ with_header (after_headers old.headers.items m) n (Some h)) → new.blocks ≡ old.blocks → new.loss ≡ old.loss
     → (m : LogMap) → staged new m ≡ with_header (staged old m) n (Some h)
 put_into old new n h headers blocks loss m =
     ap (λ (bs : List BlockEdit). after_blocks bs (after_headers new.headers.items (lost new.loss m))) (ap (λ v. v.items) blocks)

@@ -1,6 +1,7 @@
 -- Room in memory that early writes make.
 use Rattle.std.specs.Prelude.{min}
-use Rattle.std.proofs.Common.{◌≡◌, ◌<◌, ◌≤◌, ◌⊎◌, ◌+◌, ◌-◌, ◌*◌, ◌/◌, ◌^◌, inl, inr, ⊎_elim, Bool, true, false, ℕ, [], length, refl, sym, ◌∙◌, subst, arith}
+use Rattle.std.proofs.Common.{◌≡◌, ◌<◌, ◌≤◌, ◌⊎◌, ◌+◌, ◌-◌, ◌*◌, ◌/◌, ◌^◌, inl, inr, ⊎_elim, Bool, true, false, ℕ, [], length, refl, sym}
+use Rattle.std.proofs.Common.{◌∙◌, subst, arith}
 use Rattle.lfs_model.specs.Content.{Content}
 use Rattle.lfs_model.specs.Crash.{StandsOn}
 use Rattle.lfs_model.specs.Device.{DeviceState, IsLawful}
@@ -46,7 +47,8 @@ module _ {D : Type 0} (state : D → DeviceState) where
     told = omega arith;
     no_failure = refl;
     holds = λ k m0 m keeps is. is;
-    moment = λ k m0 m keeps is. started (state h.device) (λ (c : Content). StandsOn k.segments c m0) lawful (settled_stands (state h.device) k m0 is.log.running.settled);
+    moment = λ k m0 m keeps is. started (state h.device) (λ (c : Content). StandsOn k.segments c m0) lawful
+        (settled_stands (state h.device) k m0 is.log.running.settled);
   }
 
   module _ (h h' : Held D) (w : WritesEarly state h h') (totals : h'.totals ≡ h.totals) where
@@ -68,12 +70,15 @@ module _ {D : Type 0} (state : D → DeviceState) where
           segments = w.segments;
           totals = totals;
           rest = rest_early;
-          holds = λ k m0 m keeps is map. record { checkpoint = k; acknowledged = m0; either = inl refl; same = refl; holds = w.holds k m0 m keeps is };
-          moment = λ k m0 m keeps is map. weaker (state h.device) (state h'.device) (λ (c : Content). StandsOn k.segments c m0) (IsSaved state k.segments m0 m) (λ x p. inl p) (w.moment k m0 m keeps is);
+          holds = λ k m0 m keeps is map.
+              record { checkpoint = k; acknowledged = m0; either = inl refl; same = refl; holds = w.holds k m0 m keeps is };
+          moment = λ k m0 m keeps is map. weaker (state h.device) (state h'.device) (λ (c : Content). StandsOn k.segments c m0)
+              (IsSaved state k.segments m0 m) (λ x p. inl p) (w.moment k m0 m keeps is);
         }
 
     clean_stays : HasClean h → HasClean h'
-    clean_stays enough = ⊎_elim (λ (same : h' ≡ h). subst (λ (x : Held D). HasClean x) (sym same) enough) (λ (kept : HasClean h'). kept) (early_clean D state h h' w)
+    clean_stays enough = ⊎_elim (λ (same : h' ≡ h). subst (λ (x : Held D). HasClean x) (sym same) enough) (λ (kept : HasClean h'). kept)
+        (early_clean D state h h' w)
 
     room_early : MakesRoom state h false h' false
     room_early = record {
@@ -89,19 +94,25 @@ module _ {D : Type 0} (state : D → DeviceState) where
         let size = w.segments in
         record {
           room = room_early;
-          spent = (let spent : h'.number + (length h'.memory.usage.segments / 8 + 1) ≤ h.number + (length h.memory.usage.segments / 8 + 1) = omega (arith, number, size) in spent);
+          spent = (let spent : h'.number + (length h'.memory.usage.segments / 8 + 1) ≤ h.number + (length h.memory.usage.segments / 8 + 1) =
+              omega (arith, number, size) in spent);
           able = λ k m0 m keeps can.
               let most : h.number + (length h.memory.usage.segments / 8 + 1) ≤ 2 ^ 64 - 1 = can.number in (
                 k,
                 m0,
                 record {
-                  stores = record { holds = w.holds k m0 m keeps can.stores.holds; nothing_new = λ never. absurd (cc); rest = λ never. absurd (cc) };
+                  stores = record {
+                    holds = w.holds k m0 m keeps can.stores.holds;
+                    nothing_new = λ never. absurd (cc);
+                    rest = λ never. absurd (cc);
+                  };
                   map = can.map;
                   shown = can.shown;
                   counted = subst (λ (t : BlockTotals). IsCounted m t.data_blocks t.meta_blocks) (sym totals) can.counted;
                   need = same_need state h h' totals size can.need;
                   enough = λ e. clean_stays (can.enough refl);
-                  number = (let fits : h'.number + (length h'.memory.usage.segments / 8 + 1) ≤ 2 ^ 64 - 1 = omega (arith, number, size, most) in fits);
+                  number = (let fits : h'.number + (length h'.memory.usage.segments / 8 + 1) ≤ 2 ^ 64 - 1 =
+                      omega (arith, number, size, most) in fits);
                 },
               );
         }
@@ -114,22 +125,26 @@ module _ {D : Type 0} (state : D → DeviceState) where
       record {
         room = room_then state a b c x y one z two.room;
         spent = omega (arith, first, second);
-        able = λ k m0 m keeps can. (let next = one.able k m0 m (two.room.keeps.carries.kept_before keeps) can in two.able next.0 next.1 m keeps next.2);
+        able = λ k m0 m keeps can.
+            (let next = one.able k m0 m (two.room.keeps.carries.kept_before keeps) can in two.able next.0 next.1 m keeps next.2);
       }
 
   -- one commit, or less
   pub once_early : (a b : Held D) (kept : Bool) → WritesEarly state a b → (b ≡ a) ⊎ (HasClean b ⊎ ((kept ≡ true) × AreAllSaved b))
   once_early a b kept w = ⊎_elim (λ (same : b ≡ a). inl same) (λ (clean : HasClean b). inr (inl clean)) (early_clean D state a b w)
 
-  pub once_saved : (a b c : Held D) (saved kept after : Bool) → (saved ≡ true → b ≡ a) → kept ≡ saved → (kept ≡ true → c ≡ b) → (kept ≡ false → Saves state b c) → after ≡ true
+  pub once_saved : (a b c : Held D) (saved kept after : Bool) → (saved ≡ true → b ≡ a) → kept ≡ saved → (kept ≡ true → c ≡ b)
+      → (kept ≡ false → Saves state b c) → after ≡ true
       → (c ≡ a) ⊎ (HasClean c ⊎ ((after ≡ true) × AreAllSaved c))
   once_saved a b c true kept after still same quiet saves all = inl (quiet same ∙ still refl)
   once_saved a b c false kept after still same quiet saves all = inr (inr (all, (saves same).empty))
 
-  pub clean_early : (a b : Held D) → length a.memory.dirty.blocks ≤ 456 → WritesEarly state a b → clean_in a.memory.usage.segments ≤ clean_in b.memory.usage.segments + 8
+  pub clean_early : (a b : Held D) → length a.memory.dirty.blocks ≤ 456 → WritesEarly state a b
+      → clean_in a.memory.usage.segments ≤ clean_in b.memory.usage.segments + 8
   clean_early a b few w = let taken = w.taken in omega (arith, taken, few)
 
-  pub clean_saved : (a b c : Held D) (saved kept : Bool) → length a.memory.dirty.blocks ≤ 456 → WritesEarly state a b → (saved ≡ true → b ≡ a) → kept ≡ saved → (kept ≡ true → c ≡ b) → (kept ≡ false → Saves state b c)
+  pub clean_saved : (a b c : Held D) (saved kept : Bool) → length a.memory.dirty.blocks ≤ 456 → WritesEarly state a b
+      → (saved ≡ true → b ≡ a) → kept ≡ saved → (kept ≡ true → c ≡ b) → (kept ≡ false → Saves state b c)
       → clean_in a.memory.usage.segments ≤ clean_in c.memory.usage.segments + 8
   clean_saved a b c true kept few w still same quiet saves =
       let all = quiet same ∙ still refl in
@@ -140,23 +155,31 @@ module _ {D : Type 0} (state : D → DeviceState) where
       let more = (saves same).taken in
       omega (arith, taken, emptied, more, few)
 
-  pub told_early : (a b : Held D) → length a.memory.dirty.blocks ≤ 456 → WritesEarly state a b → length (state b.device).told ≤ length (state a.device).told + commit_orders
+  pub told_early : (a b : Held D) → length a.memory.dirty.blocks ≤ 456 → WritesEarly state a b
+      → length (state b.device).told ≤ length (state a.device).told + commit_orders
   told_early a b few w = let told = w.told in omega (arith, told, few)
 
-  pub told_saved : (a b : Held D) (told : ℕ) → length a.memory.dirty.blocks ≤ 456 → WritesEarly state a b → told ≤ length (state b.device).told + orders_for (length b.memory.dirty.blocks)
+  pub told_saved : (a b : Held D) (told : ℕ) → length a.memory.dirty.blocks ≤ 456 → WritesEarly state a b
+      → told ≤ length (state b.device).told + orders_for (length b.memory.dirty.blocks)
       → told ≤ length (state a.device).told + commit_orders
   told_saved a b told few w more = let gave = w.told in omega (arith, gave, more, few)
 
   -- segments are cleaned behind it: where that was done after a commit, no second one comes
-  pub told_cleaned : (a b c : Held D) (kept : Bool) → (b ≡ a) ⊎ (HasClean b ⊎ ((kept ≡ true) × AreAllSaved b)) → clean_in b.memory.usage.segments < length b.memory.usage.segments / 8 + 8
-      → length (state b.device).told ≤ length (state a.device).told + commit_orders → length (state c.device).told ≤ length (state b.device).told + room_orders (length b.memory.usage.segments)
-      → (kept ≡ true → AreAllSaved b → length (state c.device).told ≤ length (state b.device).told + passes_orders (length b.memory.usage.segments))
-      → length b.memory.usage.segments ≡ length a.memory.usage.segments → length (state c.device).told ≤ length (state a.device).told + room_orders (length a.memory.usage.segments)
+  pub told_cleaned : (a b c : Held D) (kept : Bool) → (b ≡ a) ⊎ (HasClean b ⊎ ((kept ≡ true) × AreAllSaved b))
+      → clean_in b.memory.usage.segments < length b.memory.usage.segments / 8 + 8
+      → length (state b.device).told ≤ length (state a.device).told + commit_orders
+      → length (state c.device).told ≤ length (state b.device).told + room_orders (length b.memory.usage.segments)
+      → (kept ≡ true → AreAllSaved b
+      → length (state c.device).told ≤ length (state b.device).told + passes_orders (length b.memory.usage.segments))
+      → length b.memory.usage.segments ≡ length a.memory.usage.segments
+      → length (state c.device).told ≤ length (state a.device).told + room_orders (length a.memory.usage.segments)
   told_cleaned a b c kept once few first rest passes same = ⊎_elim
-      (λ (is : b ≡ a). subst (λ (x : Held D). length (state c.device).told ≤ length (state x.device).told + room_orders (length x.memory.usage.segments)) is rest)
+      (λ (is : b ≡ a). subst (λ (x : Held D).
+      length (state c.device).told ≤ length (state x.device).told + room_orders (length x.memory.usage.segments)) is rest)
       (λ (more : HasClean b ⊎ ((kept ≡ true) × AreAllSaved b)). ⊎_elim
       (λ (clean : HasClean b). absurd (omega (arith, clean, few)))
-      (λ (all : (kept ≡ true) × AreAllSaved b). behind (length (state a.device).told) (length (state b.device).told) (length (state c.device).told) (length a.memory.usage.segments) (length b.memory.usage.segments) same first (passes all.0 all.1))
+      (λ (all : (kept ≡ true) × AreAllSaved b). behind (length (state a.device).told) (length (state b.device).told)
+      (length (state c.device).told) (length a.memory.usage.segments) (length b.memory.usage.segments) same first (passes all.0 all.1))
       more)
       once
     where

@@ -1,6 +1,7 @@
 -- What is put into a draft: the log map after it, and that a log map that may be changed by the draft may be changed so.
 use Rattle.std.specs.List.{AllByRecursion}
-use Rattle.std.proofs.Common.{◌≡◌, ◌≢◌, ⊎_elim, ◌+◌, ◌==◌, cond, ℕ, zero, suc, false, List, [], ◌∷◌, ◌++◌, take, drop, set, Some, refl, sym, ◌∙◌, ap, subst, length, arith}
+use Rattle.std.proofs.Common.{◌≡◌, ◌≢◌, ⊎_elim, ◌+◌, ◌==◌, cond, ℕ, zero, suc, false, List, [], ◌∷◌, ◌++◌, take, drop, set, Some, refl, sym}
+use Rattle.std.proofs.Common.{◌∙◌, ap, subst, length, arith}
 use Rattle.std.proofs.lemmas.Bool.{cases_eq}
 use Rattle.std.proofs.lemmas.List.{length-append, length-set, set_split}
 use Rattle.lfs_model.specs.Encodes.{HasInode}
@@ -43,8 +44,11 @@ AgreeBut n m m' = (k : ℕ) → k ≢ n → m'.header k ≡ m.header k
 
 fit_through : (es : List HeaderEdit) (m m' : LogMap) (n : ℕ) → NoHeader n es → AgreeBut n m m' → AreHeadersFit m es → AreHeadersFit m' es
 fit_through [] m m' n none agree fit = tt
-fit_through (e ∷ es) m m' n none agree fit =
-    (fits_same m m' e (agree e.number none.0) fit.0, fit_through es (after_header e m) (after_header e m') n none.1 (λ k ne. ap (cond (k == e.number) (Some (as_header e.header))) (agree k ne)) fit.1)
+fit_through (e ∷ es) m m' n none agree fit = (
+  fits_same m m' e (agree e.number none.0) fit.0,
+  fit_through es (after_header e m) (after_header e m') n none.1
+      (λ k ne. ap (cond (k == e.number) (Some (as_header e.header))) (agree k ne)) fit.1,
+)
 
 fit_split : (xs ys : List HeaderEdit) (m : LogMap) → AreHeadersFit m (xs ++ ys) → AreHeadersFit m xs × AreHeadersFit (after_headers xs m) ys
 fit_split [] ys m fit = (tt, fit)
@@ -58,13 +62,16 @@ fit_join (e ∷ xs) ys m first second = (first.0, fit_join xs ys (after_header e
 abbrev Renames : LogMap → HeaderEdit → Type 0
 Renames m e = HasInode m e.number → (e.header.links == 0) ≡ is_nameless m e.number
 
-fit_more : (es : List HeaderEdit) (e : HeaderEdit) (m : LogMap) → AreHeadersFit m es → FitsHeader e.header.kind e.header.form e.header.links e.header.size → Renames (after_headers es m) e → AreHeadersFit m (es ++ e ∷ [])
+fit_more : (es : List HeaderEdit) (e : HeaderEdit) (m : LogMap) → AreHeadersFit m es
+    → FitsHeader e.header.kind e.header.form e.header.links e.header.size → Renames (after_headers es m) e → AreHeadersFit m (es ++ e ∷ [])
 fit_more es e m fit header name = fit_join es (e ∷ []) m fit (record { header = header; name = name }, tt)
 
-fit_set : (es : List HeaderEdit) (p : ℕ) (e : HeaderEdit) (m : LogMap) → LastHeader es e.number p → AreHeadersFit m es → FitsHeader e.header.kind e.header.form e.header.links e.header.size → Renames (after_headers es m) e
+fit_set : (es : List HeaderEdit) (p : ℕ) (e : HeaderEdit) (m : LogMap) → LastHeader es e.number p → AreHeadersFit m es
+    → FitsHeader e.header.kind e.header.form e.header.links e.header.size → Renames (after_headers es m) e
     → AreHeadersFit m (set es p e)
 fit_set es p e m is fit header name =
-    subst (AreHeadersFit m) (sym placed) (fit_join (take p es) (e ∷ drop (p + 1) es) m parts.0 (record { header = header; name = own_name }, behind))
+    subst (AreHeadersFit m) (sym placed)
+    (fit_join (take p es) (e ∷ drop (p + 1) es) m parts.0 (record { header = header; name = own_name }, behind))
   where
     placed : set es p e ≡ take p es ++ e ∷ drop (p + 1) es
     placed = let next : suc p ≡ p + 1 = omega arith in set_split es p e is.inside ∙ ap (λ (k : ℕ). take p es ++ e ∷ drop k es) next
@@ -79,7 +86,8 @@ fit_set es p e m is fit header name =
     own_name has =
         let old = parts.1.0.name (has.0, ap (after_headers (take p es) m).header is.number ∙ has.1) in
         let says = last_says es e.number p is m in
-        name (as_header is.edit.header, says) ∙ ap is_unlinked says ∙ old ∙ ap (λ (k : ℕ). is_nameless (after_headers (take p es) m) k) is.number
+        name (as_header is.edit.header, says) ∙ ap is_unlinked says ∙ old
+        ∙ ap (λ (k : ℕ). is_nameless (after_headers (take p es) m) k) is.number
 
     agree : AgreeBut e.number (after_header is.edit (after_headers (take p es) m)) (after_header e (after_headers (take p es) m))
     agree k ne =
@@ -97,20 +105,24 @@ there_still m n k h has = ⊎_elim
     (λ (ne : k ≡ n → ⊥). (has.0, (is_with_header m n (Some h)).others k ne ∙ has.1))
     (cases_eq k n)
 
-blocks_still : (bs : List BlockEdit) (m : LogMap) (n : ℕ) (h : entry.Header) → AreBlocksFit m bs → AreBlocksFit (with_header m n (Some h)) bs
+blocks_still : (bs : List BlockEdit) (m : LogMap) (n : ℕ) (h : entry.Header) → AreBlocksFit m bs
+    → AreBlocksFit (with_header m n (Some h)) bs
 blocks_still [] m n h fit = tt
 blocks_still (e ∷ bs) m n h fit = (there_still m n e.number h fit.0, blocks_still bs m n h fit.1)
 
 -- ---- a header is put into a draft
-module _ (old new : Changes) (m : LogMap) (e : HeaderEdit) (loss : new.loss ≡ old.loss) (blocks : new.blocks ≡ old.blocks) (fit : FitsBatch m old) (takes : TakesHeader old m e.number e.header)
-    (after : after_headers new.headers.items (lost old.loss m) ≡ with_header (after_headers old.headers.items (lost old.loss m)) e.number (Some (as_header e.header))) where
+module _ (old new : Changes) (m : LogMap) (e : HeaderEdit) (loss : new.loss ≡ old.loss) (blocks : new.blocks ≡ old.blocks)
+    (fit : FitsBatch m old) (takes : TakesHeader old m e.number e.header)
+    (after : after_headers new.headers.items (lost old.loss m)
+    ≡ with_header (after_headers old.headers.items (lost old.loss m)) e.number (Some (as_header e.header))) where
   before_blocks : (staged old m).header e.number ≡ (after_headers old.headers.items (lost old.loss m)).header e.number
   before_blocks = header_kept old.blocks.items (after_headers old.headers.items (lost old.loss m)) e.number
 
   renames : Renames (after_headers old.headers.items (lost old.loss m)) e
   renames has = takes.name (has.0, before_blocks ∙ has.1) ∙ ap is_unlinked before_blocks
 
-  with_headers : AreHeadersFit (lost old.loss m) new.headers.items → AllByRecursion (λ (e : HeaderEdit). is_lost old.loss (Inode e.number) ≡ false) new.headers.items → FitsBatch m new
+  with_headers : AreHeadersFit (lost old.loss m) new.headers.items
+      → AllByRecursion (λ (e : HeaderEdit). is_lost old.loss (Inode e.number) ≡ false) new.headers.items → FitsBatch m new
   with_headers headers apart =
       subst (λ (x : Loss). FitEdits m x new.headers.items new.blocks.items) (sym loss)
       (subst (λ (bs : List BlockEdit). FitEdits m old.loss new.headers.items bs) (sym (ap (λ v. v.items) blocks))
@@ -119,24 +131,30 @@ module _ (old new : Changes) (m : LogMap) (e : HeaderEdit) (loss : new.loss ≡ 
         headers_apart = apart;
         blocks_apart = fit.blocks_apart;
         fit_headers = headers;
-        fit_blocks = subst (λ (w : LogMap). AreBlocksFit w old.blocks.items) (sym after) (blocks_still old.blocks.items (after_headers old.headers.items (lost old.loss m)) e.number (as_header e.header) fit.fit_blocks);
+        fit_blocks = subst (λ (w : LogMap). AreBlocksFit w old.blocks.items) (sym after) (blocks_still old.blocks.items
+            (after_headers old.headers.items (lost old.loss m)) e.number (as_header e.header) fit.fit_blocks);
         within = fit.within;
       }))
 
   pub fits_set : (p : ℕ) → LastHeader old.headers.items e.number p → new.headers.items ≡ set old.headers.items p e → FitsBatch m new
   fits_set p is placed =
       with_headers
-      (subst (AreHeadersFit (lost old.loss m)) (sym placed) (fit_set old.headers.items p e (lost old.loss m) is fit.fit_headers takes.header renames))
-      (subst (AllByRecursion (λ (e : HeaderEdit). is_lost old.loss (Inode e.number) ≡ false)) (sym placed) (all_set _ old.headers.items p e fit.headers_apart takes.apart))
+      (subst (AreHeadersFit (lost old.loss m)) (sym placed)
+      (fit_set old.headers.items p e (lost old.loss m) is fit.fit_headers takes.header renames))
+      (subst (AllByRecursion (λ (e : HeaderEdit). is_lost old.loss (Inode e.number) ≡ false)) (sym placed)
+      (all_set _ old.headers.items p e fit.headers_apart takes.apart))
 
   pub fits_more : new.headers.items ≡ old.headers.items ++ e ∷ [] → FitsBatch m new
   fits_more placed =
       with_headers
-      (subst (AreHeadersFit (lost old.loss m)) (sym placed) (fit_more old.headers.items e (lost old.loss m) fit.fit_headers takes.header renames))
-      (subst (AllByRecursion (λ (e : HeaderEdit). is_lost old.loss (Inode e.number) ≡ false)) (sym placed) (all_more _ old.headers.items e fit.headers_apart takes.apart))
+      (subst (AreHeadersFit (lost old.loss m)) (sym placed)
+      (fit_more old.headers.items e (lost old.loss m) fit.fit_headers takes.header renames))
+      (subst (AllByRecursion (λ (e : HeaderEdit). is_lost old.loss (Inode e.number) ≡ false)) (sym placed)
+      (all_more _ old.headers.items e fit.headers_apart takes.apart))
 
 -- ---- a block is
-module _ (old new : Changes) (m : LogMap) (e : BlockEdit) (loss : new.loss ≡ old.loss) (headers : new.headers ≡ old.headers) (fit : FitsBatch m old) (takes : TakesBlock old m e.number e.index) where
+module _ (old new : Changes) (m : LogMap) (e : BlockEdit) (loss : new.loss ≡ old.loss) (headers : new.headers ≡ old.headers)
+    (fit : FitsBatch m old) (takes : TakesBlock old m e.number e.index) where
   there : HasInode (after_headers old.headers.items (lost old.loss m)) e.number
   there = (takes.there.0, sym (header_kept old.blocks.items (after_headers old.headers.items (lost old.loss m)) e.number) ∙ takes.there.1)
 
@@ -162,9 +180,11 @@ module _ (old new : Changes) (m : LogMap) (e : BlockEdit) (loss : new.loss ≡ o
 -- ---- the whole of it, where an edit takes the place of another, or comes behind the others
 module _ (old new : Changes) (e : HeaderEdit) (loss : new.loss ≡ old.loss) (blocks : new.blocks ≡ old.blocks) where
   abbrev Follows : Type 0
-  Follows = (m : LogMap) → after_headers new.headers.items m ≡ with_header (after_headers old.headers.items m) e.number (Some (as_header e.header))
+  Follows = (m : LogMap)
+      → after_headers new.headers.items m ≡ with_header (after_headers old.headers.items m) e.number (Some (as_header e.header))
 
-  put_set : (p : ℕ) → LastHeader old.headers.items e.number p → new.headers.items ≡ set old.headers.items p e → PutsHeader old new e.number e.header
+  put_set : (p : ℕ) → LastHeader old.headers.items e.number p → new.headers.items ≡ set old.headers.items p e
+      → PutsHeader old new e.number e.header
   put_set p is placed = record {
     map = put_into old new e.number (as_header e.header) follows blocks loss;
     fits = λ m fit takes. fits_set old new m e loss blocks fit takes (follows (lost old.loss m)) p is placed;
@@ -188,20 +208,26 @@ module _ (old new : Changes) (e : HeaderEdit) (loss : new.loss ≡ old.loss) (bl
       follows : Follows
       follows m = ap (λ (es : List HeaderEdit). after_headers es m) placed ∙ after_more old.headers.items (e ∷ []) m
 
-pub header_replaced : (old new : Changes) (n p : ℕ) (e : HeaderEdit) → LastHeader old.headers.items n p → e.number ≡ n → new.headers.items ≡ set old.headers.items p e → new.blocks ≡ old.blocks → new.loss ≡ old.loss
+pub header_replaced : (old new : Changes) (n p : ℕ) (e : HeaderEdit) → LastHeader old.headers.items n p → e.number ≡ n
+    → new.headers.items ≡ set old.headers.items p e → new.blocks ≡ old.blocks → new.loss ≡ old.loss
     → PutsHeader old new n e.header
 header_replaced old new n p e is own placed blocks loss =
-    subst (λ (k : ℕ). PutsHeader old new k e.header) own (put_set old new e loss blocks p (subst (λ (k : ℕ). LastHeader old.headers.items k p) (sym own) is) placed)
+    subst (λ (k : ℕ). PutsHeader old new k e.header) own
+    (put_set old new e loss blocks p (subst (λ (k : ℕ). LastHeader old.headers.items k p) (sym own) is) placed)
 
-pub header_appended : (old new : Changes) (n : ℕ) (h : Header) → batch.AddsHeaderEdit old new n h → new.blocks ≡ old.blocks → new.loss ≡ old.loss → PutsHeader old new n h
+pub header_appended : (old new : Changes) (n : ℕ) (h : Header) → batch.AddsHeaderEdit old new n h → new.blocks ≡ old.blocks
+    → new.loss ≡ old.loss → PutsHeader old new n h
 header_appended old new n h put blocks loss =
-    subst (PutsHeader old new n) put.says (subst (λ (k : ℕ). PutsHeader old new k put.edit.header) put.number (put_more old new put.edit loss blocks put.headers))
+    subst (PutsHeader old new n) put.says
+    (subst (λ (k : ℕ). PutsHeader old new k put.edit.header) put.number (put_more old new put.edit loss blocks put.headers))
 
 module _ (old new : Changes) (e : BlockEdit) (loss : new.loss ≡ old.loss) (headers : new.headers ≡ old.headers) where
   abbrev FollowsBlock : Type 0
-  FollowsBlock = (m : LogMap) → after_blocks new.blocks.items m ≡ with_block (after_blocks old.blocks.items m) e.number e.index (stored e.bytes)
+  FollowsBlock = (m : LogMap)
+      → after_blocks new.blocks.items m ≡ with_block (after_blocks old.blocks.items m) e.number e.index (stored e.bytes)
 
-  put_block_set : (p : ℕ) → LastBlock old.blocks.items e.number e.index p → new.blocks.items ≡ set old.blocks.items p e → PutsBlock old new e.number e.index e.bytes
+  put_block_set : (p : ℕ) → LastBlock old.blocks.items e.number e.index p → new.blocks.items ≡ set old.blocks.items p e
+      → PutsBlock old new e.number e.index e.bytes
   put_block_set p is placed = record {
     map = drafted.put_into old new e.number e.index (stored e.bytes) follows headers loss;
     fits = λ m fit takes. fits_block_set old new m e loss headers fit takes p placed;
@@ -211,7 +237,8 @@ module _ (old new : Changes) (e : BlockEdit) (loss : new.loss ≡ old.loss) (hea
   }
     where
       follows : FollowsBlock
-      follows m = ap (λ (es : List BlockEdit). after_blocks es m) placed ∙ drafted.edit_replaced old.blocks.items e.number e.index p is e m (refl, refl)
+      follows m = ap (λ (es : List BlockEdit). after_blocks es m) placed
+          ∙ drafted.edit_replaced old.blocks.items e.number e.index p is e m (refl, refl)
 
   put_block_more : new.blocks.items ≡ old.blocks.items ++ e ∷ [] → PutsBlock old new e.number e.index e.bytes
   put_block_more placed = record {
@@ -225,16 +252,20 @@ module _ (old new : Changes) (e : BlockEdit) (loss : new.loss ≡ old.loss) (hea
       follows : FollowsBlock
       follows m = ap (λ (es : List BlockEdit). after_blocks es m) placed ∙ drafted.after_more old.blocks.items (e ∷ []) m
 
-pub block_replaced : (old new : Changes) (n i p : ℕ) (e : BlockEdit) → LastBlock old.blocks.items n i p → IsBlock n i e → new.blocks.items ≡ set old.blocks.items p e → new.headers ≡ old.headers → new.loss ≡ old.loss
+pub block_replaced : (old new : Changes) (n i p : ℕ) (e : BlockEdit) → LastBlock old.blocks.items n i p → IsBlock n i e
+    → new.blocks.items ≡ set old.blocks.items p e → new.headers ≡ old.headers → new.loss ≡ old.loss
     → PutsBlock old new n i e.bytes
 block_replaced old new n i p e is own placed headers loss =
     subst (λ (l : ℕ). PutsBlock old new n l e.bytes) own.1
     (subst (λ (k : ℕ). PutsBlock old new k e.index e.bytes) own.0
     (put_block_set old new e loss headers p
-    (subst (λ (l : ℕ). LastBlock old.blocks.items e.number l p) (sym own.1) (subst (λ (k : ℕ). LastBlock old.blocks.items k i p) (sym own.0) is)) placed))
+    (subst (λ (l : ℕ). LastBlock old.blocks.items e.number l p) (sym own.1)
+    (subst (λ (k : ℕ). LastBlock old.blocks.items k i p) (sym own.0) is)) placed))
 
-pub block_appended : (old new : Changes) (n i : ℕ) (bytes : List ℕ) → batch.AddsBlockEdit old new n i bytes → new.headers ≡ old.headers → new.loss ≡ old.loss → PutsBlock old new n i bytes
+pub block_appended : (old new : Changes) (n i : ℕ) (bytes : List ℕ) → batch.AddsBlockEdit old new n i bytes → new.headers ≡ old.headers
+    → new.loss ≡ old.loss → PutsBlock old new n i bytes
 block_appended old new n i bytes put headers loss =
     subst (PutsBlock old new n i) put.says
     (subst (λ (l : ℕ). PutsBlock old new n l put.edit.bytes) put.index
-    (subst (λ (k : ℕ). PutsBlock old new k put.edit.index put.edit.bytes) put.number (put_block_more old new put.edit loss headers put.blocks)))
+    (subst (λ (k : ℕ). PutsBlock old new k put.edit.index put.edit.bytes) put.number
+    (put_block_more old new put.edit loss headers put.blocks)))

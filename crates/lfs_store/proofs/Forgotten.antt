@@ -1,5 +1,6 @@
 -- A file without a name goes: what a commit would save stays.
-use Rattle.std.proofs.Common.{◌≡◌, ◌==◌, nat_lt, cond, ℕ, Bool, true, false, List, [], length, Option, Some, None, refl, sym, ◌∙◌, ap, ap₂, arith}
+use Rattle.std.proofs.Common.{◌≡◌, ◌==◌, nat_lt, cond, ℕ, Bool, true, false, List, [], length, Option, Some, None, refl, sym, ◌∙◌, ap, ap₂}
+use Rattle.std.proofs.Common.{arith}
 use Rattle.std.proofs.Math.Path.{fun_ext}
 use Rattle.std.proofs.lemmas.Bool.{cond-false, eqb-true, le-ltb}
 use Rattle.lfs_model.specs.Device.{DeviceState}
@@ -19,7 +20,8 @@ not_kept (Some h) some none off =
     cond-false (nat_lt 0 h.links) some none (le-ltb 0 h.links (omega (arith, links)))
 
 -- with a file gone that isn't kept, what is kept is the same
-kept_same : {X : Type 0} (b : Bool) (o : Option Header) (x none : X) → (b ≡ true → is_unlinked o ≡ true) → kept (cond b None o) (cond b none x) none ≡ kept o x none
+kept_same : {X : Type 0} (b : Bool) (o : Option Header) (x none : X) → (b ≡ true → is_unlinked o ≡ true)
+    → kept (cond b None o) (cond b none x) none ≡ kept o x none
 kept_same true o x none off = sym (not_kept o x none (off refl))
 kept_same false o x none off = refl
 
@@ -32,7 +34,8 @@ same_dropped m n off =
     gone : (k : ℕ) → (k == n) ≡ true → is_unlinked (m.header k) ≡ true
     gone k here = ap (λ (l : ℕ). is_unlinked (m.header l)) (eqb-true k n here) ∙ off
 
-pub forgets : {D : Type 0} (state : D → DeviceState) (h h' : Held D) (saved : Bool) (n : ℕ) → IsRemoved state h h' n → Forgets state h saved h' n
+pub forgets : {D : Type 0} (state : D → DeviceState) (h h' : Held D) (saved : Bool) (n : ℕ) → IsRemoved state h h' n
+    → Forgets state h saved h' n
 forgets state h h' saved n gone k m0 m keeps is off = record {
   holds = gone.holds k m0 m keeps is.holds;
   nothing_new = λ on. is.nothing_new on ∙ sym (same_dropped m n off);

@@ -11,17 +11,11 @@ use Rattle.lfs_store.proofs.Measured.{same_leaf}
 use Rattle.lfs_store.proofs.Pointers.{empty, leaves_none, leaves_same, leaves_split}
 
 -- ---- those beside
-pub beside_split : (m : LogMap) (n from to : ℕ) → from ≤ to → to ≤ 16624 → leaves_in m n 0 129 ≡ leaves_in m n (leaf_from from) (leaf_to to) + leaves_beside m n from to
+pub beside_split : (m : LogMap) (n from to : ℕ) → from ≤ to → to ≤ 16624
+    → leaves_in m n 0 129 ≡ leaves_in m n (leaf_from from) (leaf_to to) + leaves_beside m n from to
 beside_split m n from to order low =
     let first = leaves_split m n 0 (leaf_from from) 129 (omega arith) (omega (arith, order, low)) in
     let next = leaves_split m n (leaf_from from) (leaf_to to) 129 (omega (arith, order)) (omega (arith, low)) in
-    omega (arith, first, next)
-
--- none is beside all
-pub beside_all : (m : LogMap) (n : ℕ) → leaves_beside m n 0 16624 ≡ 0
-beside_all m n =
-    let first = leaves_none m n 0 (leaf_from 0) (λ q le lt. absurd (omega (arith, lt))) in
-    let next = leaves_none m n (leaf_to 16624) 129 (λ q le lt. absurd (omega (arith, le, lt))) in
     omega (arith, first, next)
 
 -- a file without blocks has no leaf
@@ -39,10 +33,13 @@ beside_none m n none from to =
     omega (arith, first, next)
 
 -- where only blocks of a range change, those beside it are as they were
-pub beside_same : (m m' : LogMap) (n from to : ℕ) → ((i : ℕ) → (i < from) ⊎ (to ≤ i) → m'.block n i ≡ m.block n i) → leaves_beside m' n from to ≡ leaves_beside m n from to
+pub beside_same : (m m' : LogMap) (n from to : ℕ) → ((i : ℕ) → (i < from) ⊎ (to ≤ i) → m'.block n i ≡ m.block n i)
+    → leaves_beside m' n from to ≡ leaves_beside m n from to
 beside_same m m' n from to same =
-    let first = leaves_same m m' n 0 (leaf_from from) (λ q le lt. same_leaf m m' n q (λ i inside. (let high = inside.1 in same i (inl (omega (arith, high, lt)))))) in
-    let next = leaves_same m m' n (leaf_to to) 129 (λ q le lt. same_leaf m m' n q (λ i inside. (let low = inside.0 in same i (inr (omega (arith, low, le)))))) in
+    let first = leaves_same m m' n 0 (leaf_from from)
+    (λ q le lt. same_leaf m m' n q (λ i inside. (let high = inside.1 in same i (inl (omega (arith, high, lt)))))) in
+    let next = leaves_same m m' n (leaf_to to) 129
+    (λ q le lt. same_leaf m m' n q (λ i inside. (let low = inside.0 in same i (inr (omega (arith, low, le)))))) in
     omega (arith, first, next)
 
 -- ---- those within, up to the end of the file

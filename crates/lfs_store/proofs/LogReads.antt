@@ -15,14 +15,16 @@ module _ {D : Type 0} (state : D → DeviceState) where
   pub held_still : (a b : Held D) (k : CheckpointValue) (m0 m : LogMap) → Reads state a b → Holds state a k m0 m → Holds state b k m0 m
   held_still a b k m0 m reads is = record {
     log = subst (λ (v : LogMemory). IsLog (state b.device) v k m0 m) (sym reads.memory)
-        (let s = still_log (state a.device) (state b.device) a.memory k m0 m reads.looks (loose (state a.device) a.memory k m0 m is.log) in tight_again (state b.device) a.memory k m0 m s is.log.tight);
+        (let s = still_log (state a.device) (state b.device) a.memory k m0 m reads.looks (loose (state a.device) a.memory k m0 m is.log) in
+        tight_again (state b.device) a.memory k m0 m s is.log.tight);
     number = is.number ∙ sym reads.number;
     version = is.version ∙ sym reads.version;
     running = reads.halted ∙ is.running;
   }
 
   -- a store over a log that was only read
-  pub stores_still : (a b : Held D) (saved : Bool) (k : CheckpointValue) (m0 m : LogMap) → Reads state a b → Stores state a saved k m0 m → Stores state b saved k m0 m
+  pub stores_still : (a b : Held D) (saved : Bool) (k : CheckpointValue) (m0 m : LogMap) → Reads state a b → Stores state a saved k m0 m
+      → Stores state b saved k m0 m
   stores_still a b saved k m0 m reads is = record {
     holds = held_still a b k m0 m reads is.holds;
     nothing_new = is.nothing_new;
@@ -30,7 +32,15 @@ module _ {D : Type 0} (state : D → DeviceState) where
   }
 
   pub reads_none : (a : Held D) → Reads state a a
-  reads_none a = record { looks = looks_none (state a.device); memory = refl; number = refl; version = refl; upgraded = refl; halted = refl; totals = refl }
+  reads_none a = record {
+    looks = looks_none (state a.device);
+    memory = refl;
+    number = refl;
+    version = refl;
+    upgraded = refl;
+    halted = refl;
+    totals = refl;
+  }
 
   pub reads_more : (a b c : Held D) → IsLawful (state a.device) → Reads state a b → Reads state b c → Reads state a c
   reads_more a b c lawful one two = record {

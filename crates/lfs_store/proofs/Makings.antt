@@ -1,6 +1,7 @@
 -- What a draft makes of a log map with files made, relinked and removed.
 use Rattle.std.specs.Prelude.{slice_index}
-use Rattle.std.proofs.Common.{◌≡◌, ◌<◌, ◌≤◌, ◌/◌, ◌%◌, ◌==◌, ⊎_elim, ℕ, List, [], ◌∷◌, length, Option, Some, None, refl, sym, ◌∙◌, ap, subst, arith}
+use Rattle.std.proofs.Common.{◌≡◌, ◌<◌, ◌≤◌, ◌/◌, ◌%◌, ◌==◌, ⊎_elim, ℕ, List, [], ◌∷◌, length, Option, Some, None, refl, sym, ◌∙◌, ap}
+use Rattle.std.proofs.Common.{subst, arith}
 use Rattle.std.proofs.lemmas.Bool.{cases_eq, cond-true, cond-false, eq-eqb, ne_eqb}
 use Rattle.lfs_model.specs.declared.Kind.{Kind}
 use Rattle.lfs_model.specs.Encodes.{IsLogMap, HasData}
@@ -44,7 +45,8 @@ none_stored m n i is none = by (m.block n i) refl
 pub changed_header : (m : LogMap) (n : ℕ) (h : Option entry.Header) → IsChangedAt m n (with_header m n h)
 changed_header m n h = record { headers = λ k ne. (is_with_header m n h).others k ne; blocks = λ k i ne. refl; version = refl }
 
-made_object : (m : LogMap) (n : ℕ) (h : entry.Header) → IsLogMap m → m.header n ≡ None → 1 ≤ n → h.size ≤ 8511488 → IsForm m.version h.kind h.form → IsObject (with_header m n (Some h)) n h
+made_object : (m : LogMap) (n : ℕ) (h : entry.Header) → IsLogMap m → m.header n ≡ None → 1 ≤ n → h.size ≤ 8511488
+    → IsForm m.version h.kind h.form → IsObject (with_header m n (Some h)) n h
 made_object m n h is none some few form = record {
   number = some;
   root = λ e. (let root = is.root in let never : Some root.0 ≡ None = sym root.1 ∙ ap m.header (sym e) ∙ none in absurd (cc));
@@ -60,8 +62,10 @@ made_object m n h is none some few form = record {
     nothing : (i : ℕ) → HasData m n i → ⊥
     nothing i has = let e = ap length (none_stored m n i is none) in omega (arith, has, e)
 
-made_map : (m : LogMap) (n : ℕ) (h : entry.Header) → IsLogMap m → m.header n ≡ None → 1 ≤ n → h.size ≤ 8511488 → IsForm m.version h.kind h.form → IsLogMap (with_header m n (Some h))
-made_map m n h is none some few form = object_kept m (with_header m n (Some h)) n h is (changed_header m n (Some h)) (is_with_header m n (Some h)).own (made_object m n h is none some few form)
+made_map : (m : LogMap) (n : ℕ) (h : entry.Header) → IsLogMap m → m.header n ≡ None → 1 ≤ n → h.size ≤ 8511488
+    → IsForm m.version h.kind h.form → IsLogMap (with_header m n (Some h))
+made_map m n h is none some few form = object_kept m (with_header m n (Some h)) n h is (changed_header m n (Some h))
+    (is_with_header m n (Some h)).own (made_object m n h is none some few form)
 
 pub makes : (c c' : Changes) (n : ℕ) (h : Header) → 1 ≤ n → h.size ≤ 8511488 → PutsHeader c c' n h → Makes c c' n h
 makes c c' n h some few puts = record {
@@ -80,27 +84,41 @@ makes c c' n h some few puts = record {
 -- ---- its links
 
 -- a header of the same kind, form and size
-module _ (m : LogMap) (n : ℕ) (h h' : entry.Header) (is : IsLogMap m) (there : m.header n ≡ Some h) (kind : h'.kind ≡ h.kind) (form : h'.form ≡ h.form) (size : h'.size ≡ h.size) where
+module _ (m : LogMap) (n : ℕ) (h h' : entry.Header) (is : IsLogMap m) (there : m.header n ≡ Some h) (kind : h'.kind ≡ h.kind)
+    (form : h'.form ≡ h.form) (size : h'.size ≡ h.size) where
   abbrev over : LogMap
   over = with_header m n (Some h')
 
   -- what is there has the kind and the size that it had
-  was_there : (k : ℕ) (g : entry.Header) → (with_header m n (Some h')).header k ≡ Some g → (f : entry.Header) × (m.header k ≡ Some f) × (g.kind ≡ f.kind) × (g.size ≡ f.size)
+  was_there : (k : ℕ) (g : entry.Header) → (with_header m n (Some h')).header k ≡ Some g
+      → (f : entry.Header) × (m.header k ≡ Some f) × (g.kind ≡ f.kind) × (g.size ≡ f.size)
   was_there k g at = ⊎_elim
       (λ (here : k ≡ n).
-      let own : (with_header m n (Some h')).header k ≡ Some h' = ap (with_header m n (Some h')).header here ∙ (is_with_header m n (Some h')).own in
+      let own : (with_header m n (Some h')).header k ≡ Some h' = ap (with_header m n (Some h')).header here
+      ∙ (is_with_header m n (Some h')).own in
       let both : Some h' ≡ Some g = sym own ∙ at in
-      let same : h' ≡ g = cc in
-      (h, ap m.header here ∙ there, ap (λ (x : entry.Header). x.kind) (sym same) ∙ kind, ap (λ (x : entry.Header). x.size) (sym same) ∙ size))
+      let same : h' ≡ g = cc in (
+        h,
+        ap m.header here ∙ there,
+        ap (λ (x : entry.Header). x.kind) (sym same) ∙ kind,
+        ap (λ (x : entry.Header). x.size) (sym same)
+            ∙ size,
+      ))
       (λ (ne : k ≡ n → ⊥). (g, sym ((is_with_header m n (Some h')).others k ne) ∙ at, refl, refl))
       (cases_eq k n)
 
-  now_there : (k : ℕ) (f : entry.Header) → m.header k ≡ Some f → (g : entry.Header) × ((with_header m n (Some h')).header k ≡ Some g) × (g.kind ≡ f.kind) × (g.size ≡ f.size)
+  now_there : (k : ℕ) (f : entry.Header) → m.header k ≡ Some f → (g : entry.Header) × ((with_header m n (Some h')).header k ≡ Some g)
+      × (g.kind ≡ f.kind) × (g.size ≡ f.size)
   now_there k f at = ⊎_elim
       (λ (here : k ≡ n).
       let both : Some h ≡ Some f = sym there ∙ sym (ap m.header here) ∙ at in
-      let same : h ≡ f = cc in
-      (h', ap (with_header m n (Some h')).header here ∙ (is_with_header m n (Some h')).own, kind ∙ ap (λ (x : entry.Header). x.kind) same, size ∙ ap (λ (x : entry.Header). x.size) same))
+      let same : h ≡ f = cc in (
+        h',
+        ap (with_header m n (Some h')).header here ∙ (is_with_header m n (Some h')).own,
+        kind
+            ∙ ap (λ (x : entry.Header). x.kind) same,
+        size ∙ ap (λ (x : entry.Header). x.size) same,
+      ))
       (λ (ne : k ≡ n → ⊥). (f, (is_with_header m n (Some h')).others k ne ∙ at, refl, refl))
       (cases_eq k n)
 
@@ -116,11 +134,13 @@ module _ (m : LogMap) (n : ℕ) (h h' : entry.Header) (is : IsLogMap m) (there :
         (now.0, now.1, omega (arith, same, low)));
     forms = λ k g at. ⊎_elim
         (λ (here : k ≡ n).
-        let own : (with_header m n (Some h')).header k ≡ Some h' = ap (with_header m n (Some h')).header here ∙ (is_with_header m n (Some h')).own in
+        let own : (with_header m n (Some h')).header k ≡ Some h' = ap (with_header m n (Some h')).header here
+        ∙ (is_with_header m n (Some h')).own in
         let both : Some h' ≡ Some g = sym own ∙ at in
         let same : h' ≡ g = cc in
         subst (λ (x : entry.Header). IsForm m.version x.kind x.form) same
-        (subst (λ (f : ℕ). IsForm m.version h'.kind f) (sym form) (subst (λ (t : Kind). IsForm m.version t h.form) (sym kind) (is.forms n h there))))
+        (subst (λ (f : ℕ). IsForm m.version h'.kind f) (sym form)
+        (subst (λ (t : Kind). IsForm m.version t h.form) (sym kind) (is.forms n h there))))
         (λ (ne : k ≡ n → ⊥). is.forms k g (sym ((is_with_header m n (Some h')).others k ne) ∙ at))
         (cases_eq k n);
     small = is.small;
@@ -128,11 +148,14 @@ module _ (m : LogMap) (n : ℕ) (h h' : entry.Header) (is : IsLogMap m) (there :
     past = λ k i o g at le. (let was = was_there k g at in let same = was.3 in is.past k i o was.0 was.1 (omega (arith, same, le)));
   }
 
-pub relinks : (c c' : Changes) (n : ℕ) (h : Header) (links : ℕ) → 1 ≤ links → PutsHeader c c' n (relinked h links) → SetsLinks c c' n h links
+pub relinks : (c c' : Changes) (n : ℕ) (h : Header) (links : ℕ) → 1 ≤ links → PutsHeader c c' n (relinked h links)
+    → SetsLinks c c' n h links
 relinks c c' n h links some puts = record {
   map = puts.map;
-  fits = λ m fit there linked apart fits. puts.fits m fit (takes_header c m n h (relinked h links) there (both_linked links h.links some linked) apart fits);
-  keeps = λ m is there. subst IsLogMap (sym (puts.map m)) (headed_map (staged c m) n (as_header h) (as_header (relinked h links)) is there refl refl refl);
+  fits = λ m fit there linked apart fits.
+      puts.fits m fit (takes_header c m n h (relinked h links) there (both_linked links h.links some linked) apart fits);
+  keeps = λ m is there.
+      subst IsLogMap (sym (puts.map m)) (headed_map (staged c m) n (as_header h) (as_header (relinked h links)) is there refl refl refl);
   few = puts.few;
   blocks = ap (λ v. v.items) puts.blocks;
   loss = λ _. puts.loss;
@@ -142,16 +165,19 @@ relinks c c' n h links some puts = record {
     both_linked : (a b : ℕ) → 1 ≤ a → 0 < b → (a == 0) ≡ (b == 0)
     both_linked a b some linked = ne_eqb a 0 (λ e. omega (arith, e, some)) ∙ sym (ne_eqb b 0 (λ e. omega (arith, e, linked)))
 
-pub loses_link : (c c' : Changes) (n : ℕ) (h : Header) (l : LastLink) → l.number ≡ n → l.kind ≡ h.kind → l.form ≡ h.form → l.size ≡ h.size → IsNoChange c → c'.headers ≡ c.headers → c'.blocks ≡ c.blocks → c'.loss ≡ Link l
+pub loses_link : (c c' : Changes) (n : ℕ) (h : Header) (l : LastLink) → l.number ≡ n → l.kind ≡ h.kind → l.form ≡ h.form → l.size ≡ h.size
+    → IsNoChange c → c'.headers ≡ c.headers → c'.blocks ≡ c.blocks → c'.loss ≡ Link l
     → LosesOnly c' (Link l) → SetsLinks c c' n h 0
 loses_link c c' n h l number kind form size none headers blocks lost only = record {
   map = map;
   fits = λ m fit there linked apart fits. only.fits m (
-    subst (λ (k : Kind). FitsHeader k l.form 0 l.size) (sym kind) (subst (λ (f : ℕ). FitsHeader h.kind f 0 l.size) (sym form) (subst (λ (s : ℕ). FitsHeader h.kind h.form 0 s) (sym size) fits)),
+    subst (λ (k : Kind). FitsHeader k l.form 0 l.size) (sym kind)
+        (subst (λ (f : ℕ). FitsHeader h.kind f 0 l.size) (sym form) (subst (λ (s : ℕ). FitsHeader h.kind h.form 0 s) (sym size) fits)),
     (as_header h, at m there),
     ap is_unlinked (at m there) ∙ ne_eqb h.links 0 (λ e. omega (arith, e, linked)),
   );
-  keeps = λ m is there. subst IsLogMap (sym (map m)) (headed_map (staged c m) n (as_header h) (as_header (relinked h 0)) is there refl refl refl);
+  keeps = λ m is there.
+      subst IsLogMap (sym (map m)) (headed_map (staged c m) n (as_header h) (as_header (relinked h 0)) is there refl refl refl);
   few = let same = ap length (ap (λ v. v.items) headers) in omega (arith, same);
   blocks = ap (λ v. v.items) blocks;
   loss = λ never. absurd (omega (arith, never));
@@ -185,11 +211,13 @@ without_changed m n = record {
   version = refl;
 }
 
-pub removes : (c c' : Changes) (n : ℕ) (r : Removal) → r.number ≡ n → IsNoChange c → c'.headers ≡ c.headers → c'.blocks ≡ c.blocks → c'.loss ≡ File r → LosesOnly c' (File r) → DraftsRemoval c' n
+pub removes : (c c' : Changes) (n : ℕ) (r : Removal) → r.number ≡ n → IsNoChange c → c'.headers ≡ c.headers → c'.blocks ≡ c.blocks
+    → c'.loss ≡ File r → LosesOnly c' (File r) → DraftsRemoval c' n
 removes c c' n r number none headers blocks lost only = record {
   map = map;
   fits = λ m. only.fits m tt;
-  keeps = λ m is other. subst IsLogMap (sym (map m)) (object_lost m (without_file n m) n is (without_changed m n) (without_header m n) (without_block m n) other);
+  keeps = λ m is other. subst IsLogMap (sym (map m))
+      (object_lost m (without_file n m) n is (without_changed m n) (without_header m n) (without_block m n) other);
   headers = ap (λ v. v.items) headers ∙ none.headers;
   blocks = ap (λ v. v.items) blocks ∙ none.blocks;
   apart = λ k ne. subst (λ (x : Loss). IsApart x k) (sym lost) (file_apart r k (λ e. ne (e ∙ number)));

@@ -1,6 +1,7 @@
 -- How many blocks a file has with a draft, from what the draft says and what the log tells.
 use Rattle.std.specs.Prelude.{min, Some, Result, Ok, Err, IfOk, IsTrue, ◌↔◌}
-use Rattle.std.proofs.Common.{◌≡◌, ◌<◌, ◌≤◌, ⊎_elim, ◌+◌, ◌-◌, ◌*◌, ℕ, Bool, true, false, not, List, [], ◌∷◌, length, nat_lt, refl, sym, ◌∙◌, ap, subst, arith}
+use Rattle.std.proofs.Common.{◌≡◌, ◌<◌, ◌≤◌, ⊎_elim, ◌+◌, ◌-◌, ◌*◌, ℕ, Bool, true, false, not, List, [], ◌∷◌, length, nat_lt, refl, sym}
+use Rattle.std.proofs.Common.{◌∙◌, ap, subst, arith}
 use mir.Val.{bool_byte}
 use Rattle.std.specs.List.{AllByRecursion}
 use Rattle.std.proofs.lemmas.Bool.{cases_eq, false_from_ne_true, lt-ltb, ltb-true}
@@ -20,7 +21,8 @@ use Rattle.lfs_cleaner.proofs.of_log.of_memory.LogMaps.{stored_none, stored_some
 use Rattle.lfs_cleaner.specs.log.Held as held
 use Rattle.lfs_cleaner.specs.log.Held.{Held, Holds, Reads}
 use Rattle.lfs_store.specs.Drafting.{NoBlock}
-use Rattle.lfs_store.specs.Measuring.{SaysStored, IsBetween, IsOff, KeepsBefore, LeavesBlocks, StoresLeaf, TellsStored, TellsLeaf, TellsDouble, CountsStored, CountsLeaves}
+use Rattle.lfs_store.specs.Measuring.{SaysStored, IsBetween, IsOff, KeepsBefore, LeavesBlocks, StoresLeaf, TellsStored, TellsLeaf}
+use Rattle.lfs_store.specs.Measuring.{TellsDouble, CountsStored, CountsLeaves}
 use Rattle.lfs_model.specs.Totals.{leaves_in, stored_in}
 use Rattle.lfs_store.proofs.DraftedBlocks.{says_no_block}
 use Rattle.lfs_store.proofs.LogReads.{held_still, reads_none, reads_more}
@@ -33,7 +35,8 @@ test_same : (a b : List ℕ) → a ≡ b → nat_lt 0 (length a) ≡ nat_lt 0 (l
 test_same a b same = ap (λ (x : List ℕ). nat_lt 0 (length x)) same
 
 -- bytes in a draft, of which it is known whether they are zeros
-pub says_test : (m : LogMap) (n i : ℕ) (bytes : List ℕ) (blank : Bool) → length bytes ≡ 512 → (IsTrue blank ↔ bytes ≡ zeros 512) → m.block n i ≡ stored bytes → is_stored m n i ≡ not blank
+pub says_test : (m : LogMap) (n i : ℕ) (bytes : List ℕ) (blank : Bool) → length bytes ≡ 512 → (IsTrue blank ↔ bytes ≡ zeros 512)
+    → m.block n i ≡ stored bytes → is_stored m n i ≡ not blank
 says_test m n i bytes true long test is = test_same (m.block n i) [] (is ∙ stored_none bytes 512 (test.0 refl))
 says_test m n i bytes false long test is =
     let same = ap (λ (x : List ℕ). length x) (is ∙ stored_some bytes 512 long (λ e. let bad : false ≡ true = test.1 e in absurd (cc))) in
@@ -43,29 +46,35 @@ says_test m n i bytes false long test is =
 module _ {D : Type 0} (state : D → DeviceState) (p : LogMap → ℕ → Bool) where
   -- a call told whether number i passes
   abbrev pub Tells : Held D → Held D → Changes → ℕ → Bool → Type 0
-  Tells h h' c i found = (k : CheckpointValue) (m0 m : LogMap) → (state h'.device).keeps_model → Holds state h k m0 m → p (staged c m) i ≡ found
+  Tells h h' c i found = (k : CheckpointValue) (m0 m : LogMap) → (state h'.device).keeps_model → Holds state h k m0 m
+      → p (staged c m) i ≡ found
 
   -- those from..index were counted
   pub record CountedUpTo (h h' : Held D) (c : Changes) (from index count : ℕ) : Type 0 where
     pub reads : Reads state h h'
     pub few : count + from ≤ index
-    pub far : (k : CheckpointValue) (m0 m : LogMap) → (state h'.device).keeps_model → Holds state h k m0 m → passing (p (staged c m)) from (index - from) ≡ count
+    pub far : (k : CheckpointValue) (m0 m : LogMap) → (state h'.device).keeps_model → Holds state h k m0 m
+        → passing (p (staged c m)) from (index - from) ≡ count
 
   pub counted_none : (h : Held D) (c : Changes) (from : ℕ) → CountedUpTo h h c from from 0
   counted_none h c from = record {
     reads = reads_none state h;
     few = omega arith;
-    far = λ k m0 m keeps is. (let none : from - from ≡ 0 = omega arith in ap (passing (p (staged c m)) from) none ∙ passing_none (p (staged c m)) from);
+    far = λ k m0 m keeps is.
+        (let none : from - from ≡ 0 = omega arith in ap (passing (p (staged c m)) from) none ∙ passing_none (p (staged c m)) from);
   }
 
-  module _ (h a b : Held D) (c : Changes) (from index count : ℕ) (lawful : IsLawful (state h.device)) (was : CountedUpTo h a c from index count) (reads : Reads state a b) where
-    more : (m : LogMap) → passing (p (staged c m)) from (index + 1 - from) ≡ passing (p (staged c m)) from (index - from) + one_if (p (staged c m) index)
+  module _ (h a b : Held D) (c : Changes) (from index count : ℕ) (lawful : IsLawful (state h.device))
+      (was : CountedUpTo h a c from index count) (reads : Reads state a b) where
+    more : (m : LogMap)
+        → passing (p (staged c m)) from (index + 1 - from) ≡ passing (p (staged c m)) from (index - from) + one_if (p (staged c m) index)
     more m =
         let few = was.few in
         let next : index + 1 - from ≡ index - from + 1 = omega (arith, few) in
         ap (passing (p (staged c m)) from) next ∙ passing_more (p (staged c m)) from (index - from) index (omega (arith, few))
 
-    pub counted_more : (found : Bool) (next : ℕ) → next ≡ count + bool_byte found → Tells a b c index found → CountedUpTo h b c from (index + 1) next
+    pub counted_more : (found : Bool) (next : ℕ) → next ≡ count + bool_byte found → Tells a b c index found
+        → CountedUpTo h b c from (index + 1) next
     counted_more found next is_next tells = record {
       reads = reads_more state h a b lawful was.reads reads;
       few = let few = was.few in let one = at_most found in omega (arith, few, is_next, one);
@@ -95,7 +104,8 @@ module _ {D : Type 0} (state : D → DeviceState) (h h' : Held D) (c : Changes) 
 
 -- ---- what the log tells of what a draft leaves
 module _ {D : Type 0} (state : D → DeviceState) (h h' : Held D) (c : Changes) (n : ℕ) where
-  pub log_stored : {E : Type 0} (i : ℕ) (r : Result Bool E) → ((m : LogMap) → (staged c m).block n i ≡ m.block n i) → IfOk r (held.TellsBlock state h h' n i) → IfOk r (TellsStored state h h' c n i)
+  pub log_stored : {E : Type 0} (i : ℕ) (r : Result Bool E) → ((m : LogMap) → (staged c m).block n i ≡ m.block n i)
+      → IfOk r (held.TellsBlock state h h' n i) → IfOk r (TellsStored state h h' c n i)
   log_stored i (Ok found) left tells = λ k m0 m keeps is. test_same ((staged c m).block n i) (m.block n i) (left m) ∙ tells k m0 m keeps is
   log_stored i (Err e) left tells = tt
 
@@ -104,13 +114,15 @@ module _ {D : Type 0} (state : D → DeviceState) (h h' : Held D) (c : Changes) 
 -- no block from one on to another passes
 pub record SearchedUpTo {D : Type 0} (state : D → DeviceState) (n : ℕ) (h h' : Held D) (c : Changes) (from index : ℕ) : Type 0 where
   pub reads : Reads state h h'
-  pub none : (k : CheckpointValue) (m0 m : LogMap) → (state h'.device).keeps_model → Holds state h k m0 m → (i : ℕ) → from ≤ i → i < index → is_stored (staged c m) n i ≡ false
+  pub none : (k : CheckpointValue) (m0 m : LogMap) → (state h'.device).keeps_model → Holds state h k m0 m → (i : ℕ) → from ≤ i → i < index
+      → is_stored (staged c m) n i ≡ false
 
 module _ {D : Type 0} (state : D → DeviceState) (n : ℕ) where
   pub searched_none : (h : Held D) (c : Changes) (from : ℕ) → SearchedUpTo state n h h c from from
   searched_none h c from = record { reads = reads_none state h; none = λ k m0 m keeps is i le lt. absurd (omega (arith, le, lt)) }
 
-  module _ (h a b : Held D) (c : Changes) (from index : ℕ) (lawful : IsLawful (state h.device)) (was : SearchedUpTo state n h a c from index) (reads : Reads state a b) where
+  module _ (h a b : Held D) (c : Changes) (from index : ℕ) (lawful : IsLawful (state h.device))
+      (was : SearchedUpTo state n h a c from index) (reads : Reads state a b) where
     pub searched_more : TellsStored state a b c n index false → SearchedUpTo state n h b c from (index + 1)
     searched_more tells = record {
       reads = reads_more state h a b lawful was.reads reads;
@@ -120,7 +132,8 @@ module _ {D : Type 0} (state : D → DeviceState) (n : ℕ) where
           (cases_eq i index);
     }
 
-    pub leaf_found : (q : ℕ) → from ≡ 112 + 128 * q → from ≤ index → index < from + 128 → TellsStored state a b c n index true → TellsLeaf state h b c n q true
+    pub leaf_found : (q : ℕ) → from ≡ 112 + 128 * q → from ≤ index → index < from + 128 → TellsStored state a b c n index true
+        → TellsLeaf state h b c n q true
     leaf_found q at le lt tells k m0 m keeps is =
         let on = tells k m0 m keeps (held_still state h a k m0 m was.reads is) in
         let place : index ≡ 112 + 128 * q + (index - from) = omega (arith, at, le) in
@@ -128,7 +141,8 @@ module _ {D : Type 0} (state : D → DeviceState) (n : ℕ) where
         ((leaf_tests (staged c m) n).0 q).1 (index - from, omega (arith, le, lt), subst (HasData (staged c m) n) place has)
 
   -- none of all does
-  pub leaf_empty : (h h' : Held D) (c : Changes) (from index q : ℕ) → from ≡ 112 + 128 * q → from + 128 ≤ index → SearchedUpTo state n h h' c from index → TellsLeaf state h h' c n q false
+  pub leaf_empty : (h h' : Held D) (c : Changes) (from index q : ℕ) → from ≡ 112 + 128 * q → from + 128 ≤ index
+      → SearchedUpTo state n h h' c from index → TellsLeaf state h h' c n q false
   leaf_empty h h' c from index q at far was k m0 m keeps is = false_from_ne_true (has_leaf (staged c m) n q) (λ on.
       let has = ((leaf_tests (staged c m) n).0 q).0 on in
       let low = has.1 in
@@ -138,45 +152,57 @@ module _ {D : Type 0} (state : D → DeviceState) (n : ℕ) where
       absurd (cc))
 
 -- the leaf of a draft that changes none of its blocks
-same_leaf_one : (m m' : LogMap) (n q : ℕ) → ((i : ℕ) → IsBetween (112 + 128 * q) (240 + 128 * q) i → m'.block n i ≡ m.block n i) → HasLeaf m n q → HasLeaf m' n q
+same_leaf_one : (m m' : LogMap) (n q : ℕ) → ((i : ℕ) → IsBetween (112 + 128 * q) (240 + 128 * q) i → m'.block n i ≡ m.block n i)
+    → HasLeaf m n q → HasLeaf m' n q
 same_leaf_one m m' n q same has =
     let low = has.1 in
     (has.0, low, subst (λ (b : List ℕ). 0 < length b) (sym (same (112 + 128 * q + has.0) (omega arith, omega (arith, low)))) has.2)
 
-pub same_leaf : (m m' : LogMap) (n q : ℕ) → ((i : ℕ) → IsBetween (112 + 128 * q) (240 + 128 * q) i → m'.block n i ≡ m.block n i) → has_leaf m' n q ≡ has_leaf m n q
+pub same_leaf : (m m' : LogMap) (n q : ℕ) → ((i : ℕ) → IsBetween (112 + 128 * q) (240 + 128 * q) i → m'.block n i ≡ m.block n i)
+    → has_leaf m' n q ≡ has_leaf m n q
 same_leaf m m' n q same = same_tests (has_leaf m' n q) (has_leaf m n q)
     (λ on. ((leaf_tests m n).0 q).1 (same_leaf_one m' m n q (λ i inside. sym (same i inside)) (((leaf_tests m' n).0 q).0 on)))
     (λ on. ((leaf_tests m' n).0 q).1 (same_leaf_one m m' n q same (((leaf_tests m n).0 q).0 on)))
 
 module _ {D : Type 0} (state : D → DeviceState) (h h' : Held D) (c : Changes) (n : ℕ) where
-  pub log_leaf : {E : Type 0} (q : ℕ) (r : Result Bool E) → LeavesBlocks c n (112 + 128 * q) (112 + 128 * q + 128) → IfOk r (held.TellsLeaf state h h' n q) → IfOk r (TellsLeaf state h h' c n q)
-  log_leaf q (Ok found) left tells = λ k m0 m keeps is. same_leaf m (staged c m) n q (λ i inside. (let high = inside.1 in left i (inside.0, omega (arith, high)) m)) ∙ tells k m0 m keeps is
+  pub log_leaf : {E : Type 0} (q : ℕ) (r : Result Bool E) → LeavesBlocks c n (112 + 128 * q) (112 + 128 * q + 128)
+      → IfOk r (held.TellsLeaf state h h' n q) → IfOk r (TellsLeaf state h h' c n q)
+  log_leaf q (Ok found) left tells = λ k m0 m keeps is.
+      same_leaf m (staged c m) n q (λ i inside. (let high = inside.1 in left i (inside.0, omega (arith, high)) m)) ∙ tells k m0 m keeps is
   log_leaf q (Err e) left tells = tt
 
 -- edits of none of some blocks are edits of no one of them
 off_blocks : (n from to i : ℕ) (edits : List BlockEdit) → IsBetween from to i → AllByRecursion (IsOff n from to) edits → NoBlock n i edits
 off_blocks n from to i [] inside off = tt
-off_blocks n from to i (e ∷ edits) inside off = ((λ is. off.0 is.0 (subst (IsBetween from to) (sym is.1) inside)), off_blocks n from to i edits inside off.1)
+off_blocks n from to i (e ∷ edits) inside off =
+    ((λ is. off.0 is.0 (subst (IsBetween from to) (sym is.1) inside)), off_blocks n from to i edits inside off.1)
 
-pub leaves_blocks : (c : Changes) (n from to : ℕ) → KeepsBefore c.loss n to → AllByRecursion (IsOff n from to) c.blocks.items → LeavesBlocks c n from to
-leaves_blocks c n from to keeps off i inside m = (says_no_block c n i (off_blocks n from to i c.blocks.items inside off)).1 m ∙ keeps i inside.1 m
+pub leaves_blocks : (c : Changes) (n from to : ℕ) → KeepsBefore c.loss n to → AllByRecursion (IsOff n from to) c.blocks.items
+    → LeavesBlocks c n from to
+leaves_blocks c n from to keeps off i inside m = (says_no_block c n i (off_blocks n from to i c.blocks.items inside off)).1 m
+    ∙ keeps i inside.1 m
 
 -- and they are as many
 module _ {D : Type 0} (state : D → DeviceState) (h h' : Held D) (c : Changes) (n : ℕ) where
-  pub log_count : {E : Type 0} (from to : ℕ) (r : Result ℕ E) → LeavesBlocks c n from to → IfOk r (held.CountsBlocks state h h' n from to) → IfOk r (CountsStored state h h' c n from to)
+  pub log_count : {E : Type 0} (from to : ℕ) (r : Result ℕ E) → LeavesBlocks c n from to → IfOk r (held.CountsBlocks state h h' n from to)
+      → IfOk r (CountsStored state h h' c n from to)
   unfolding stored_in
   log_count from to (Ok count) left tells = λ k m0 m keeps is.
-      passing_same (is_stored (staged c m) n) (is_stored m n) from (to - from) (λ i le lt. test_same ((staged c m).block n i) (m.block n i) (left i (le, omega (arith, lt)) m)) ∙ tells k m0 m keeps is
+      passing_same (is_stored (staged c m) n) (is_stored m n) from (to - from)
+      (λ i le lt. test_same ((staged c m).block n i) (m.block n i) (left i (le, omega (arith, lt)) m)) ∙ tells k m0 m keeps is
   log_count from to (Err e) left tells = tt
 
-  pub log_double : {E : Type 0} (size : ℕ) (r : Result Bool E) → LeavesBlocks c n 240 16624 → IfOk r (held.TellsDouble state h h' n) → IfOk r (TellsDouble state h h' c n size)
+  pub log_double : {E : Type 0} (size : ℕ) (r : Result Bool E) → LeavesBlocks c n 240 16624 → IfOk r (held.TellsDouble state h h' n)
+      → IfOk r (TellsDouble state h h' c n size)
   log_double size (Ok found) left tells = λ k m0 m keeps is ends.
       ap one_if (sym (tells k m0 m keeps is)) ∙ double_is m n
-      ∙ ap (λ (l : ℕ). min l 1) (sym (leaves_same m (staged c m) n 1 129 (λ q le lt. same_leaf m (staged c m) n q (λ i inside. (let low = inside.0 in let high = inside.1 in left i (omega (arith, low, le), omega (arith, high, lt)) m)))))
+      ∙ ap (λ (l : ℕ). min l 1) (sym (leaves_same m (staged c m) n 1 129 (λ q le lt. same_leaf m (staged c m) n q
+      (λ i inside. (let low = inside.0 in let high = inside.1 in left i (omega (arith, low, le), omega (arith, high, lt)) m)))))
   log_double size (Err e) left tells = tt
 
 -- a draft that stores a block of a leaf
-pub stores_leaf : (c : Changes) (n q i : ℕ) → IsBetween (112 + 128 * q) (112 + 128 * q + 128) i → SaysStored c n i (Some true) → StoresLeaf c n q
+pub stores_leaf : (c : Changes) (n q i : ℕ) → IsBetween (112 + 128 * q) (112 + 128 * q + 128) i → SaysStored c n i (Some true)
+    → StoresLeaf c n q
 stores_leaf c n q i inside says m =
     let low = inside.0 in
     let high = inside.1 in

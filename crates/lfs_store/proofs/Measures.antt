@@ -1,7 +1,8 @@
 -- The measure of a file and of a volume, from what is counted.
 use Rattle.std.specs.Prelude.{min, max}
 use Rattle.std.specs.Int.{div_ceil}
-use Rattle.std.proofs.Common.{◌≡◌, ◌<◌, ◌≤◌, ◌⊎◌, ⊎_elim, ◌+◌, ◌-◌, ◌*◌, ℕ, Bool, true, false, length, Option, Some, None, refl, sym, ◌∙◌, ap, ap₂, subst, arith}
+use Rattle.std.proofs.Common.{◌≡◌, ◌<◌, ◌≤◌, ◌⊎◌, ⊎_elim, ◌+◌, ◌-◌, ◌*◌, ℕ, Bool, true, false, length, Option, Some, None, refl, sym, ◌∙◌}
+use Rattle.std.proofs.Common.{ap, ap₂, subst, arith}
 use mir.Val.{bool_byte}
 use Rattle.std.proofs.lemmas.Bool.{cases_lt, false_from_ne_true, ltb-true}
 use Rattle.lfs_model.specs.Device.{DeviceState}
@@ -46,7 +47,8 @@ unfolding stored_in
 stored_nothing m n a b none = passing_nothing (is_stored m n) a (b - a) (λ i le lt. none i le (omega (arith, lt, le)))
 
 -- the blocks up to the end of a file are all
-pub stored_to_end : (m : LogMap) (n size blocks from to : ℕ) → EndsBy m n size → size ≤ 512 * blocks → from ≤ to → stored_in m n (min from (min blocks to)) (min blocks to) ≡ stored_in m n from to
+pub stored_to_end : (m : LogMap) (n size blocks from to : ℕ) → EndsBy m n size → size ≤ 512 * blocks → from ≤ to
+    → stored_in m n (min from (min blocks to)) (min blocks to) ≡ stored_in m n from to
 stored_to_end m n size blocks from to ends covers order = ⊎_elim
     (λ (inside : from < min blocks to).
     let first : min from (min blocks to) ≡ from = omega (arith, inside) in
@@ -61,27 +63,33 @@ stored_to_end m n size blocks from to ends covers order = ⊎_elim
 
 -- ---- one file
 module _ {D : Type 0} (state : D → DeviceState) (c : Changes) (n : ℕ) where
-  pub absent : (h h' : Held D) (from to : ℕ) → ReadsHeader state h h' c n None → Measures state h h' c n from to (record { data_blocks = 0; meta_blocks = 0 })
+  pub absent : (h h' : Held D) (from to : ℕ) → ReadsHeader state h h' c n None
+      → Measures state h h' c n from to (record { data_blocks = 0; meta_blocks = 0 })
   absent h h' from to answer k m0 m keeps is map =
       let none = answer k m0 m keeps is in
       record {
         stored = sym (stored_nothing (staged c m) n from to (λ i le lt. nothing_stored (staged c m) n map none i));
         above = (
             let beside = beside_none (staged c m) n (nothing_stored (staged c m) n map none) from to in
-            let gone : meta_of_file (staged c m) n ≡ 0 = ap (λ (o : Option entry.Header). elim o [ None ↦ 0 | Some h ↦ 1 + pointers (stored_blocks (staged c m) n) ]) none in
+            let gone : meta_of_file (staged c m) n ≡ 0 =
+            ap (λ (o : Option entry.Header). elim o [ None ↦ 0 | Some h ↦ 1 + pointers (stored_blocks (staged c m) n) ]) none in
             omega (arith, beside, gone));
       }
 
   -- the double root: a leaf below it is stored, or none was found
-  pub double_told : (h a b : Held D) (size leaf : ℕ) → Reads state h a → 1 ≤ leaf → leaf ≤ 128 → Tells state (λ m. has_leaf m n) a b c leaf true → TellsDouble state h b c n size true
-  double_told h a b size leaf one some few tells k m0 m keeps is ends = sym (double_found (staged c m) n leaf some few (tells k m0 m keeps (held_still state h a k m0 m one is)))
+  pub double_told : (h a b : Held D) (size leaf : ℕ) → Reads state h a → 1 ≤ leaf → leaf ≤ 128
+      → Tells state (λ m. has_leaf m n) a b c leaf true → TellsDouble state h b c n size true
+  double_told h a b size leaf one some few tells k m0 m keeps is ends =
+      sym (double_found (staged c m) n leaf some few (tells k m0 m keeps (held_still state h a k m0 m one is)))
 
-  pub double_missed : (h b : Held D) (size end index : ℕ) → (size ≤ 512 * (112 + 128 * end)) ⊎ (129 ≤ end) → end ≤ 129 → index ≡ max end 1 → CountedUpTo state (λ m. has_leaf m n) h b c 1 index 0 → TellsDouble state h b c n size false
+  pub double_missed : (h b : Held D) (size end index : ℕ) → (size ≤ 512 * (112 + 128 * end)) ⊎ (129 ≤ end) → end ≤ 129 → index ≡ max end 1
+      → CountedUpTo state (λ m. has_leaf m n) h b c 1 index 0 → TellsDouble state h b c n size false
   double_missed h b size end index past few last was k m0 m keeps is ends =
       sym (double_none (staged c m) n size end ends past (counts_leaves state h b c n 1 (max end 1) index 0 last was k m0 m keeps is) few)
 
   -- the leaves at some indices, and the double root: looked for, or above a leaf behind the first
-  module _ (h a : Held D) (size from to first end count : ℕ) (range : IsLeafRange size from to first end) (order : from ≤ to) (low : to ≤ 16624) (leaves : CountsLeaves state h a c n first end count) where
+  module _ (h a : Held D) (size from to first end count : ℕ) (range : IsLeafRange size from to first end) (order : from ≤ to)
+      (low : to ≤ 16624) (leaves : CountsLeaves state h a c n first end count) where
     within : (m : LogMap) → EndsBy m n size → leaves_in m n first end ≡ count → count + leaves_beside m n from to ≡ leaves_in m n 0 129
     within m ends counted =
         let covers : size ≤ 512 * div_ceil size 512 = omega arith in
@@ -91,7 +99,8 @@ module _ {D : Type 0} (state : D → DeviceState) (c : Changes) (n : ℕ) where
         let all = beside_split m n from to order low in
         omega (arith, counted, same, here, all)
 
-    pub counts_pointers : (b : Held D) (found : Bool) → Reads state h a → Reads state a b → TellsDouble state a b c n size found → CountsPointers state h b c n size from to (count + bool_byte found)
+    pub counts_pointers : (b : Held D) (found : Bool) → Reads state h a → Reads state a b → TellsDouble state a b c n size found
+        → CountsPointers state h b c n size from to (count + bool_byte found)
     counts_pointers b found one two double k m0 m keeps is ends =
         let all = within (staged c m) ends (leaves k m0 m (two.looks.carries.kept_before keeps) is) in
         let root = double k m0 m keeps (held_still state h a k m0 m one is) ends in
@@ -110,8 +119,10 @@ module _ {D : Type 0} (state : D → DeviceState) (c : Changes) (n : ℕ) where
         let up = pointers_all (staged c m) n in
         omega (arith, all, root, up)
 
-  pub measured : (h a b d : Held D) (head : Header) (blocks from to count above : ℕ) → Reads state h a → Reads state a b → Reads state b d → head.size ≤ 512 * blocks → from ≤ to
-      → ReadsHeader state h a c n (Some head) → CountsStored state a b c n (min from (min blocks to)) (min blocks to) count → CountsPointers state b d c n head.size from to above
+  pub measured : (h a b d : Held D) (head : Header) (blocks from to count above : ℕ) → Reads state h a → Reads state a b → Reads state b d
+      → head.size ≤ 512 * blocks → from ≤ to
+      → ReadsHeader state h a c n (Some head) → CountsStored state a b c n (min from (min blocks to)) (min blocks to) count
+      → CountsPointers state b d c n head.size from to above
       → Measures state h d c n from to (record { data_blocks = count; meta_blocks = 1 + above })
   measured h a b d head blocks from to count above one two three covers order answer counted below k m0 m keeps is map =
       let keeps_b = three.looks.carries.kept_before keeps in
@@ -121,7 +132,8 @@ module _ {D : Type 0} (state : D → DeviceState) (c : Changes) (n : ℕ) where
       let held_b = held_still state a b k m0 m two held_a in
       let ends = ends_by (staged c m) n head map at in
       let up = below k m0 m keeps held_b ends in
-      let is_there : meta_of_file (staged c m) n ≡ 1 + pointers (stored_blocks (staged c m) n) = ap (λ (o : Option entry.Header). elim o [ None ↦ 0 | Some h ↦ 1 + pointers (stored_blocks (staged c m) n) ]) at in
+      let is_there : meta_of_file (staged c m) n ≡ 1 + pointers (stored_blocks (staged c m) n) =
+      ap (λ (o : Option entry.Header). elim o [ None ↦ 0 | Some h ↦ 1 + pointers (stored_blocks (staged c m) n) ]) at in
       record {
         stored = sym (sym (stored_to_end (staged c m) n head.size blocks from to ends covers order) ∙ counted k m0 m keeps_b held_a);
         above = omega (arith, up, is_there);

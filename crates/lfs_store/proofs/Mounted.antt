@@ -1,5 +1,6 @@
 -- A mounted log map has no file of no links.
-use Rattle.std.proofs.Common.{◌≡◌, ◌<◌, ◌≤◌, ◌*◌, ⊎_elim, nat_lt, true, cond, ℕ, List, [], ◌∷◌, length, Option, Some, None, refl, sym, ◌∙◌, ap, ap₂, arith}
+use Rattle.std.proofs.Common.{◌≡◌, ◌<◌, ◌≤◌, ◌*◌, ⊎_elim, nat_lt, true, cond, ℕ, List, [], ◌∷◌, length, Option, Some, None, refl, sym, ◌∙◌}
+use Rattle.std.proofs.Common.{ap, ap₂, arith}
 use Rattle.std.proofs.Math.Path.{fun_ext}
 use Rattle.std.proofs.lemmas.Bool.{cases_eq, lt-ltb, and_parts, leb-true, cond-true}
 use Rattle.lfs_model.specs.Checkpoint.{CheckpointValue, layout_version}
@@ -36,19 +37,23 @@ module _ (c : Content) (k : CheckpointValue) (m : LogMap) (sized : IsSized c) (s
   some_links : (n : ℕ) (h : Header) → m.header n ≡ Some h → 0 < h.links
   some_links n h is = ⊎_elim
       (λ (none : address c k (Inode n) ≡ 0).
-      let e : None ≡ Some h = sym (st.holds.header n ∙ ap (λ (a : ℕ). cond (nat_lt 0 a) (Some (header (block c (address c k (Inode n))))) None) none) ∙ is in
+      let e : None ≡ Some h =
+      sym (st.holds.header n ∙ ap (λ (a : ℕ). cond (nat_lt 0 a) (Some (header (block c (address c k (Inode n))))) None) none) ∙ is in
       absurd (cc))
       (λ (some : address c k (Inode n) ≡ 0 → ⊥).
       let lt : 0 < address c k (Inode n) = omega (arith, some) in
-      let e : Some (header (block c (address c k (Inode n)))) ≡ Some h = sym (st.holds.header n ∙ cond-true (nat_lt 0 (address c k (Inode n))) _ _ (lt-ltb 0 (address c k (Inode n)) lt)) ∙ is in
+      let e : Some (header (block c (address c k (Inode n)))) ≡ Some h =
+      sym (st.holds.header n ∙ cond-true (nat_lt 0 (address c k (Inode n))) _ _ (lt-ltb 0 (address c k (Inode n)) lt)) ∙ is in
       let same : header (block c (address c k (Inode n))) ≡ h = cc in
-      let one : 1 ≤ (header (block c (address c k (Inode n)))).links = links_some (layout_version k) n (block c (address c k (Inode n))) (st.holds.stages.inodes.formed n lt) in
+      let one : 1 ≤ (header (block c (address c k (Inode n)))).links =
+      links_some (layout_version k) n (block c (address c k (Inode n))) (st.holds.stages.inodes.formed n lt) in
       let links = ap (λ (x : Header). x.links) same in
       omega (arith, one, links))
       (cases_eq (address c k (Inode n)) 0)
 
   kept_some : {X : Type 0} (n : ℕ) (h : Header) (some none : X) → m.header n ≡ Some h → kept (m.header n) some none ≡ some
-  kept_some n h some none is = ap (λ (o : Option Header). kept o some none) is ∙ cond-true (nat_lt 0 h.links) some none (lt-ltb 0 h.links (some_links n h is))
+  kept_some n h some none is = ap (λ (o : Option Header). kept o some none) is
+      ∙ cond-true (nat_lt 0 h.links) some none (lt-ltb 0 h.links (some_links n h is))
 
   no_data : (n i : ℕ) → m.header n ≡ None → m.block n i ≡ []
   no_data n i none = by (m.block n i) refl
@@ -77,10 +82,13 @@ module _ (c : Content) (k : CheckpointValue) (m : LogMap) (sized : IsSized c) (s
 
   pub all_linked : m ≡ dropped m
   all_linked =
-      ap₂ (λ (hs : ℕ → Option Header) (bs : ℕ → ℕ → List ℕ). record { header = hs; block = bs; version = m.version }) (fun_ext header_same) (fun_ext (λ n. fun_ext (λ i. block_same n i)))
+      ap₂ (λ (hs : ℕ → Option Header) (bs : ℕ → ℕ → List ℕ). record { header = hs; block = bs; version = m.version }) (fun_ext header_same)
+      (fun_ext (λ n. fun_ext (λ i. block_same n i)))
 
-module _ {D : Type 0} (state : D → DeviceState) (d : D) (h : Held D) (lawful : IsLawful (state d)) (mounts : Mounts state d h) (nothing : AreAllSaved h)
-    (untaken : (state h.device).keeps_model → AreUntaken h.memory.usage) (many : (state h.device).keeps_model → length h.memory.usage.segments ≤ 8 * clean_in h.memory.usage.segments) where
+module _ {D : Type 0} (state : D → DeviceState) (d : D) (h : Held D) (lawful : IsLawful (state d)) (mounts : Mounts state d h)
+    (nothing : AreAllSaved h)
+    (untaken : (state h.device).keeps_model → AreUntaken h.memory.usage) (many : (state h.device).keeps_model
+    → length h.memory.usage.segments ≤ 8 * clean_in h.memory.usage.segments) where
   pub mounts_store : MountsStore state d h true
   mounts_store m keeps is = record {
     holds = mounts m keeps is;
@@ -91,5 +99,6 @@ module _ {D : Type 0} (state : D → DeviceState) (d : D) (h : Held D) (lawful :
 -- the log isn't there
 pub log_refused : (old new : DeviceState) (f : MountFault) → IsOpenFault old new f → IsMountRefusal old new f
 log_refused old new f =
-    fault_on (old.failures < new.failures) (LacksLog old new) ((m : LogMap) → new.keeps_model → StandsLog old.content m → old.failures < new.failures) (LacksLog old new)
+    fault_on (old.failures < new.failures) (LacksLog old new)
+    ((m : LogMap) → new.keeps_model → StandsLog old.content m → old.failures < new.failures) (LacksLog old new)
     (λ rose m keeps is. rose) (λ lacks. lacks) f

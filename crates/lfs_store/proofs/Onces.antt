@@ -8,7 +8,8 @@ use Rattle.lfs_cleaner.proofs.Onces.{once_behind, once_told}
 
 module _ {D : Type 0} (state : D → DeviceState) (a b c : Held D) where
   -- a commit comes first where anything isn't saved
-  pub store_once : (saved : Bool) → (saved ≡ true → b ≡ a) → (saved ≡ false → Saves state a b) → CleansOnce state b c → (AreAllSaved b → PassesWhereDue state b c) → CleansOnce state a c
+  pub store_once : (saved : Bool) → (saved ≡ true → b ≡ a) → (saved ≡ false → Saves state a b) → CleansOnce state b c
+      → (AreAllSaved b → PassesWhereDue state b c) → CleansOnce state a c
   store_once true quiet saves once alone = subst (λ (h : Held D). CleansOnce state h c) (quiet refl) once
   store_once false quiet saves once alone = let s = saves refl in once_behind state a b c (inl s) (alone s.empty)
 
@@ -19,7 +20,9 @@ module _ {D : Type 0} (state : D → DeviceState) (a b c : Held D) where
       → (AreAllSaved b → length (state c.device).told ≤ length (state b.device).told + pass_orders (length b.memory.usage.segments))
       → length (state c.device).told ≤ length (state a.device).told + once_orders (length a.memory.usage.segments)
   store_told true quiet saves first once alone =
-      subst (λ (h : Held D). length (state c.device).told ≤ length (state h.device).told + once_orders (length h.memory.usage.segments)) (quiet refl) once
+      subst (λ (h : Held D). length (state c.device).told ≤ length (state h.device).told + once_orders (length h.memory.usage.segments))
+      (quiet refl) once
   store_told false quiet saves first once alone =
       let s = saves refl in
-      once_told (length (state a.device).told) (length (state b.device).told) (length (state c.device).told) (length a.memory.usage.segments) (length b.memory.usage.segments) s.segments first (alone s.empty)
+      once_told (length (state a.device).told) (length (state b.device).told) (length (state c.device).told)
+      (length a.memory.usage.segments) (length b.memory.usage.segments) s.segments first (alone s.empty)

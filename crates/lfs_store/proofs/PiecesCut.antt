@@ -1,5 +1,6 @@
 -- Bytes cut off a file: its blocks from one on, and the tail of the last one that stays.
-use Rattle.std.proofs.Common.{◌≡◌, ⊎_elim, ◌==◌, ◌&&◌, nat_le, cond, ℕ, ◌/◌, ◌<◌, ◌≤◌, Bool, List, [], length, refl, sym, ap, subst, ◌∙◌, arith, slice_index, eqb-true, eq-eqb}
+use Rattle.std.proofs.Common.{◌≡◌, ⊎_elim, ◌==◌, ◌&&◌, nat_le, cond, ℕ, ◌/◌, ◌<◌, ◌≤◌, Bool, List, [], length, refl, sym, ap, subst, ◌∙◌}
+use Rattle.std.proofs.Common.{arith, slice_index, eqb-true, eq-eqb}
 use Rattle.std.proofs.lemmas.Bool.{cases_lt, cond-false, and_parts, false_from_ne_true, leb-true, le-leb}
 use Rattle.lfs_model.specs.Objects.{AreStoredWhole}
 use Rattle.lfs_model.specs.Stands.{LogMap}
@@ -10,7 +11,8 @@ use Rattle.lfs_store.specs.Pieces.{CutBegins, CutHeads, CutBlocksHeads, CutBetwe
 use Rattle.lfs_store.proofs.PiecesStored.{stored_reads, stored_whole, other_block, block_apart, changed_twice, same_whole}
 
 -- A file whose blocks are each the same or none is whole.
-fewer_whole : (m m' : LogMap) (n first : ℕ) → ((i : ℕ) → i < first → m'.block n i ≡ m.block n i) → ((i : ℕ) → first ≤ i → m'.block n i ≡ []) → AreStoredWhole m n → AreStoredWhole m' n
+fewer_whole : (m m' : LogMap) (n first : ℕ) → ((i : ℕ) → i < first → m'.block n i ≡ m.block n i) → ((i : ℕ) → first ≤ i → m'.block n i ≡ [])
+    → AreStoredWhole m n → AreStoredWhole m' n
 fewer_whole m m' n first below gone was = record {
   long = λ i has. ap length (same i has) ∙ was.long i (subst (λ (b : List ℕ). 0 < length b) (same i has) has);
   nonzero = λ i has.
@@ -30,23 +32,27 @@ cut_begins m n first = record {
   gone = gone;
   only = record {
     headers = λ k ne. refl;
-    blocks = λ k i ne. cond-false (k == n && nat_le first i) [] (m.block k i) (false_from_ne_true _ (λ on. ne (eqb-true k n (and_parts (k == n) (nat_le first i) on).0)));
+    blocks = λ k i ne. cond-false (k == n && nat_le first i) [] (m.block k i)
+        (false_from_ne_true _ (λ on. ne (eqb-true k n (and_parts (k == n) (nat_le first i) on).0)));
     version = refl;
   };
   whole = fewer_whole m (cut_from n first m) n first below gone;
 }
   where
     below : (i : ℕ) → i < first → cond (n == n && nat_le first i) [] (m.block n i) ≡ m.block n i
-    below i lt = cond-false (n == n && nat_le first i) [] (m.block n i) (false_from_ne_true _ (λ on. let le = leb-true first i (and_parts (n == n) (nat_le first i) on).1 in absurd (omega arith)))
+    below i lt = cond-false (n == n && nat_le first i) [] (m.block n i)
+        (false_from_ne_true _ (λ on. let le = leb-true first i (and_parts (n == n) (nat_le first i) on).1 in absurd (omega arith)))
 
     gone : (i : ℕ) → first ≤ i → cond (n == n && nat_le first i) [] (m.block n i) ≡ []
-    gone i le = ap (λ (b : Bool). cond (b && nat_le first i) [] (m.block n i)) (eq-eqb n n refl) ∙ ap (λ (b : Bool). cond b [] (m.block n i)) (le-leb first i le)
+    gone i le = ap (λ (b : Bool). cond (b && nat_le first i) [] (m.block n i)) (eq-eqb n n refl)
+        ∙ ap (λ (b : Bool). cond b [] (m.block n i)) (le-leb first i le)
 
 pub cut_heads : CutHeads
 cut_heads m m' m'' n first h far with_it = record {
   below = λ i lt. with_it.block n i ∙ far.below i lt;
   gone = λ i le. with_it.block n i ∙ far.gone i le;
-  only = changed_twice m m' m'' n far.only record { headers = with_it.others; blocks = λ k i ne. with_it.block k i; version = with_it.version };
+  only = changed_twice m m' m'' n far.only
+      record { headers = with_it.others; blocks = λ k i ne. with_it.block k i; version = with_it.version };
   whole = λ was. same_whole m' m'' n (with_it.block n) (far.whole was);
 }
 
@@ -56,7 +62,8 @@ cut_blocks_heads m m' m'' n len h is with_it = record {
   last = λ k lt. ap (λ (b : List ℕ). slice_index b k) (with_it.block n (len / 512)) ∙ is.last k lt;
   zeros = λ k le. ap (λ (b : List ℕ). slice_index b k) (with_it.block n (len / 512)) ∙ is.zeros k le;
   gone = λ i le. with_it.block n i ∙ is.gone i le;
-  only = changed_twice m m' m'' n is.only record { headers = with_it.others; blocks = λ k i ne. with_it.block k i; version = with_it.version };
+  only = changed_twice m m' m'' n is.only
+      record { headers = with_it.others; blocks = λ k i ne. with_it.block k i; version = with_it.version };
   whole = λ was. same_whole m' m'' n (with_it.block n) (is.whole was);
 }
 

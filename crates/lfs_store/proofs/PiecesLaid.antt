@@ -1,9 +1,11 @@
 -- A part of a block that was written, and the bytes that it got.
-use Rattle.std.proofs.Common.{◌≡◌, ⊎_elim, ℕ, ◌+◌, ◌-◌, ◌*◌, ◌<◌, ◌≤◌, List, ◌++◌, length, take, drop, get_or, sym, ap, subst, ◌∙◌, arith, slice_index}
+use Rattle.std.proofs.Common.{◌≡◌, ⊎_elim, ℕ, ◌+◌, ◌-◌, ◌*◌, ◌<◌, ◌≤◌, List, ◌++◌, length, take, drop, get_or, sym, ap, subst, ◌∙◌, arith}
+use Rattle.std.proofs.Common.{slice_index}
 use Rattle.std.specs.Prelude.{min}
 use Rattle.std.proofs.lemmas.Bool.{cases_lt}
 use Rattle.std.proofs.lemmas.Grind.{same_number_lists}
-use Rattle.std.proofs.lemmas.List.{length-take, length-drop, length-take-le, get_or-take, get_or-drop, get_or_append_left, get_or-append_right, get_or_past}
+use Rattle.std.proofs.lemmas.List.{length-take, length-drop, length-take-le, get_or-take, get_or-drop, get_or_append_left}
+use Rattle.std.proofs.lemmas.List.{get_or-append_right, get_or_past}
 use Rattle.std.proofs.lemmas.Slice.{drop-put_mid}
 use Rattle.lfs_model.specs.Objects.{Overlays}
 use Rattle.lfs_store.specs.Pieces.{piece, place_in_block, BlockOverlays, CutsTail}
@@ -31,7 +33,8 @@ module _ (a k : ℕ) (xs ys : List ℕ) (room : a + k ≤ length xs) where
       ∙ ap (λ (p : ℕ). get_or xs p 0) (sym at)
 
 -- a part that was written with w is w laid over
-pub written_overlays : (a k : ℕ) (xs ys w : List ℕ) → a + k ≤ length xs → ys ≡ w → length w ≡ k → Overlays a w (slice_index xs) (slice_index (put_mid a k xs ys))
+pub written_overlays : (a k : ℕ) (xs ys w : List ℕ) → a + k ≤ length xs → ys ≡ w → length w ≡ k
+    → Overlays a w (slice_index xs) (slice_index (put_mid a k xs ys))
 written_overlays a k xs ys w room same long = record {
   before = written_before a k xs ys room;
   inside = λ j lt. written_inside a k xs ys room (ap length same ∙ long) j (omega arith) ∙ ap (λ (zs : List ℕ). get_or zs j 0) same;
@@ -47,7 +50,8 @@ take_same a b xs same =
     (λ k lt. get_or-take a xs k 0 (omega arith) ∙ sym (get_or-take b xs k 0 (omega arith)))
 
 -- the piece of w in a block has as many bytes as the block has places for it
-pub length_piece : (at : ℕ) (w : List ℕ) (index : ℕ) → length (piece at w index) ≡ place_in_block (at + length w) index - place_in_block at index
+pub length_piece : (at : ℕ) (w : List ℕ) (index : ℕ)
+    → length (piece at w index) ≡ place_in_block (at + length w) index - place_in_block at index
 length_piece at w index =
     let d = length-drop (512 * index - at) w in
     length-take (512 - place_in_block at index) (drop (512 * index - at) w) ∙ (omega arith)
@@ -57,26 +61,31 @@ pub piece_fits : (at : ℕ) (w : List ℕ) (index : ℕ) → place_in_block at i
 piece_fits at w index = let l = length_piece at w index in omega arith
 
 -- what `copy_from_slice` takes of w is the piece
-pub copied_piece : (at : ℕ) (w : List ℕ) (index skip len : ℕ) → skip ≡ 512 * index - at → place_in_block at index + len ≡ place_in_block (at + length w) index
+pub copied_piece : (at : ℕ) (w : List ℕ) (index skip len : ℕ) → skip ≡ 512 * index - at
+    → place_in_block at index + len ≡ place_in_block (at + length w) index
     → take (skip + len - skip) (drop skip w) ≡ piece at w index
 copied_piece at w index skip len place fits =
     let d = length-drop skip w in
     take_same (skip + len - skip) (512 - place_in_block at index) (drop skip w) (omega arith)
     ∙ ap (λ (k : ℕ). take (512 - place_in_block at index) (drop k w)) place
 
-pub copied_overlays : (block new w : List ℕ) (at index skip start stop : ℕ) → length block ≡ 512 → start ≡ place_in_block at index → stop ≡ place_in_block (at + length w) index
-    → start < stop → skip ≡ 512 * index - at → new ≡ take (skip + (stop - start) - skip) (drop skip w) → BlockOverlays at w index block (put_mid start (stop - start) block new)
+pub copied_overlays : (block new w : List ℕ) (at index skip start stop : ℕ) → length block ≡ 512 → start ≡ place_in_block at index
+    → stop ≡ place_in_block (at + length w) index
+    → start < stop → skip ≡ 512 * index - at → new ≡ take (skip + (stop - start) - skip) (drop skip w)
+    → BlockOverlays at w index block (put_mid start (stop - start) block new)
 copied_overlays block new w at index skip start stop long from to some place copied =
     let is : new ≡ piece at w index = copied ∙ copied_piece at w index skip (stop - start) place (omega arith) in
     let l : length (piece at w index) ≡ stop - start = length_piece at w index ∙ (omega arith) in
     record {
       fits = piece_fits at w index;
-      laid = subst (λ (s : ℕ). Overlays s (piece at w index) (slice_index block) (slice_index (put_mid start (stop - start) block new))) from
+      laid =
+          subst (λ (s : ℕ). Overlays s (piece at w index) (slice_index block) (slice_index (put_mid start (stop - start) block new))) from
           (written_overlays start (stop - start) block new (piece at w index) (omega arith) is l);
     }
 
 -- a block that was filled with zeros from a place on
-module _ (from : ℕ) (block new : List ℕ) (whole : length block ≡ 512) (low : from ≤ 512) (same : length new ≡ length (mid_of from (512 - from) block))
+module _ (from : ℕ) (block new : List ℕ) (whole : length block ≡ 512) (low : from ≤ 512)
+    (same : length new ≡ length (mid_of from (512 - from) block))
     (zeros : (k d : ℕ) → k < length (mid_of from (512 - from) block) → get_or new k d ≡ 0) where
   filled_length : length (mid_of from (512 - from) block) ≡ 512 - from
   filled_length = let d = length-drop from block in length-take-le (512 - from) (drop from block) (omega arith)
@@ -90,7 +99,8 @@ module _ (from : ℕ) (block new : List ℕ) (whole : length block ≡ 512) (low
       let at : k ≡ from + (k - from) = omega arith in
       ap (λ (p : ℕ). get_or (put_mid from (512 - from) block new) p 0) at
       ∙ written_inside from (512 - from) block new (omega arith) long (k - from) (omega arith) ∙ zeros (k - from) 0 (omega arith))
-      (λ (past : 512 ≤ k). written_behind from (512 - from) block new (omega arith) long k (omega arith) ∙ get_or_past block k 0 (omega arith))
+      (λ (past : 512 ≤ k). written_behind from (512 - from) block new (omega arith) long k (omega arith)
+      ∙ get_or_past block k 0 (omega arith))
       (cases_lt k 512)
 
   pub filled_tail : CutsTail from block (put_mid from (512 - from) block new)

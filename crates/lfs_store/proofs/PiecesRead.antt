@@ -1,5 +1,6 @@
 -- The bytes between two places of a file, block by block.
-use Rattle.std.proofs.Common.{◌≡◌, ⊎_elim, ℕ, ◌+◌, ◌-◌, ◌*◌, ◌/◌, ◌%◌, ◌<◌, ◌≤◌, Bool, true, false, List, [], ◌++◌, length, drop, refl, sym, ap, subst, ◌∙◌, arith, slice_index, length-append}
+use Rattle.std.proofs.Common.{◌≡◌, ⊎_elim, ℕ, ◌+◌, ◌-◌, ◌*◌, ◌/◌, ◌%◌, ◌<◌, ◌≤◌, Bool, true, false, List, [], ◌++◌, length, drop, refl, sym}
+use Rattle.std.proofs.Common.{ap, subst, ◌∙◌, arith, slice_index, length-append}
 use Rattle.std.specs.Int.{div_ceil}
 use Rattle.std.proofs.lemmas.Bool.{cases_lt}
 use Rattle.std.proofs.lemmas.Grind.{same_number_lists}
@@ -16,30 +17,13 @@ use Rattle.lfs_store.specs.Pieces.{place_in_block, part_of_block, HoldsBlock, Pa
 
 -- ---- one block
 
-pub held_stored : (m : LogMap) (n index : ℕ) (block : List ℕ) → length block ≡ 512 → m.block n index ≡ block → HoldsBlock m n index block
-held_stored m n index block long is = record { long = long; bytes = λ k. ap (λ (b : List ℕ). slice_index b k) (sym is) }
-
-zeros_read : (n k : ℕ) → slice_index (zeros n) k ≡ 0
-unfolding zeros
-zeros_read n k = get_or-zeros n k
-
-pub held_none : (m : LogMap) (n index : ℕ) (block : List ℕ) → block ≡ zeros 512 → m.block n index ≡ [] → HoldsBlock m n index block
-held_none m n index block is none = record {
-  long = ap length is ∙ length_zeros 512;
-  bytes = λ k. ap (λ (b : List ℕ). slice_index b k) is ∙ zeros_read 512 k ∙ ap (λ (b : List ℕ). slice_index b k) (sym none);
-}
-
--- what a log answers for a block
-pub held_answer : (m : LogMap) (n index : ℕ) (block : List ℕ) (found : Bool) → length block ≡ 512 → (found ≡ false → block ≡ zeros 512) → BlockAnswer m n index block found → HoldsBlock m n index block
-held_answer m n index block false long blank answer = held_none m n index block (blank refl) answer
-held_answer m n index block true long blank answer = held_stored m n index block long answer
-
 -- ---- block after block
 
 pub part_begins : PartBegins
 part_begins m n from to = record { long = omega arith; bytes = λ j lt. absurd (omega arith) }
 
-module _ (m : LogMap) (n from to index : ℕ) (out block : List ℕ) (order : from ≤ to) (far : PartSoFar m n from to index out) (holds : HoldsBlock m n index block) where
+module _ (m : LogMap) (n from to index : ℕ) (out block : List ℕ) (order : from ≤ to) (far : PartSoFar m n from to index out)
+    (holds : HoldsBlock m n index block) where
   abbrev start : ℕ
   start = place_in_block from index
 
@@ -76,17 +60,13 @@ module _ (m : LogMap) (n from to index : ℕ) (out block : List ℕ) (order : fr
         let f = far.long in
         ⊎_elim
         (λ (low : j < length out). get_or_append_left out more 0 j low ∙ far.bytes j low)
-        (λ (high : length out ≤ j). get_or-append_right out more (length out) j 0 refl high ∙ more_byte (j - length out) (omega arith) (from + j) (omega arith))
+        (λ (high : length out ≤ j). get_or-append_right out more (length out) j 0 refl high
+        ∙ more_byte (j - length out) (omega arith) (from + j) (omega arith))
         (cases_lt j (length out));
   }
 
 pub part_goes_on : PartGoesOn
 part_goes_on m n from to index out block order far holds = gone_on m n from to index out block order far holds
-
--- the same for what a call left
-pub part_grown : (m : LogMap) (n from to index : ℕ) (out new block : List ℕ) → from ≤ to → PartSoFar m n from to index out → HoldsBlock m n index block → new ≡ out ++ part_of_block from to index block
-    → PartSoFar m n from to (index + 1) new
-part_grown m n from to index out new block order far holds is = subst (PartSoFar m n from to (index + 1)) (sym is) (part_goes_on m n from to index out block order far holds)
 
 -- the blocks below that index have the bytes up to a place
 pub last_block : (to index : ℕ) → div_ceil to 512 ≤ index → to ≤ 512 * index

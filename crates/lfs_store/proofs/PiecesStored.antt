@@ -1,5 +1,6 @@
 -- Blocks that are stored, or aren't where they are zeros alone.
-use Rattle.std.proofs.Common.{◌≡◌, ◌<◌, ⊎_elim, ◌==◌, cond, ℕ, zero, suc, Bool, true, false, List, [], ◌∷◌, length, refl, sym, ◌∙◌, ap, subst, arith, slice_index, eqb-true}
+use Rattle.std.proofs.Common.{◌≡◌, ◌<◌, ⊎_elim, ◌==◌, cond, ℕ, zero, suc, Bool, true, false, List, [], ◌∷◌, length, refl, sym, ◌∙◌, ap}
+use Rattle.std.proofs.Common.{subst, arith, slice_index, eqb-true}
 use Rattle.std.proofs.lemmas.Bool.{cases_Bool, and_parts}
 use Rattle.lfs_model.specs.Changing.{IsWithBlock}
 use Rattle.lfs_model.specs.Entry.{Data}
@@ -29,9 +30,11 @@ stored_reads bytes k = ⊎_elim
     (cases_Bool (is_blank bytes))
 
 -- It is none, or a sector with a byte that isn't zero.
-pub stored_whole : (bytes : List ℕ) → length bytes ≡ 512 → 0 < length (stored bytes) → (length (stored bytes) ≡ 512) × ((k : ℕ) × (0 < slice_index (stored bytes) k))
+pub stored_whole : (bytes : List ℕ) → length bytes ≡ 512 → 0 < length (stored bytes)
+    → (length (stored bytes) ≡ 512) × ((k : ℕ) × (0 < slice_index (stored bytes) k))
 stored_whole bytes long some = ⊎_elim
-    (λ (on : is_blank bytes ≡ true). let none : length (stored bytes) ≡ 0 = ap (λ (b : Bool). length (cond b [] bytes)) on in absurd (omega arith))
+    (λ (on : is_blank bytes ≡ true). let none : length (stored bytes) ≡ 0 = ap (λ (b : Bool). length (cond b [] bytes)) on in
+    absurd (omega arith))
     (λ (off : is_blank bytes ≡ false).
     let is : stored bytes ≡ bytes = ap (λ (b : Bool). cond b [] bytes) off in
     let one = some_byte bytes off in
@@ -47,13 +50,18 @@ module _ (m m' : LogMap) (n i : ℕ) (bytes : List ℕ) (with_it : IsWithBlock m
       place h = cc
 
   pub block_apart : IsChangedAt m n m'
-  block_apart = record { headers = λ k ne. with_it.header k; blocks = λ k l ne. with_it.others k l (λ h. ne (file k l h)); version = with_it.version }
+  block_apart =
+      record { headers = λ k ne. with_it.header k; blocks = λ k l ne. with_it.others k l (λ h. ne (file k l h)); version = with_it.version }
     where
       file : (k l : ℕ) → Data k l ≡ Data n i → k ≡ n
       file k l h = cc
 
 pub changed_twice : (m m' m'' : LogMap) (n : ℕ) → IsChangedAt m n m' → IsChangedAt m' n m'' → IsChangedAt m n m''
-changed_twice m m' m'' n first next = record { headers = λ k ne. next.headers k ne ∙ first.headers k ne; blocks = λ k i ne. next.blocks k i ne ∙ first.blocks k i ne; version = next.version ∙ first.version }
+changed_twice m m' m'' n first next = record {
+  headers = λ k ne. next.headers k ne ∙ first.headers k ne;
+  blocks = λ k i ne. next.blocks k i ne ∙ first.blocks k i ne;
+  version = next.version ∙ first.version;
+}
 
 pub changed_none : (m : LogMap) (n : ℕ) → IsChangedAt m n m
 changed_none m n = record { headers = λ k ne. refl; blocks = λ k i ne. refl; version = refl }
@@ -69,7 +77,5 @@ same_whole m m' n same was = record {
 
 -- ---- what is put is held, and so are the other blocks
 pub held_put : (m m' : LogMap) (n i : ℕ) (new : List ℕ) → length new ≡ 512 → IsWithBlock m n i (stored new) m' → HoldsBlock m' n i new
-held_put m m' n i new long with_it = record { long = long; bytes = λ k. sym (stored_reads new k) ∙ ap (λ (b : List ℕ). slice_index b k) (sym with_it.own) }
-
-pub held_other : (m m' : LogMap) (n l : ℕ) (block : List ℕ) → m'.block n l ≡ m.block n l → HoldsBlock m n l block → HoldsBlock m' n l block
-held_other m m' n l block same holds = record { long = holds.long; bytes = λ k. holds.bytes k ∙ ap (λ (b : List ℕ). slice_index b k) (sym same) }
+held_put m m' n i new long with_it =
+    record { long = long; bytes = λ k. sym (stored_reads new k) ∙ ap (λ (b : List ℕ). slice_index b k) (sym with_it.own) }

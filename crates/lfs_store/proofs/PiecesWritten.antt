@@ -8,7 +8,8 @@ use Rattle.lfs_model.specs.Stands.{LogMap}
 use Rattle.lfs_model.proofs.ObjectBytes.{block_overlaid, overlays_by_blocks}
 use Rattle.lfs_model.proofs.ObjectMaps.{block_whole}
 use Rattle.lfs_cleaner.specs.log.memory.Changing.{stored}
-use Rattle.lfs_store.specs.Pieces.{place_in_block, piece, BlockOverlays, Covers, HoldsBlock, IsBeneath, WriteSoFar, WriteBegins, WriteGoesOn, WriteHeads, WriteIsDone}
+use Rattle.lfs_store.specs.Pieces.{place_in_block, piece, BlockOverlays, Covers, HoldsBlock, IsBeneath, WriteSoFar, WriteBegins}
+use Rattle.lfs_store.specs.Pieces.{WriteGoesOn, WriteHeads, WriteIsDone}
 use Rattle.lfs_store.proofs.PiecesLaid.{length_piece}
 use Rattle.lfs_store.proofs.PiecesStored.{stored_reads, stored_whole, other_block, block_apart, changed_twice, changed_none, same_whole}
 
@@ -23,7 +24,8 @@ write_begins m n at w = record {
 }
 
 -- One block with the bytes that lie in it laid over is the file with them laid over.
-module _ (m' m'' : LogMap) (n at index : ℕ) (w old new : List ℕ) (over : BlockOverlays at w index old new) (with_it : IsWithBlock m' n index (stored new) m'') where
+module _ (m' m'' : LogMap) (n at index : ℕ) (w old new : List ℕ) (over : BlockOverlays at w index old new)
+    (with_it : IsWithBlock m' n index (stored new) m'') where
   -- it had these bytes
   over_old : HoldsBlock m' n index old → Overlays (512 * index + place_in_block at index) (piece at w index) (byte_in m' n) (byte_in m'' n)
   over_old holds = block_overlaid m' m'' n index (stored new) with_it (place_in_block at index) (piece at w index) over.fits record {
@@ -43,13 +45,15 @@ module _ (m' m'' : LogMap) (n at index : ℕ) (w old new : List ℕ) (over : Blo
       (λ i k j few lt is. (
       let place : k ≡ place_in_block at index + j = omega (arith, few, lt, is, low, high, l) in
       let own : i ≡ index = omega (arith, few, lt, is, low, high, l) in
-      ap (λ (q : ℕ). slice_index (m''.block n q) k) own ∙ ap (λ (b : List ℕ). slice_index b k) with_it.own ∙ stored_reads new k ∙ ap (slice_index new) place ∙ over.laid.inside j lt))
+      ap (λ (q : ℕ). slice_index (m''.block n q) k) own ∙ ap (λ (b : List ℕ). slice_index b k) with_it.own ∙ stored_reads new k
+      ∙ ap (slice_index new) place ∙ over.laid.inside j lt))
       (λ i k few behind. apart i k (λ is. absurd (omega (arith, is, few, behind, low, high, l))))
     where
       apart : (i k : ℕ) → (i ≡ index → ⊥) → slice_index (m''.block n i) k ≡ slice_index (m'.block n i) k
       apart i k ne = ap (λ (b : List ℕ). slice_index b k) (other_block m' m'' n index (stored new) with_it i ne)
 
-module _ (m m' m'' : LogMap) (n at index : ℕ) (w old new : List ℕ) (far : WriteSoFar m m' n at w index) (beneath : IsBeneath m' n index at w old) (over : BlockOverlays at w index old new)
+module _ (m m' m'' : LogMap) (n at index : ℕ) (w old new : List ℕ) (far : WriteSoFar m m' n at w index)
+    (beneath : IsBeneath m' n index at w old) (over : BlockOverlays at w index old new)
     (long : length new ≡ 512) (with_it : IsWithBlock m' n index (stored new) m'') where
   abbrev place : ℕ
   place = place_in_block at index
@@ -58,7 +62,8 @@ module _ (m m' m'' : LogMap) (n at index : ℕ) (w old new : List ℕ) (far : Wr
   some = piece at w index
 
   step : Overlays (512 * index + place) some (byte_in m' n) (byte_in m'' n)
-  step = ⊎_elim (λ holds. over_old m' m'' n at index w old new over with_it holds) (λ covers. over_any m' m'' n at index w old new over with_it covers) beneath
+  step = ⊎_elim (λ holds. over_old m' m'' n at index w old new over with_it holds)
+      (λ covers. over_any m' m'' n at index w old new over with_it covers) beneath
 
   go_before : (p : ℕ) → p < at → byte_in m'' n p ≡ byte_in m n p
   go_before p lt =
@@ -71,7 +76,8 @@ module _ (m m' m'' : LogMap) (n at index : ℕ) (w old new : List ℕ) (far : Wr
   piece_byte : (j k : ℕ) → k < length some → j ≡ 512 * index - at + k → slice_index some k ≡ slice_index w j
   piece_byte j k lt is =
       let l = length_piece at w index in
-      get_or-take (512 - place) (drop (512 * index - at) w) k 0 (omega arith) ∙ get_or-drop (512 * index - at) w k 0 ∙ ap (slice_index w) (sym is)
+      get_or-take (512 - place) (drop (512 * index - at) w) k 0 (omega arith) ∙ get_or-drop (512 * index - at) w k 0
+      ∙ ap (slice_index w) (sym is)
 
   go_inside : (j : ℕ) → j < length w → at + j < 512 * (index + 1) → byte_in m'' n (at + j) ≡ slice_index w j
   go_inside j lt below =
@@ -104,7 +110,8 @@ module _ (m m' m'' : LogMap) (n at index : ℕ) (w old new : List ℕ) (far : Wr
   }
 
 pub write_goes_on : WriteGoesOn
-write_goes_on m m' m'' n at index w old new far beneath over long with_it = gone_on m m' m'' n at index w old new far beneath over long with_it
+write_goes_on m m' m'' n at index w old new far beneath over long with_it =
+    gone_on m m' m'' n at index w old new far beneath over long with_it
 
 pub write_heads : WriteHeads
 write_heads m m' m'' n at index w h far with_it = record {
@@ -112,7 +119,8 @@ write_heads m m' m'' n at index w h far with_it = record {
   inside = λ j lt below. same (at + j) ∙ far.inside j lt below;
   behind = λ p le. same p ∙ far.behind p le;
   rest = λ i le. with_it.block n i ∙ far.rest i le;
-  only = changed_twice m m' m'' n far.only record { headers = with_it.others; blocks = λ k i ne. with_it.block k i; version = with_it.version };
+  only = changed_twice m m' m'' n far.only
+      record { headers = with_it.others; blocks = λ k i ne. with_it.block k i; version = with_it.version };
   whole = λ was. same_whole m' m'' n (with_it.block n) (far.whole was);
 }
   where

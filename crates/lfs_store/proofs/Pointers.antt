@@ -1,7 +1,8 @@
 -- The blocks of pointers of a file, by its leaves.
 use Rattle.std.specs.Prelude.{min, max}
 use Rattle.std.specs.Int.{div_ceil}
-use Rattle.std.proofs.Common.{◌≡◌, ◌<◌, ◌≤◌, ◌⊎◌, ⊎_elim, ◌+◌, ◌-◌, ◌*◌, ◌||◌, ℕ, zero, suc, Bool, true, false, length, refl, sym, ◌∙◌, ap, ap₂, arith, inl, inr}
+use Rattle.std.proofs.Common.{◌≡◌, ◌<◌, ◌≤◌, ◌⊎◌, ⊎_elim, ◌+◌, ◌-◌, ◌*◌, ◌||◌, ℕ, zero, suc, Bool, true, false, length, refl, sym, ◌∙◌, ap}
+use Rattle.std.proofs.Common.{ap₂, arith, inl, inr}
 use Rattle.std.specs.List.{list_any, range_with_len}
 use Rattle.std.proofs.lemmas.Bool.{cases_lt, false_from_ne_true, lt-ltb}
 use Rattle.std.proofs.lemmas.List.Sums.{length-filter}
@@ -14,9 +15,6 @@ use Rattle.lfs_model.specs.Totals.{leaves_in}
 use Rattle.lfs_cleaner.proofs.of_log.of_memory.Ranges.{passing, passing_none, passing_first, passing_split, passing_nothing, passing_same}
 
 -- ---- ranges
-any_first : (p : ℕ → Bool) (a n : ℕ) → one_if (list_any p (range_with_len a (suc n))) ≡ one_if (p a || list_any p (range_with_len (a + 1) n))
-any_first p a n = refl
-
 one_or : (b c : Bool) (k : ℕ) → one_if c ≡ min k 1 → one_if (b || c) ≡ min (one_if b + k) 1
 one_or true c k is = omega arith
 one_or false c k is = omega (arith, is)
@@ -50,14 +48,16 @@ module _ (m : LogMap) (n : ℕ) where
   below_count : passing (λ q. has_leaf m n (suc q)) 0 128 ≡ passing (has_leaf m n) 1 128
   below_count = shifted (has_leaf m n) 0 128
 
-  by_leaves : (single below : ℕ) → one_if (has_leaf m n 0) ≡ single → passing (has_leaf m n) 1 128 ≡ below → pointers (stored_blocks m n) ≡ single + below + min below 1
+  by_leaves : (single below : ℕ) → one_if (has_leaf m n 0) ≡ single → passing (has_leaf m n) 1 128 ≡ below
+      → pointers (stored_blocks m n) ≡ single + below + min below 1
   by_leaves single below first others =
       let up = up_count (λ q. has_leaf m n (suc q)) 128 ∙ below_count ∙ others in
       let root = double_count ∙ ap (λ (k : ℕ). min k 1) (below_count ∙ others) in
       pointer_count m n ∙ ap₂ (λ (a b : ℕ). a + b) (ap₂ (λ (a b : ℕ). a + b) first up) root
 
   -- all of them, and the double root where one of those below it is stored
-  pointers_of : (all below : ℕ) → all ≡ suc below → below ≡ 128 → pointers (stored_blocks m n) ≡ passing (has_leaf m n) 0 all + min (passing (has_leaf m n) 1 below) 1
+  pointers_of : (all below : ℕ) → all ≡ suc below → below ≡ 128
+      → pointers (stored_blocks m n) ≡ passing (has_leaf m n) 0 all + min (passing (has_leaf m n) 1 below) 1
   pointers_of all below next is =
       let up = by_leaves (one_if (has_leaf m n 0)) (passing (has_leaf m n) 1 below) refl (ap (passing (has_leaf m n) 1) (sym is)) in
       let first = ap (passing (has_leaf m n) 0) next ∙ passing_first (has_leaf m n) 0 below in
@@ -126,12 +126,14 @@ module _ (m : LogMap) (n : ℕ) where
         omega (arith, split, none, rest)
 
 -- the same leaves are as many
-pub leaves_same : (m m' : LogMap) (n a b : ℕ) → ((q : ℕ) → a ≤ q → q < b → has_leaf m' n q ≡ has_leaf m n q) → leaves_in m' n a b ≡ leaves_in m n a b
+pub leaves_same : (m m' : LogMap) (n a b : ℕ) → ((q : ℕ) → a ≤ q → q < b → has_leaf m' n q ≡ has_leaf m n q)
+    → leaves_in m' n a b ≡ leaves_in m n a b
 unfolding leaves_in
 leaves_same m m' n a b same = passing_same (has_leaf m' n) (has_leaf m n) a (b - a) (λ q le lt. same q le (omega (arith, le, lt)))
 
 -- as many leaves as the blocks of a size need, or all
-pub leaves_cover : (size blocks leaves end : ℕ) → blocks ≡ div_ceil size 512 → leaves ≡ div_ceil (blocks - 112) 128 → end ≡ min leaves 129 → (size ≤ 512 * (112 + 128 * end)) ⊎ (129 ≤ end)
+pub leaves_cover : (size blocks leaves end : ℕ) → blocks ≡ div_ceil size 512 → leaves ≡ div_ceil (blocks - 112) 128 → end ≡ min leaves 129
+    → (size ≤ 512 * (112 + 128 * end)) ⊎ (129 ≤ end)
 leaves_cover size blocks leaves end up down few = ⊎_elim
     (λ (less : end < 129). inl (omega (arith, up, down, few, less)))
     (λ (all : 129 ≤ end). inr all)

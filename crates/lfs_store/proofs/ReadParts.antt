@@ -1,6 +1,7 @@
 -- Bytes of a file, read block by block.
 use Rattle.std.specs.Prelude.{slice_index, IsFalse}
-use Rattle.std.proofs.Common.{◌≡◌, ◌<◌, ◌≤◌, ⊎_elim, ◌+◌, ◌-◌, ◌/◌, ◌%◌, ℕ, Bool, true, false, List, [], ◌++◌, length, take, drop, refl, sym, ◌∙◌, ap, ap₂, subst, arith}
+use Rattle.std.proofs.Common.{◌≡◌, ◌<◌, ◌≤◌, ⊎_elim, ◌+◌, ◌-◌, ◌/◌, ◌%◌, ℕ, Bool, true, false, List, [], ◌++◌, length, take, drop, refl}
+use Rattle.std.proofs.Common.{sym, ◌∙◌, ap, ap₂, subst, arith}
 use Rattle.std.proofs.lemmas.Bool.{cases_lt}
 use Rattle.std.proofs.lemmas.Grind.{same_number_lists}
 use Rattle.std.proofs.lemmas.List.{length-append, length-take, length-drop, get_or-take, get_or-drop, get_or_append_left, get_or-append-add}
@@ -27,9 +28,11 @@ zero_byte : (i : ℕ) → slice_index (zeros 512) i ≡ 0
 unfolding zeros
 zero_byte i = get_or-zeros 512 i
 
-sector_byte : (m : LogMap) (n i : ℕ) (out : List ℕ) (found : Bool) → BlockAnswer m n i out found → (IsFalse found → out ≡ zeros 512) → (o : ℕ) → slice_index out o ≡ slice_index (m.block n i) o
+sector_byte : (m : LogMap) (n i : ℕ) (out : List ℕ) (found : Bool) → BlockAnswer m n i out found → (IsFalse found → out ≡ zeros 512)
+    → (o : ℕ) → slice_index out o ≡ slice_index (m.block n i) o
 sector_byte m n i out true is blank o = ap (λ (b : List ℕ). slice_index b o) (sym is)
-sector_byte m n i out false is blank o = ap (λ (b : List ℕ). slice_index b o) (blank refl) ∙ zero_byte o ∙ ap (λ (b : List ℕ). slice_index b o) (sym is)
+sector_byte m n i out false is blank o = ap (λ (b : List ℕ). slice_index b o) (blank refl) ∙ zero_byte o
+    ∙ ap (λ (b : List ℕ). slice_index b o) (sym is)
 
 at_place : (m : LogMap) (n at j : ℕ) → at % 512 + j < 512 → slice_index (m.block n (at / 512)) (at % 512 + j) ≡ byte_in m n (at + j)
 at_place m n at j low =
@@ -42,7 +45,8 @@ module _ {D : Type 0} (state : D → DeviceState) where
   pub still_held : (a b : Held D) (k : CheckpointValue) (m0 m : LogMap) → Reads state a b → Holds state a k m0 m → Holds state b k m0 m
   still_held a b k m0 m reads is = record {
     log = subst (λ (v : LogMemory). IsLog (state b.device) v k m0 m) (sym reads.memory)
-        (let s = still_log (state a.device) (state b.device) a.memory k m0 m reads.looks (loose (state a.device) a.memory k m0 m is.log) in tight_again (state b.device) a.memory k m0 m s is.log.tight);
+        (let s = still_log (state a.device) (state b.device) a.memory k m0 m reads.looks (loose (state a.device) a.memory k m0 m is.log) in
+        tight_again (state b.device) a.memory k m0 m s is.log.tight);
     number = is.number ∙ sym reads.number;
     version = is.version ∙ sym reads.version;
     running = reads.halted ∙ is.running;
@@ -66,7 +70,8 @@ module _ {D : Type 0} (state : D → DeviceState) where
       omega (arith, rose, before)
 
   -- ---- one piece
-  pub appends : (h h' : Held D) (c : Changes) (n at len : ℕ) (old new sector : List ℕ) (found : Bool) → at % 512 + len ≤ 512 → length sector ≡ 512 → new ≡ old ++ take (at % 512 + len - at % 512) (drop (at % 512) sector)
+  pub appends : (h h' : Held D) (c : Changes) (n at len : ℕ) (old new sector : List ℕ) (found : Bool) → at % 512 + len ≤ 512
+      → length sector ≡ 512 → new ≡ old ++ take (at % 512 + len - at % 512) (drop (at % 512) sector)
       → ReadsBlock state h h' c n (at / 512) sector found → (IsFalse found → sector ≡ zeros 512) → Appends state h h' c n at len old new
   appends h h' c n at len old new sector found inside long read answer blank = record {
     long = ap length is ∙ length-append old piece ∙ ap (λ (l : ℕ). length old + l) piece_long;
@@ -87,22 +92,18 @@ module _ {D : Type 0} (state : D → DeviceState) where
       is = let l : at % 512 + len - at % 512 ≡ len = omega arith in read ∙ ap (λ (k : ℕ). old ++ take k (drop (at % 512) sector)) l
 
       piece_long : length piece ≡ len
-      piece_long = let t = length-take len (drop (at % 512) sector) in let d = length-drop (at % 512) sector in omega (arith, t, d, long, inside)
+      piece_long = let t = length-take len (drop (at % 512) sector) in let d = length-drop (at % 512) sector in
+          omega (arith, t, d, long, inside)
 
   -- ---- the pieces up to here
   pub record ReadUpTo (h h' : Held D) (c : Changes) (n from at : ℕ) (bytes : List ℕ) : Type 0 where
     pub reads : Reads state h h'
     pub long : from + length bytes ≡ at
-    pub bytes_are : (k : CheckpointValue) (m0 m : LogMap) → (state h'.device).keeps_model → Holds state h k m0 m → (j : ℕ) → j < length bytes → slice_index bytes j ≡ byte_in (staged c m) n (from + j)
+    pub bytes_are : (k : CheckpointValue) (m0 m : LogMap) → (state h'.device).keeps_model → Holds state h k m0 m → (j : ℕ)
+        → j < length bytes → slice_index bytes j ≡ byte_in (staged c m) n (from + j)
 
-  pub read_none : (h : Held D) (c : Changes) (n from : ℕ) (bytes : List ℕ) → Reads state h h → bytes ≡ [] → ReadUpTo h h c n from from bytes
-  read_none h c n from bytes reads none = record {
-    reads = reads;
-    long = let l = ap length none in omega (arith, l);
-    bytes_are = λ k m0 m keeps is j low. let l = ap length none in absurd (omega (arith, l, low));
-  }
-
-  pub read_more : (h a b : Held D) (c : Changes) (n from at len : ℕ) (old new : List ℕ) → IsLawful (state h.device) → ReadUpTo h a c n from at old → Reads state a b → Appends state a b c n at len old new
+  pub read_more : (h a b : Held D) (c : Changes) (n from at len : ℕ) (old new : List ℕ) → IsLawful (state h.device)
+      → ReadUpTo h a c n from at old → Reads state a b → Appends state a b c n at len old new
       → ReadUpTo h b c n from (at + len) new
   read_more h a b c n from at len old new lawful was reads more = record {
     reads = reads_then h a b lawful was.reads reads;
@@ -110,7 +111,8 @@ module _ {D : Type 0} (state : D → DeviceState) where
     bytes_are = each;
   }
     where
-      each : (k : CheckpointValue) (m0 m : LogMap) → (state b.device).keeps_model → Holds state h k m0 m → (j : ℕ) → j < length new → slice_index new j ≡ byte_in (staged c m) n (from + j)
+      each : (k : CheckpointValue) (m0 m : LogMap) → (state b.device).keeps_model → Holds state h k m0 m → (j : ℕ) → j < length new
+          → slice_index new j ≡ byte_in (staged c m) n (from + j)
       each k m0 m keeps is j low = ⊎_elim
           (λ (before : j < length old). more.kept j before ∙ was.bytes_are k m0 m (reads.looks.carries.kept_before keeps) is j before)
           (λ (behind : length old ≤ j).
@@ -118,14 +120,17 @@ module _ {D : Type 0} (state : D → DeviceState) where
           let w = was.long in
           let i : length old + (j - length old) ≡ j = omega (arith, behind) in
           let p : at + (j - length old) ≡ from + j = omega (arith, behind, w) in
-          ap (slice_index new) (sym i) ∙ more.more k m0 m keeps (still_held h a k m0 m was.reads is) (j - length old) (omega (arith, behind, low, l)) ∙ ap (byte_in (staged c m) n) p)
+          ap (slice_index new) (sym i) ∙ more.more k m0 m keeps (still_held h a k m0 m was.reads is) (j - length old)
+          (omega (arith, behind, low, l)) ∙ ap (byte_in (staged c m) n) p)
           (cases_lt j (length old))
 
   -- all of them are a part of the object
-  pub reads_part : (h h' : Held D) (c : Changes) (n from to : ℕ) (bytes : List ℕ) → ReadUpTo h h' c n from to bytes → ReadsPart state h h' c n from to bytes
+  pub reads_part : (h h' : Held D) (c : Changes) (n from to : ℕ) (bytes : List ℕ) → ReadUpTo h h' c n from to bytes
+      → ReadsPart state h h' c n from to bytes
   reads_part h h' c n from to bytes was k m0 m keeps is head within =
       let o = object_part (staged c m) n head from (to - from) in
       let w = was.long in
       let size = o.0 in
       let same : length bytes ≡ length (part (object (staged c m) n head) from (to - from)) = omega (arith, size, w, within) in
-      same_number_lists bytes (part (object (staged c m) n head) from (to - from)) same (λ j low. was.bytes_are k m0 m keeps is j low ∙ sym (o.1 j (omega (arith, low, same))))
+      same_number_lists bytes (part (object (staged c m) n head) from (to - from)) same
+      (λ j low. was.bytes_are k m0 m keeps is j low ∙ sym (o.1 j (omega (arith, low, same))))

@@ -1,6 +1,7 @@
 -- The totals of a draft that writes, cuts, makes or removes one file.
 use Rattle.std.specs.Int.{div_ceil}
-use Rattle.std.proofs.Common.{◌≡◌, ◌<◌, ◌≤◌, ◌⊎◌, ⊎_elim, ◌+◌, ◌/◌, nat_lt, ℕ, false, length, List, [], ◌∷◌, Option, Some, None, refl, sym, ◌∙◌, ap, subst, arith}
+use Rattle.std.proofs.Common.{◌≡◌, ◌<◌, ◌≤◌, ◌⊎◌, ⊎_elim, ◌+◌, ◌/◌, nat_lt, ℕ, false, length, List, [], ◌∷◌, Option, Some, None, refl, sym}
+use Rattle.std.proofs.Common.{◌∙◌, ap, subst, arith}
 use Rattle.lfs_model.specs.Device.{DeviceState, IsLawful}
 use Rattle.lfs_model.specs.Encodes.{IsLogMap}
 use Rattle.lfs_model.specs.Entry.{Header}
@@ -58,10 +59,16 @@ no_measure m n from to none gone = record {
 
 -- ---- a file is made
 pub made_counts : (c c' : Changes) (n : ℕ) (head : headers.Header) (old new : BlockTotals) → 1 ≤ n → n ≤ 4095 → Makes c c' n head
-    → Recounts old new (record { data_blocks = 0; meta_blocks = 0 }) (record { data_blocks = 0; meta_blocks = 1 }) → CountsMade c c' n old new
+    → Recounts old new (record { data_blocks = 0; meta_blocks = 0 }) (record { data_blocks = 0; meta_blocks = 1 })
+    → CountsMade c c' n old new
 made_counts c c' n head old new some few makes recounts m map gone are =
-    recounted (staged c m) (staged c' m) n 0 0 old new (record { data_blocks = 0; meta_blocks = 0 }) (record { data_blocks = 0; meta_blocks = 1 }) changed some few (omega arith) (omega arith)
-    (λ i out. same n i) (no_measure (staged c m) n 0 0 none gone) (record { stored = sym (stored_nothing (staged c' m) n 0 0 (λ i le lt. none' i)); above = (let none = beside_none (staged c' m) n none' 0 0 in let one = above in omega (arith, none, one)) }) recounts are
+    recounted (staged c m) (staged c' m) n 0 0 old new (record { data_blocks = 0; meta_blocks = 0 })
+    (record { data_blocks = 0; meta_blocks = 1 }) changed some few (omega arith) (omega arith)
+    (λ i out. same n i) (no_measure (staged c m) n 0 0 none gone)
+    (record {
+      stored = sym (stored_nothing (staged c' m) n 0 0 (λ i le lt. none' i));
+      above = (let none = beside_none (staged c' m) n none' 0 0 in let one = above in omega (arith, none, one));
+    }) recounts are
   where
     same : (k i : ℕ) → (staged c' m).block k i ≡ (staged c m).block k i
     same k i = ap (λ (x : LogMap). x.block k i) (makes.map m)
@@ -78,7 +85,8 @@ made_counts c c' n head old new some few makes recounts m map gone are =
     above : 1 ≡ meta_of_file (staged c' m) n
     above =
         ap (λ (k : ℕ). 1 + k) (sym (inode_alone (staged c' m) n none'))
-        ∙ ap (λ (o : Option Header). meta_by o (pointers (stored_blocks (staged c' m) n))) (sym (ap (λ (x : LogMap). x.header n) (makes.map m) ∙ (is_with_header (staged c m) n (Some (as_header head))).own))
+        ∙ ap (λ (o : Option Header). meta_by o (pointers (stored_blocks (staged c' m) n)))
+        (sym (ap (λ (x : LogMap). x.header n) (makes.map m) ∙ (is_with_header (staged c m) n (Some (as_header head))).own))
 
 -- ---- a file has other links
 
@@ -86,17 +94,21 @@ same_list : (m : LogMap) (n : ℕ) (h : Option Header) (end : ℕ) → stored_be
 unfolding stored_below
 same_list m n h end = refl
 
-pub relinked_totals : (m : LogMap) (n : ℕ) (h h' : Header) (t : BlockTotals) → 1 ≤ n → n ≤ 4095 → m.header n ≡ Some h → AreTotals m t → AreTotals (with_header m n (Some h')) t
+pub relinked_totals : (m : LogMap) (n : ℕ) (h h' : Header) (t : BlockTotals) → 1 ≤ n → n ≤ 4095 → m.header n ≡ Some h → AreTotals m t
+    → AreTotals (with_header m n (Some h')) t
 relinked_totals m n h h' t some few there are =
-    let law = totals_of_change m (with_header m n (Some h')) n 0 0 (changed_header m n (Some h')) some few (omega arith) (omega arith) (λ i out. refl) in
+    let law = totals_of_change m (with_header m n (Some h')) n 0 0 (changed_header m n (Some h')) some few (omega arith) (omega arith)
+    (λ i out. refl) in
     let none = stored_nothing m n 0 0 (λ i le lt. absurd (omega (arith, lt))) in
     let none' = stored_nothing (with_header m n (Some h')) n 0 0 (λ i le lt. absurd (omega (arith, lt))) in
     let was = ap (λ (o : Option Header). meta_by o (pointers (stored_blocks m n))) there in
-    let now = ap (λ (o : Option Header). meta_by o (pointers (stored_blocks (with_header m n (Some h')) n))) (is_with_header m n (Some h')).own in
+    let now =
+    ap (λ (o : Option Header). meta_by o (pointers (stored_blocks (with_header m n (Some h')) n))) (is_with_header m n (Some h')).own in
     let same = ap (λ (is : List ℕ). 1 + pointers is) (same_list m n (Some h') 16624) in
     record {
       stored = are.stored ∙ blocks (data_in m) (data_in (with_header m n (Some h'))) _ _ law.0 none none';
-      above = are.above ∙ others (meta_in m) (meta_in (with_header m n (Some h'))) (meta_of_file m n) (meta_of_file (with_header m n (Some h')) n) law.1 (was ∙ sym same ∙ sym now);
+      above = are.above ∙ others (meta_in m) (meta_in (with_header m n (Some h'))) (meta_of_file m n)
+          (meta_of_file (with_header m n (Some h')) n) law.1 (was ∙ sym same ∙ sym now);
     }
   where
     blocks : (a b x y : ℕ) → b + x ≡ a + y → x ≡ 0 → y ≡ 0 → a ≡ b
@@ -105,23 +117,31 @@ relinked_totals m n h h' t some few there are =
     others : (a b x y : ℕ) → b + x ≡ a + y → x ≡ y → a ≡ b
     others a b x y e same = omega (arith, e, same)
 
-pub relinked_counts : (c c' : Changes) (n : ℕ) (head : headers.Header) (links : ℕ) (t : BlockTotals) → 1 ≤ n → n ≤ 4095 → SetsLinks c c' n head links → CountsRelinked c c' n head t
+pub relinked_counts : (c c' : Changes) (n : ℕ) (head : headers.Header) (links : ℕ) (t : BlockTotals) → 1 ≤ n → n ≤ 4095
+    → SetsLinks c c' n head links → CountsRelinked c c' n head t
 relinked_counts c c' n head links t some few sets m there are =
-    subst (λ (x : LogMap). AreTotals x t) (sym (sets.map m)) (relinked_totals (staged c m) n (as_header head) (as_header (relinked head links)) t some few there are)
+    subst (λ (x : LogMap). AreTotals x t) (sym (sets.map m))
+    (relinked_totals (staged c m) n (as_header head) (as_header (relinked head links)) t some few there are)
 
 -- ---- over a log
-module _ {D : Type 0} (state : D → DeviceState) (h a b h' : Held D) (c c' : Changes) (n : ℕ) (before : Measure) (old new : BlockTotals) (some : 1 ≤ n) (few : n ≤ 4095)
+module _ {D : Type 0} (state : D → DeviceState) (h a b h' : Held D) (c c' : Changes) (n : ℕ) (before : Measure) (old new : BlockTotals)
+    (some : 1 ≤ n) (few : n ≤ 4095)
     (first : Reads state h a) (next : Reads state a b) (last : Reads state b h') where
-  pub write_counts : (head : headers.Header) (at : ℕ) (w : List ℕ) (to : ℕ) → 0 < length w → at + length w ≤ 8511488 → to ≡ div_ceil (at + length w) 512 → Measures state h a c n (at / 512) to before
+  pub write_counts : (head : headers.Header) (at : ℕ) (w : List ℕ) (to : ℕ) → 0 < length w → at + length w ≤ 8511488
+      → to ≡ div_ceil (at + length w) 512 → Measures state h a c n (at / 512) to before
       → Writes state a b c c' n head at w → Remeasures state b h' c' n (at / 512) to before old new → Counts state h h' c c' old new
   write_counts head at w to long low end measured writes again =
-      counts state h a b h' c c' n (at / 512) to before old new some few (omega (arith, end, long)) (omega (arith, end, low)) first measured next last again
-      (λ k m0 m keeps is map map'. ((writes.file k m0 m keeps is).only, λ i out. writes.around m i (subst (λ (e : ℕ). (i < at / 512) ⊎ (e ≤ i)) end out)))
+      counts state h a b h' c c' n (at / 512) to before old new some few (omega (arith, end, long))
+      (omega (arith, end, low)) first measured next last again
+      (λ k m0 m keeps is map map'.
+      ((writes.file k m0 m keeps is).only, λ i out. writes.around m i (subst (λ (e : ℕ). (i < at / 512) ⊎ (e ≤ i)) end out)))
 
-  pub cut_counts : (head : headers.Header) (len : ℕ) → len ≤ 8511488 → IsNoChange c → Measures state h a c n (len / 512) 16624 before → SetsLen state a b c' n head len
+  pub cut_counts : (head : headers.Header) (len : ℕ) → len ≤ 8511488 → IsNoChange c → Measures state h a c n (len / 512) 16624 before
+      → SetsLen state a b c' n head len
       → Remeasures state b h' c' n (len / 512) 16624 before old new → Counts state h h' c c' old new
   cut_counts head len low none measured sets again =
-      counts state h a b h' c c' n (len / 512) 16624 before old new some few (omega (arith, low)) (omega arith) first measured next last again
+      counts state h a b h' c c' n (len / 512) 16624 before old new some few (omega (arith, low))
+      (omega arith) first measured next last again
       (λ k m0 m keeps is map map'. (
       let sized = sets.file k m0 m keeps is in
       let same = no_change c m none in (
@@ -132,24 +152,30 @@ module _ {D : Type 0} (state : D → DeviceState) (h a b h' : Held D) (c c' : Ch
             out,
       )))
 
-  pub remove_counts : IsNoChange c → Measures state h a c n 0 16624 before → DraftsRemoval c' n → Remeasures state b h' c' n 0 16624 before old new → Counts state h h' c c' old new
+  pub remove_counts : IsNoChange c → Measures state h a c n 0 16624 before → DraftsRemoval c' n
+      → Remeasures state b h' c' n 0 16624 before old new → Counts state h h' c c' old new
   remove_counts none measured removes again =
       counts state h a b h' c c' n 0 16624 before old new some few (omega arith) (omega arith) first measured next last again
       (λ k m0 m keeps is map map'. (
-        subst (λ (x : LogMap). IsChangedAt x n (staged c' m)) (sym (no_change c m none)) (subst (IsChangedAt m n) (sym (removes.map m)) (without_changed m n)),
-        λ i out. ⊎_elim (λ (lt : i < 0). absurd (omega (arith, lt))) (λ (high : 16624 ≤ i). same_high (staged c m) (staged c' m) n i map map' high) out,
+        subst (λ (x : LogMap). IsChangedAt x n (staged c' m)) (sym (no_change c m none))
+            (subst (IsChangedAt m n) (sym (removes.map m)) (without_changed m n)),
+        λ i out. ⊎_elim (λ (lt : i < 0). absurd (omega (arith, lt)))
+            (λ (high : 16624 ≤ i). same_high (staged c m) (staged c' m) n i map map' high) out,
       ))
 
 module _ {D : Type 0} (state : D → DeviceState) where
   -- ---- a file goes at once
-  pub gone_counts : (h a h' : Held D) (c : Changes) (n : ℕ) (before : Measure) (old new : BlockTotals) → 1 ≤ n → n ≤ 4095 → IsNoChange c → Reads state h a → Measures state h a c n 0 16624 before → Alters state a h' 0 false
+  pub gone_counts : (h a h' : Held D) (c : Changes) (n : ℕ) (before : Measure) (old new : BlockTotals) → 1 ≤ n → n ≤ 4095 → IsNoChange c
+      → Reads state h a → Measures state h a c n 0 16624 before → Alters state a h' 0 false
       → Recounts old new before (record { data_blocks = 0; meta_blocks = 0 }) → CountsGone state h h' n old new
   gone_counts h a h' c n before old new some few none first measured alters recounts k m0 m keeps is map map' are =
       let same = no_change c m none in
       let was = measured k m0 m (alters.looks.carries.kept_before keeps) is (subst IsLogMap (sym same) map) in
       let gone = without_header m n in
-      recounted m (without_file n m) n 0 16624 old new before (record { data_blocks = 0; meta_blocks = 0 }) (without_changed m n) some few (omega arith) (omega arith)
-      (λ i out. ⊎_elim (λ (lt : i < 0). absurd (omega (arith, lt))) (λ (high : 16624 ≤ i). same_high m (without_file n m) n i map map' high) out)
+      recounted m (without_file n m) n 0 16624 old new before (record { data_blocks = 0; meta_blocks = 0 }) (without_changed m n) some few
+      (omega arith) (omega arith)
+      (λ i out.
+      ⊎_elim (λ (lt : i < 0). absurd (omega (arith, lt))) (λ (high : 16624 ≤ i). same_high m (without_file n m) n i map map' high) out)
       (subst (λ (x : LogMap). HasMeasure x n 0 16624 before.data_blocks before.meta_blocks) same was)
       (no_measure (without_file n m) n 0 16624 (nothing_stored (without_file n m) n map' gone) gone) recounts are
 
@@ -184,10 +210,25 @@ module _ {D : Type 0} (state : D → DeviceState) where
   untaken_read h a reads = subst (λ (v : LogMemory). AreUntaken v.usage) (sym reads.memory)
 
   pub kept_read : (h a : Held D) → Reads state h a → IsKept state h a
-  kept_read h a reads = record { alters = alters_read h a reads; untaken = untaken_read h a reads; holds = λ k m0 m keeps is. held_still state h a k m0 m reads is }
+  kept_read h a reads = record {
+    alters = alters_read h a reads;
+    untaken = untaken_read h a reads;
+    holds = λ k m0 m keeps is. held_still state h a k m0 m reads is;
+  }
 
   pub kept_more : (h a h' : Held D) → IsLawful (state h.device) → Reads state h a → IsKept state a h' → IsKept state h h'
-  kept_more h a h' lawful reads kept = record { alters = alters_more h a h' lawful reads kept.alters; untaken = λ before. kept.untaken (untaken_read h a reads before); holds = λ k m0 m keeps is. kept.holds k m0 m keeps (held_still state h a k m0 m reads is) }
+  kept_more h a h' lawful reads kept =
+      record {
+        alters = alters_more h a h' lawful reads kept.alters;
+        untaken = λ before. kept.untaken (untaken_read h a reads before);
+        holds = λ k m0 m keeps is. kept.holds k m0 m keeps (held_still state h a k m0 m reads is);
+      }
 
-  pub removed_more : (h a h' : Held D) (n : ℕ) → IsLawful (state h.device) → Reads state h a → IsRemoved state a h' n → IsRemoved state h h' n
-  removed_more h a h' n lawful reads gone = record { alters = alters_more h a h' lawful reads gone.alters; untaken = λ before. gone.untaken (untaken_read h a reads before); holds = λ k m0 m keeps is. gone.holds k m0 m keeps (held_still state h a k m0 m reads is) }
+  pub removed_more : (h a h' : Held D) (n : ℕ) → IsLawful (state h.device) → Reads state h a → IsRemoved state a h' n
+      → IsRemoved state h h' n
+  removed_more h a h' n lawful reads gone =
+      record {
+        alters = alters_more h a h' lawful reads gone.alters;
+        untaken = λ before. gone.untaken (untaken_read h a reads before);
+        holds = λ k m0 m keeps is. gone.holds k m0 m keeps (held_still state h a k m0 m reads is);
+      }

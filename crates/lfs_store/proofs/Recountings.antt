@@ -1,7 +1,8 @@
 -- The totals of a log map in which one file changes, by its measure before and after.
 use Rattle.std.specs.Prelude.{count_by, if◌then◌else◌, nat_le}
 use Rattle.std.specs.List.{list_any, range_with_len}
-use Rattle.std.proofs.Common.{◌≡◌, ◌<◌, ◌≤◌, ◌⊎◌, ◌+◌, ◌-◌, ◌*◌, ◌^◌, ℕ, zero, suc, Bool, true, false, List, [], ◌∷◌, length, Option, Some, None, refl, sym, ◌∙◌, ap, arith}
+use Rattle.std.proofs.Common.{◌≡◌, ◌<◌, ◌≤◌, ◌⊎◌, ◌+◌, ◌-◌, ◌*◌, ◌^◌, ℕ, zero, suc, Bool, true, false, List, [], ◌∷◌, length, Option, Some}
+use Rattle.std.proofs.Common.{None, refl, sym, ◌∙◌, ap, arith}
 use Rattle.std.proofs.lemmas.List.Sums.{length-filter}
 use Rattle.lfs_model.specs.Checkpoint.{CheckpointValue}
 use Rattle.lfs_model.specs.Device.{DeviceState}
@@ -58,7 +59,8 @@ groups_most a b p n =
 
 meta_few : (o : Option Header) (is : List ℕ) → elim o [ None ↦ 0 | Some h ↦ 1 + pointers is ] ≤ 16624
 meta_few None is = omega arith
-meta_few (Some h) is = let most : pointers is ≤ 130 = groups_most (list_any (lies_in 112 240) is) (list_any (nat_le 240) is) (λ g. list_any (lies_in (240 + 128 * g) (368 + 128 * g)) is) 128 in omega (arith, most)
+meta_few (Some h) is = let most : pointers is ≤ 130 = groups_most (list_any (lies_in 112 240) is) (list_any (nat_le 240) is)
+    (λ g. list_any (lies_in (240 + 128 * g) (368 + 128 * g)) is) 128 in omega (arith, most)
 
 sum_most : (f : ℕ → ℕ) (k : ℕ) → ((j : ℕ) → f j ≤ 16624) → sum_upto f k ≤ 16624 * k
 unfolding sum_upto
@@ -73,14 +75,17 @@ meta_low m = let most = sum_most (meta_of_file m) 4095 (λ n. meta_few (m.header
 
 -- ---- one file changes
 
-replaced : (old before after new all was now total : ℕ) → Replaces old before after new → old ≡ total → before ≡ was → after ≡ now → all + was ≡ total + now → all < 2 ^ 32 → new ≡ all
+replaced : (old before after new all was now total : ℕ) → Replaces old before after new → old ≡ total → before ≡ was → after ≡ now
+    → all + was ≡ total + now → all < 2 ^ 32 → new ≡ all
 replaced old before after new all was now total replaces a b c law low =
     let is = replaces (omega (arith, a, b, c, law)) (omega (arith, a, b, c, law, low)) in
     omega (arith, is, a, b, c, law)
 
-pub recounted : (m m' : LogMap) (n from to : ℕ) (old new : BlockTotals) (before after : Measure) → IsChangedAt m n m' → 1 ≤ n → n ≤ 4095 → from ≤ to → to ≤ 16624
+pub recounted : (m m' : LogMap) (n from to : ℕ) (old new : BlockTotals) (before after : Measure) → IsChangedAt m n m' → 1 ≤ n → n ≤ 4095
+    → from ≤ to → to ≤ 16624
     → ((i : ℕ) → (i < from) ⊎ (to ≤ i) → m'.block n i ≡ m.block n i)
-    → HasMeasure m n from to before.data_blocks before.meta_blocks → HasMeasure m' n from to after.data_blocks after.meta_blocks → Recounts old new before after → AreTotals m old → AreTotals m' new
+    → HasMeasure m n from to before.data_blocks before.meta_blocks → HasMeasure m' n from to after.data_blocks after.meta_blocks
+    → Recounts old new before after → AreTotals m old → AreTotals m' new
 recounted m m' n from to old new before after changed some few order low same was now recounts are =
     let law = totals_of_change m m' n from to changed some few order low same in
     let beside = beside_same m m' n from to same in
@@ -88,15 +93,20 @@ recounted m m' n from to old new before after changed some few order low same wa
     let last = now.above in
     let all = law.1 in
     record {
-      stored = replaced old.data_blocks before.data_blocks after.data_blocks new.data_blocks (data_in m') (stored_in m n from to) (stored_in m' n from to) (data_in m) recounts.stored are.stored was.stored now.stored law.0 (data_low m');
-      above = replaced old.meta_blocks before.meta_blocks after.meta_blocks new.meta_blocks (meta_in m') before.meta_blocks after.meta_blocks (meta_in m) recounts.above are.above refl refl (omega (arith, first, last, beside, all)) (meta_low m');
+      stored = replaced old.data_blocks before.data_blocks after.data_blocks new.data_blocks (data_in m') (stored_in m n from to)
+          (stored_in m' n from to) (data_in m) recounts.stored are.stored was.stored now.stored law.0 (data_low m');
+      above = replaced old.meta_blocks before.meta_blocks after.meta_blocks new.meta_blocks (meta_in m') before.meta_blocks
+          after.meta_blocks (meta_in m) recounts.above are.above refl refl (omega (arith, first, last, beside, all)) (meta_low m');
     }
 
 -- ---- over a log
 module _ {D : Type 0} (state : D → DeviceState) where
-  pub counts : (h a b h' : Held D) (c c' : Changes) (n from to : ℕ) (before : Measure) (old new : BlockTotals) → 1 ≤ n → n ≤ 4095 → from ≤ to → to ≤ 16624
-      → Reads state h a → Measures state h a c n from to before → Reads state a b → Reads state b h' → Remeasures state b h' c' n from to before old new
-      → ((k : CheckpointValue) (m0 m : LogMap) → (state b.device).keeps_model → Holds state a k m0 m → IsLogMap (staged c m) → IsLogMap (staged c' m)
+  pub counts : (h a b h' : Held D) (c c' : Changes) (n from to : ℕ) (before : Measure) (old new : BlockTotals) → 1 ≤ n → n ≤ 4095
+      → from ≤ to → to ≤ 16624
+      → Reads state h a → Measures state h a c n from to before → Reads state a b → Reads state b h'
+      → Remeasures state b h' c' n from to before old new
+      → ((k : CheckpointValue) (m0 m : LogMap) → (state b.device).keeps_model → Holds state a k m0 m → IsLogMap (staged c m)
+      → IsLogMap (staged c' m)
       → IsChangedAt (staged c m) n (staged c' m) × ((i : ℕ) → (i < from) ⊎ (to ≤ i) → (staged c' m).block n i ≡ (staged c m).block n i))
       → Counts state h h' c c' old new
   counts h a b h' c c' n from to before old new some few order low first measured next last again changes k m0 m keeps is map map' are =

@@ -1,6 +1,7 @@
 -- Blocks of one file, one behind the other: few blocks are on their way into memory.
 use Rattle.std.specs.Int.{div_ceil}
-use Rattle.std.proofs.Common.{◌≡◌, ◌<◌, ◌≤◌, ⊎_elim, ◌+◌, ◌-◌, ◌*◌, ◌/◌, ◌&&◌, cond, nat_lt, ℕ, zero, suc, Bool, true, List, [], ◌∷◌, ◌++◌, drop, length, Some, sym, ◌∙◌, ap, ap₂, subst, arith, eq-eqb}
+use Rattle.std.proofs.Common.{◌≡◌, ◌<◌, ◌≤◌, ⊎_elim, ◌+◌, ◌-◌, ◌*◌, ◌/◌, ◌&&◌, cond, nat_lt, ℕ, zero, suc, Bool, true, List, [], ◌∷◌, ◌++◌}
+use Rattle.std.proofs.Common.{drop, length, Some, sym, ◌∙◌, ap, ap₂, subst, arith, eq-eqb}
 use Rattle.std.proofs.lemmas.Bool.{cases_lt, lt-ltb, le-ltb, cond-true, cond-false}
 use Rattle.lfs_cleaner.specs.log.memory.declared.batch.BlockEdit.{BlockEdit}
 use Rattle.lfs_cleaner.specs.log.memory.declared.changes.Changes.{Changes}
@@ -41,14 +42,16 @@ run_none n from to (e ∷ es) run =
     let at : e.index ≡ from = run.0.1 in
     (λ is. (let other : e.index ≡ to = is.1 in omega (arith, other, at, order)), run_none n (from + 1) to es run.1)
 
-run_more : (n from to : ℕ) (es : List BlockEdit) (e : BlockEdit) → IsRun n from to es → IsBlock n to e → IsRun n from (to + 1) (es ++ e ∷ [])
+run_more : (n from to : ℕ) (es : List BlockEdit) (e : BlockEdit) → IsRun n from to es → IsBlock n to e
+    → IsRun n from (to + 1) (es ++ e ∷ [])
 run_more n from to [] e run is =
     let same : from ≡ to = run in
     (subst (λ (i : ℕ). IsBlock n i e) (sym same) is, ap (λ (i : ℕ). i + 1) same)
 run_more n from to (f ∷ es) e run is = (run.0, run_more n (from + 1) to es e run.1 is)
 
 -- a run goes on where the next block is put
-pub run_goes_on : (c c' : Changes) (n from to : ℕ) → IsRun n from to c.blocks.items → PlacesBlock c c' n to → IsRun n from (to + 1) c'.blocks.items
+pub run_goes_on : (c c' : Changes) (n from to : ℕ) → IsRun n from to c.blocks.items → PlacesBlock c c' n to
+    → IsRun n from (to + 1) c'.blocks.items
 run_goes_on c c' n from to run places =
     let put = places (run_none n from to c.blocks.items run) in
     subst (IsRun n from (to + 1)) (sym put.blocks) (run_more n from to c.blocks.items put.edit run put.block)
@@ -93,11 +96,13 @@ way_beside n i a b is is' = ⊎_elim
     (λ (up : row_of i < row_of (i + 1)). let most = way_most (Some a) b in omega (arith, most, up))
     (λ (down : row_of (i + 1) ≤ row_of i).
     let order = row_up i (i + 1) (omega arith) in
-    let none : way_from (Some a) b ≡ 0 = ap (λ (t : Bool). cond {A = ℕ} t 0 3) (beside n i (i + 1) a b is is' (omega (arith, down, order))) in
+    let none : way_from (Some a) b ≡ 0 =
+    ap (λ (t : Bool). cond {A = ℕ} t 0 3) (beside n i (i + 1) a b is is' (omega (arith, down, order))) in
     omega (arith, none))
     (cases_lt (row_of i) (row_of (i + 1)))
 
-ways_behind : (n i to : ℕ) (a : BlockEdit) (es : List BlockEdit) → IsBlock n i a → IsRun n (i + 1) to es → ways_from (Some a) es ≤ 3 * (row_of (to - 1) - row_of i)
+ways_behind : (n i to : ℕ) (a : BlockEdit) (es : List BlockEdit) → IsBlock n i a → IsRun n (i + 1) to es
+    → ways_from (Some a) es ≤ 3 * (row_of (to - 1) - row_of i)
 ways_behind n i to a [] is run = let le : 0 ≤ 3 * (row_of (to - 1) - row_of i) = omega arith in le
 ways_behind n i to a (e ∷ es) is run =
     let one = way_beside n i a e is run.0 in
@@ -115,7 +120,8 @@ ways_run n from to (e ∷ es) few run =
     omega (arith, rest, near)
 
 -- ---- a write into an empty draft
-pub written_room : (c c' c'' : Changes) (n from to : ℕ) (head : Header) → IsNoChange c → c'.headers ≡ c.headers → IsRun n from to c'.blocks.items → to ≤ from + 129 → PutsHeader c' c'' n head
+pub written_room : (c c' c'' : Changes) (n from to : ℕ) (head : Header) → IsNoChange c → c'.headers ≡ c.headers
+    → IsRun n from to c'.blocks.items → to ≤ from + 129 → PutsHeader c' c'' n head
     → room_for c'' ≤ 144
 written_room c c' c'' n from to head none headers run few puts =
     let a = ap length none.headers in
@@ -124,7 +130,8 @@ written_room c c' c'' n from to head none headers run few puts =
     let same = ap (λ v. v.items) puts.blocks in
     let long = run_long n from to c'.blocks.items run in
     let longer = ap length same in
-    let most : ways c''.blocks.items ≤ 6 = subst (λ (es : List BlockEdit). ways es ≤ 6) (sym same) (ways_run n from to c'.blocks.items few run) in
+    let most : ways c''.blocks.items ≤ 6 =
+    subst (λ (es : List BlockEdit). ways es ≤ 6) (sym same) (ways_run n from to c'.blocks.items few run) in
     omega (arith, a, b, x, long, longer, few, most)
 
 -- as long as 65,536 bytes are, at most
@@ -148,7 +155,8 @@ ways_far n from to (e ∷ es) few run =
     let near = row_far from (to - 1) (omega (arith, few)) in
     omega (arith, rest, near)
 
-pub lone_room : (c c' c'' : Changes) (n from to : ℕ) (head : Header) → IsLone c → c'.headers ≡ c.headers → IsRun n from to c'.blocks.items → to ≤ from + 257 → PutsHeader c' c'' n head → room_for c'' ≤ 274
+pub lone_room : (c c' c'' : Changes) (n from to : ℕ) (head : Header) → IsLone c → c'.headers ≡ c.headers → IsRun n from to c'.blocks.items
+    → to ≤ from + 257 → PutsHeader c' c'' n head → room_for c'' ≤ 274
 lone_room c c' c'' n from to head lone headers run few puts =
     let a = lone.headers in
     let b = ap length (ap (λ v. v.items) headers) in
@@ -156,7 +164,8 @@ lone_room c c' c'' n from to head lone headers run few puts =
     let same = ap (λ v. v.items) puts.blocks in
     let long = run_long n from to c'.blocks.items run in
     let longer = ap length same in
-    let most : ways c''.blocks.items ≤ 9 = subst (λ (es : List BlockEdit). ways es ≤ 9) (sym same) (ways_far n from to c'.blocks.items few run) in
+    let most : ways c''.blocks.items ≤ 9 =
+    subst (λ (es : List BlockEdit). ways es ≤ 9) (sym same) (ways_far n from to c'.blocks.items few run) in
     omega (arith, a, b, x, long, longer, few, most)
 
 pub blocks_most : (at len : ℕ) → len ≤ 131072 → div_ceil (at + len) 512 ≤ at / 512 + 257

@@ -46,7 +46,8 @@ none_stored new long each = ⊎_elim
     (λ (empty : length (stored new) ≤ 0). nil_from_length (stored new) (omega (arith, empty)))
     (cases_lt 0 (length (stored new)))
 
-module _ (a b : LogMap) (n len : ℕ) (old new : List ℕ) (none : HasNoneBehind a n len) (holds : HoldsBlock a n (len / 512) old) (cuts : CutsTail (len % 512) old new) (long : length new ≡ 512)
+module _ (a b : LogMap) (n len : ℕ) (old new : List ℕ) (none : HasNoneBehind a n len) (holds : HoldsBlock a n (len / 512) old)
+    (cuts : CutsTail (len % 512) old new) (long : length new ≡ 512)
     (with_it : IsWithBlock a n (len / 512) (stored new) b) where
   before : CutSoFar a a n (len / 512 + 1)
   before = record { below = λ i lt. refl; gone = λ i le. none i (omega (arith, le)); only = changed_none a n; whole = λ was. was }
@@ -68,17 +69,22 @@ module _ (a b : LogMap) (n len : ℕ) (old new : List ℕ) (none : HasNoneBehind
   tail_cut : CutBlocks a b n len
   tail_cut = ⊎_elim
       (λ (odd : 0 < len % 512). cut_inside a a b n len old new odd before holds cuts long with_it)
-      (λ (even : len % 512 ≤ 0). let none_left : len % 512 ≡ 0 = omega (arith, even) in cut_between a b n len none_left (whole_gone none_left))
+      (λ (even : len % 512 ≤ 0). let none_left : len % 512 ≡ 0 = omega (arith, even) in
+      cut_between a b n len none_left (whole_gone none_left))
       (cases_lt 0 (len % 512))
 
 -- no block is behind the end of a file
-none_behind : (a : LogMap) (n : ℕ) (head : Header) (len : ℕ) → head.size ≤ 512 * (len / 512) + 512 → IsLogMap a → a.header n ≡ Some (as_header head) → HasNoneBehind a n len
+none_behind : (a : LogMap) (n : ℕ) (head : Header) (len : ℕ) → head.size ≤ 512 * (len / 512) + 512 → IsLogMap a
+    → a.header n ≡ Some (as_header head) → HasNoneBehind a n len
 none_behind a n head len last map there i lt =
-    (lengthened a a n (as_header head) (as_header (resized head (512 * (len / 512) + 512))) map there (512 * (len / 512) + 512) last refl (λ j. refl)).gone i (omega (arith, lt))
+    (lengthened a a n (as_header head) (as_header (resized head (512 * (len / 512) + 512))) map there (512 * (len / 512) + 512) last refl
+    (λ j. refl)).gone i (omega (arith, lt))
 
 module _ {D : Type 0} (state : D → DeviceState) where
-  pub clears_tail : (h h' : Held D) (c c' : Changes) (n len : ℕ) (old new : List ℕ) (found : Bool) → length old ≡ 512 → length new ≡ 512 → (IsFalse found → old ≡ zeros 512)
-      → ReadsBlock state h h' c n (len / 512) old found → CutsTail (len % 512) old new → PutsBlock c c' n (len / 512) new → ClearsTail state h h' c c' n len
+  pub clears_tail : (h h' : Held D) (c c' : Changes) (n len : ℕ) (old new : List ℕ) (found : Bool) → length old ≡ 512 → length new ≡ 512
+      → (IsFalse found → old ≡ zeros 512)
+      → ReadsBlock state h h' c n (len / 512) old found → CutsTail (len % 512) old new → PutsBlock c c' n (len / 512) new
+      → ClearsTail state h h' c c' n len
   clears_tail h h' c c' n len old new found long stays blank answer cuts puts = record {
     loss = puts.loss;
     headers = puts.headers;
@@ -88,14 +94,16 @@ module _ {D : Type 0} (state : D → DeviceState) where
     others = λ m. other_block (staged c m) (staged c' m) n (len / 512) (stored new) (with_it m);
     fits = puts.fits;
     file = λ k m0 m keeps holds none.
-        tail_cut (staged c m) (staged c' m) n len old new none (block_read (staged c m) n (len / 512) old found long blank (answer k m0 m keeps holds)) cuts stays (with_it m);
+        tail_cut (staged c m) (staged c' m) n len old new none
+        (block_read (staged c m) n (len / 512) old found long blank (answer k m0 m keeps holds)) cuts stays (with_it m);
   }
     where
       with_it : (m : LogMap) → IsWithBlock (staged c m) n (len / 512) (stored new) (staged c' m)
       with_it m = block_put (staged c m) (staged c' m) n (len / 512) (stored new) (puts.map m)
 
   -- ---- and its header says so
-  module _ (h h' : Held D) (c c' c'' : Changes) (n : ℕ) (head : Header) (len : ℕ) (less : len < head.size) (last : head.size ≤ 512 * (len / 512) + 512)
+  module _ (h h' : Held D) (c c' c'' : Changes) (n : ℕ) (head : Header) (len : ℕ) (less : len < head.size)
+      (last : head.size ≤ 512 * (len / 512) + 512)
       (clears : ClearsTail state h h' c c' n len) (puts : PutsHeader c' c'' n (resized head len)) where
     with_header_it : (m : LogMap) → IsWithHeader (staged c' m) n (Some (as_header (resized head len))) (staged c'' m)
     with_header_it m = header_put (staged c' m) (staged c'' m) n (resized head len) (puts.map m)
@@ -107,9 +115,11 @@ module _ {D : Type 0} (state : D → DeviceState) where
       within = λ none. (let low = takes.within none in omega (arith, low));
     }
 
-    cut_file : (m : LogMap) → CutBlocks (staged c m) (staged c' m) n len → SizesFile (staged c m) (staged c'' m) n head (resized head len) len
+    cut_file : (m : LogMap) → CutBlocks (staged c m) (staged c' m) n len
+        → SizesFile (staged c m) (staged c'' m) n head (resized head len) len
     cut_file m cut =
-        let done = cut_blocks_heads (staged c m) (staged c' m) (staged c'' m) n len (Some (as_header (resized head len))) cut (with_header_it m) in
+        let done =
+        cut_blocks_heads (staged c m) (staged c' m) (staged c'' m) n len (Some (as_header (resized head len))) cut (with_header_it m) in
         record {
           shorter = λ lt. cut_is_done (staged c m) (staged c'' m) n len (as_header head) (as_header (resized head len)) done refl;
           longer = λ le map there. absurd (omega (arith, less, le));
@@ -124,16 +134,23 @@ module _ {D : Type 0} (state : D → DeviceState) where
       loss = puts.loss ∙ clears.loss;
       headers = let more = puts.few in let same = ap length (ap (λ v. v.items) clears.headers) in omega (arith, more, same);
       blocks = let more = clears.blocks in let same = ap length (ap (λ v. v.items) puts.blocks) in omega (arith, more, same);
-      only = λ m. changed_twice (staged c m) (staged c' m) (staged c'' m) n (clears.only m) record { headers = (with_header_it m).others; blocks = λ k i ne. (with_header_it m).block k i; version = (with_header_it m).version };
+      only = λ m. changed_twice (staged c m) (staged c' m) (staged c'' m) n (clears.only m) record {
+        headers = (with_header_it m).others;
+        blocks = λ k i ne. (with_header_it m).block k i;
+        version = (with_header_it m).version;
+      };
       others = λ m i ne. (with_header_it m).block n i ∙ clears.others m i ne;
       header = λ m. (with_header_it m).own;
       fits = λ m fit takes. puts.fits m (clears.fits m fit (takes_tail m takes))
-          (takes_header c' m n head (resized head len) (clears.header m ∙ takes.there) refl (ap (λ (x : Loss). is_lost x (Inode n)) clears.loss ∙ takes.apart.inode) takes.header);
-      file = λ k m0 m keeps holds map there. cut_file m (clears.file k m0 m keeps holds (none_behind (staged c m) n head len last map there));
+          (takes_header c' m n head (resized head len) (clears.header m ∙ takes.there) refl
+          (ap (λ (x : Loss). is_lost x (Inode n)) clears.loss ∙ takes.apart.inode) takes.header);
+      file = λ k m0 m keeps holds map there.
+          cut_file m (clears.file k m0 m keeps holds (none_behind (staged c m) n head len last map there));
     }
 
   -- a log that is only read before and after
-  pub shrinks_around : (h a b h' : Held D) (c c' : Changes) (n : ℕ) (head : Header) (len : ℕ) → Reads state h a → Shrinks state a b c c' n head len → Reads state b h' → Shrinks state h h' c c' n head len
+  pub shrinks_around : (h a b h' : Held D) (c c' : Changes) (n : ℕ) (head : Header) (len : ℕ) → Reads state h a
+      → Shrinks state a b c c' n head len → Reads state b h' → Shrinks state h h' c c' n head len
   shrinks_around h a b h' c c' n head len first is last = record {
     loss = is.loss;
     headers = is.headers;
@@ -146,11 +163,14 @@ module _ {D : Type 0} (state : D → DeviceState) where
   }
 
   -- ---- its totals
-  pub shrink_counts : (h a b h' : Held D) (c c' : Changes) (n : ℕ) (before : Measure) (old new : BlockTotals) (head : Header) (len : ℕ) → 1 ≤ n → n ≤ 4095 → len < 8511488
-      → Reads state h a → Reads state a b → Reads state b h' → Measures state h a c n (len / 512) (len / 512 + 1) before → Shrinks state a b c c' n head len
+  pub shrink_counts : (h a b h' : Held D) (c c' : Changes) (n : ℕ) (before : Measure) (old new : BlockTotals) (head : Header) (len : ℕ)
+      → 1 ≤ n → n ≤ 4095 → len < 8511488
+      → Reads state h a → Reads state a b → Reads state b h' → Measures state h a c n (len / 512) (len / 512 + 1) before
+      → Shrinks state a b c c' n head len
       → Remeasures state b h' c' n (len / 512) (len / 512 + 1) before old new → Counts state h h' c c' old new
   shrink_counts h a b h' c c' n before old new head len some few low first next last measured is again =
-      counts state h a b h' c c' n (len / 512) (len / 512 + 1) before old new some few (omega arith) (omega (arith, low)) first measured next last again
+      counts state h a b h' c c' n (len / 512) (len / 512 + 1) before old new some few (omega arith)
+      (omega (arith, low)) first measured next last again
       (λ k m0 m keeps holds map map'. (
         is.only m,
         λ i out. is.others m i (λ e. ⊎_elim

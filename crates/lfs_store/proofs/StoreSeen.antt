@@ -1,6 +1,7 @@
 -- What calls of a store are to the layers above.
 use Rattle.std.specs.Prelude.{max, IfErr, IfOk, IsFalse, OnOk}
-use Rattle.std.proofs.Common.{◌≡◌, ◌≤◌, ◌+◌, ◌*◌, ℕ, Bool, List, Option, Some, Result, Ok, Err, length, refl, sym, ◌∙◌, ap, ap₂, subst, arith}
+use Rattle.std.proofs.Common.{◌≡◌, ◌≤◌, ◌+◌, ◌*◌, ℕ, Bool, List, Option, Some, Result, Ok, Err, length, refl, sym, ◌∙◌, ap, ap₂, subst}
+use Rattle.std.proofs.Common.{arith}
 use Rattle.lfs_model.specs.Changing.{IsWithHeader}
 use Rattle.lfs_model.specs.Cutting.{is_past}
 use Rattle.lfs_model.specs.Device.{DeviceState}
@@ -10,7 +11,8 @@ use Rattle.lfs_model.specs.Stands.{LogMap}
 use Rattle.lfs_model.specs.Tree.{slot_len}
 use Rattle.lfs_files.specs.declared.header.Header.{Header}
 use Rattle.lfs_files.specs.Files as files
-use Rattle.lfs_files.specs.Files.{FilesState, asked_by_directory, HasShrunk, HasSized, HasWritten, HoldsBlock, SizesFile, TakesShrink, TakesWrite, WritesFile}
+use Rattle.lfs_files.specs.Files.{FilesState, asked_by_directory, HasShrunk, HasSized, HasWritten, HoldsBlock, SizesFile, TakesShrink}
+use Rattle.lfs_files.specs.Files.{TakesWrite, WritesFile}
 use Rattle.lfs_files.specs.Headers.{HeaderAnswer, as_header, reformed, resized}
 use Rattle.lfs_cleaner.specs.log.memory.declared.batch.Loss.{Loss}
 use Rattle.lfs_cleaner.specs.log.memory.declared.memory.LogMemory.{LogMemory}
@@ -43,7 +45,8 @@ module _ {D : Type 0} (state : D → DeviceState) (h h' : Held D) (d d' : Draft)
 
   same_staged : held.Reads state h h' → S'.staged ≡ S.staged
   same_staged reads =
-      ap₂ (λ (x : LogMemory) (n : ℕ). record { memory = x; number = n; version = h'.version; upgraded = h'.upgraded }) reads.memory reads.number
+      ap₂ (λ (x : LogMemory) (n : ℕ). record { memory = x; number = n; version = h'.version; upgraded = h'.upgraded }) reads.memory
+      reads.number
       ∙ ap₂ (λ (n : ℕ) (b : Bool). record { memory = h.memory; number = h.number; version = n; upgraded = b }) reads.version reads.upgraded
 
   -- ---- reading
@@ -73,7 +76,8 @@ module _ {D : Type 0} (state : D → DeviceState) (h h' : Held D) (d d' : Draft)
   pub seen_fault : IsReadFault state h h' → files.IsFault S S'
   seen_fault failed m m' keeps is = failed is.checkpoint is.acknowledged m keeps is.holds
 
-  pub seen_fault_by : {T E : Type 0} (P : E → Type 0) (r : Result T E) → IfErr r (λ e. P e → IsReadFault state h h') → IfErr r (λ e. P e → files.IsFault S S')
+  pub seen_fault_by : {T E : Type 0} (P : E → Type 0) (r : Result T E) → IfErr r (λ e. P e → IsReadFault state h h')
+      → IfErr r (λ e. P e → files.IsFault S S')
   seen_fault_by P (Ok x) failed = record {}
   seen_fault_by P (Err e) failed = λ other. seen_fault (failed other)
 
@@ -87,7 +91,8 @@ module _ {D : Type 0} (state : D → DeviceState) (h h' : Held D) (d d' : Draft)
       subst (λ (x : LogMap). HoldsBlock x n i out) (sym is.draft)
       (block_read (staged d.changes m) n i out stored long blank (answer is.checkpoint is.acknowledged m keeps is.holds))
 
-  pub seen_block_then : {E : Type 0} (n i : ℕ) (out : List ℕ) (r : Result Bool E) → length out ≡ 512 → IfOk r (λ stored. IsFalse stored → out ≡ zeros 512)
+  pub seen_block_then : {E : Type 0} (n i : ℕ) (out : List ℕ) (r : Result Bool E) → length out ≡ 512
+      → IfOk r (λ stored. IsFalse stored → out ≡ zeros 512)
       → IfOk r (ReadsBlock state h h' d.changes n i out) → OnOk r (files.TellsBlock S S' n i out)
   seen_block_then n i out (Ok stored) long blank answer = seen_block n i out stored long blank answer
   seen_block_then n i out (Err e) long blank answer = record {}
@@ -108,7 +113,8 @@ module _ {D : Type 0} (state : D → DeviceState) (h h' : Held D) (d d' : Draft)
       (subst (λ (x : LogMap). files.AreCounted (staged d.changes m) (counted_of u) → files.AreCounted x (counted_of u')) (sym has'.draft)
       (is has.checkpoint has.acknowledged m keeps has.holds (subst IsLogMap has.draft whole) (subst IsLogMap has'.draft whole')))
 
-  pub seen_written : (n : ℕ) (head : Header) (at : ℕ) (w : List ℕ) → held.Reads state h h' → writing.Writes state h h' d.changes d'.changes n head at w → files.Writes S S' n head at w
+  pub seen_written : (n : ℕ) (head : Header) (at : ℕ) (w : List ℕ) → held.Reads state h h'
+      → writing.Writes state h h' d.changes d'.changes n head at w → files.Writes S S' n head at w
   seen_written n head at w reads is = record {
     lost = λ y. ap (λ (x : Loss). is_lost x y) is.loss;
     headers = is.headers;
@@ -127,23 +133,31 @@ module _ {D : Type 0} (state : D → DeviceState) (h h' : Held D) (d d' : Draft)
         holds = held_still state h h' has.checkpoint has.acknowledged m reads has.holds;
         draft = refl;
       };
-      file = subst (λ (x : LogMap). WritesFile x (staged d'.changes m) n head (resized head (max head.size (at + length w))) at w) (sym has.draft)
+      file = subst (λ (x : LogMap). WritesFile x (staged d'.changes m) n head (resized head (max head.size (at + length w))) at w)
+          (sym has.draft)
           (is.file has.checkpoint has.acknowledged m keeps has.holds);
       around = λ i out. is.around m i out ∙ ap (λ (x : LogMap). x.block n i) (sym has.draft);
     };
   }
 
-  pub seen_asked : (w : List ℕ) → (IsLone d.changes → length w ≤ 1024 * slot_len 1 → room_for d'.changes ≤ asked_by_directory) → files.IsLoneWrite S w → S'.asked ≤ asked_by_directory
-  seen_asked w asked lone = asked record { headers = lone.headers; blocks = let none = lone.blocks in none_left d.changes.blocks.items (omega (arith, none)) } lone.few
+  pub seen_asked : (w : List ℕ) → (IsLone d.changes → length w ≤ 1024 * slot_len 1 → room_for d'.changes ≤ asked_by_directory)
+      → files.IsLoneWrite S w → S'.asked ≤ asked_by_directory
+  seen_asked w asked lone = asked record {
+    headers = lone.headers;
+    blocks = let none = lone.blocks in none_left d.changes.blocks.items (omega (arith, none));
+  } lone.few
 
-  pub seen_reformed : (n : ℕ) (head : Header) (form size : ℕ) → held.Reads state h h' → PutsHeader d.changes d'.changes n (reformed head form size) → files.Reforms S S' n head form size
+  pub seen_reformed : (n : ℕ) (head : Header) (form size : ℕ) → held.Reads state h h'
+      → PutsHeader d.changes d'.changes n (reformed head form size) → files.Reforms S S' n head form size
   seen_reformed n head form size reads is = record {
     lost = λ y. ap (λ (x : Loss). is_lost x y) is.loss;
     headers = is.few;
     blocks = ap length (ap (λ v. v.items) is.blocks);
-    asked = λ none empty. room_few d'.changes 1 0 (let few = is.few in omega (arith, few, none)) (let same = ap length (ap (λ v. v.items) is.blocks) in omega (arith, same, empty));
+    asked = λ none empty. room_few d'.changes 1 0 (let few = is.few in omega (arith, few, none))
+        (let same = ap length (ap (λ v. v.items) is.blocks) in omega (arith, same, empty));
     fits = λ m m' has fits takes. is.fits m fits
-        (takes_header d.changes m n head (reformed head form size) (ap (λ (x : LogMap). x.header n) (sym has.draft) ∙ takes.there) refl takes.apart.inode takes.header);
+        (takes_header d.changes m n head (reformed head form size) (ap (λ (x : LogMap). x.header n) (sym has.draft) ∙ takes.there) refl
+        takes.apart.inode takes.header);
     file = λ m m' has. record {
       map = staged d'.changes m;
       has = record {
@@ -157,14 +171,17 @@ module _ {D : Type 0} (state : D → DeviceState) (h h' : Held D) (d d' : Draft)
     };
   }
 
-  pub seen_counts_reformed : (n : ℕ) (head : Header) (form size : ℕ) → 1 ≤ n → n ≤ 4095 → u' ≡ u → PutsHeader d.changes d'.changes n (reformed head form size) → files.CountsReformed S S' n head
+  pub seen_counts_reformed : (n : ℕ) (head : Header) (form size : ℕ) → 1 ≤ n → n ≤ 4095 → u' ≡ u
+      → PutsHeader d.changes d'.changes n (reformed head form size) → files.CountsReformed S S' n head
   seen_counts_reformed n head form size some few same is m a b has has' there are =
       let was : AreTotals (staged d.changes m) u = subst (λ (x : LogMap). AreTotals x u) has.draft are in
       let at : (staged d.changes m).header n ≡ Some (as_header head) = ap (λ (x : LogMap). x.header n) (sym has.draft) ∙ there in
-      let now : AreTotals (staged d'.changes m) u = subst (λ (x : LogMap). AreTotals x u) (sym (is.map m)) (relinked_totals (staged d.changes m) n (as_header head) (as_header (reformed head form size)) u some few at was) in
+      let now : AreTotals (staged d'.changes m) u = subst (λ (x : LogMap). AreTotals x u) (sym (is.map m))
+      (relinked_totals (staged d.changes m) n (as_header head) (as_header (reformed head form size)) u some few at was) in
       subst (λ (t : BlockTotals). AreTotals b t) (sym same) (subst (λ (x : LogMap). AreTotals x u) (sym has'.draft) now)
 
-  pub seen_shrunk : (n : ℕ) (head : Header) (len : ℕ) → held.Reads state h h' → shrinking.Shrinks state h h' d.changes d'.changes n head len → files.Shrinks S S' n head len
+  pub seen_shrunk : (n : ℕ) (head : Header) (len : ℕ) → held.Reads state h h' → shrinking.Shrinks state h h' d.changes d'.changes n head len
+      → files.Shrinks S S' n head len
   seen_shrunk n head len reads is = record {
     lost = λ y. ap (λ (x : Loss). is_lost x y) is.loss;
     headers = is.headers;
@@ -185,11 +202,13 @@ module _ {D : Type 0} (state : D → DeviceState) (h h' : Held D) (d d' : Draft)
       };
       header = is.header m;
       file = λ there. subst (λ (x : LogMap). SizesFile x (staged d'.changes m) n head (resized head len) len) (sym has.draft)
-          (is.file has.checkpoint has.acknowledged m keeps has.holds (subst IsLogMap has.draft there.map) (ap (λ (x : LogMap). x.header n) (sym has.draft) ∙ there.there));
+          (is.file has.checkpoint has.acknowledged m keeps has.holds (subst IsLogMap has.draft there.map)
+          (ap (λ (x : LogMap). x.header n) (sym has.draft) ∙ there.there));
     };
   }
 
-  pub seen_sized : (n : ℕ) (head : Header) (len : ℕ) → IsNoChange d.changes → held.Reads state h h' → writing.SetsLen state h h' d'.changes n head len → files.SetsLen S S' n head len
+  pub seen_sized : (n : ℕ) (head : Header) (len : ℕ) → IsNoChange d.changes → held.Reads state h h'
+      → writing.SetsLen state h h' d'.changes n head len → files.SetsLen S S' n head len
   seen_sized n head len none reads is = record {
     cut = λ less y. let from = is.lost less in
         ap (λ (x : Loss). is_lost x y) from.loss ∙ ap₂ (λ (k first : ℕ). is_past k first y) from.number from.start;

@@ -1,5 +1,6 @@
 -- The totals of a log map, when one file changes, and over its tree.
-use Rattle.std.proofs.Common.{◌≡◌, ◌<◌, ◌≤◌, ◌⊎◌, ⊎_elim, ◌+◌, ◌-◌, ℕ, zero, suc, List, length, Option, Some, None, refl, ap, ap₂, arith, inl, inr, nat_lt}
+use Rattle.std.proofs.Common.{◌≡◌, ◌<◌, ◌≤◌, ◌⊎◌, ⊎_elim, ◌+◌, ◌-◌, ℕ, zero, suc, List, length, Option, Some, None, refl, ap, ap₂, arith}
+use Rattle.std.proofs.Common.{inl, inr, nat_lt}
 use Rattle.std.proofs.lemmas.Bool.{cases_eq}
 use Rattle.lfs_model.specs.Entry.{Header}
 use Rattle.lfs_model.specs.Need.{pointers}
@@ -39,9 +40,11 @@ pub stored_split : (m : LogMap) (n a b c : ℕ) → a ≤ b → b ≤ c → stor
 unfolding stored_in
 stored_split m n a b c low high = passing_split (is_stored m n) a (b - a) (c - b) b (c - a) (omega (arith, low)) (omega (arith, low, high))
 
-pub stored_same : (m m' : LogMap) (n a b : ℕ) → ((i : ℕ) → a ≤ i → i < b → m'.block n i ≡ m.block n i) → stored_in m' n a b ≡ stored_in m n a b
+pub stored_same : (m m' : LogMap) (n a b : ℕ) → ((i : ℕ) → a ≤ i → i < b → m'.block n i ≡ m.block n i)
+    → stored_in m' n a b ≡ stored_in m n a b
 unfolding stored_in
-stored_same m m' n a b same = passing_same (is_stored m' n) (is_stored m n) a (b - a) (λ i le lt. ap (λ (x : List ℕ). nat_lt 0 (length x)) (same i le (omega (arith, lt, le))))
+stored_same m m' n a b same = passing_same (is_stored m' n) (is_stored m n) a (b - a)
+    (λ i le lt. ap (λ (x : List ℕ). nat_lt 0 (length x)) (same i le (omega (arith, lt, le))))
 
 pub stored_all : (m : LogMap) (n end : ℕ) → length (stored_below m n end) ≡ stored_in m n 0 end
 unfolding stored_in stored_below
@@ -49,7 +52,8 @@ stored_all m n end = ap (λ (e : ℕ). passing (is_stored m n) 0 e) (omega arith
 
 list_same : (m m' : LogMap) (n end : ℕ) → ((i : ℕ) → m'.block n i ≡ m.block n i) → stored_below m' n end ≡ stored_below m n end
 unfolding stored_below
-list_same m m' n end same = filter_same (is_stored m' n) (is_stored m n) 0 end (λ i le lt. ap (λ (x : List ℕ). nat_lt 0 (length x)) (same i))
+list_same m m' n end same =
+    filter_same (is_stored m' n) (is_stored m n) 0 end (λ i le lt. ap (λ (x : List ℕ). nat_lt 0 (length x)) (same i))
 
 -- only those of a range change
 stored_change : (m m' : LogMap) (n from to end : ℕ) → from ≤ to → to ≤ end → ((i : ℕ) → (i < from) ⊎ (to ≤ i) → m'.block n i ≡ m.block n i)
@@ -81,7 +85,8 @@ module _ (m m' : LogMap) (n : ℕ) (is : IsChangedAt m n m') where
   meta_elsewhere j ne = ap₂ meta_by (is.headers j ne) (list_same m m' j 16624 (λ i. is.blocks j i ne))
 
   data_change : (k from to end : ℕ) → 1 ≤ n → n ≤ k → from ≤ to → to ≤ end → ((i : ℕ) → (i < from) ⊎ (to ≤ i) → m'.block n i ≡ m.block n i)
-      → sum_upto (λ j. length (stored_below m' j end)) k + stored_in m n from to ≡ sum_upto (λ j. length (stored_below m j end)) k + stored_in m' n from to
+      → sum_upto (λ j. length (stored_below m' j end)) k + stored_in m n from to ≡ sum_upto (λ j. length (stored_below m j end)) k
+      + stored_in m' n from to
   data_change k from to end some few order low same =
       let own = stored_change m m' n from to end order low same in
       let all = sum_changed (λ j. length (stored_below m j end)) (λ j. length (stored_below m' j end)) n k some few (data_elsewhere end) in

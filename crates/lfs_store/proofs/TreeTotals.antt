@@ -73,7 +73,8 @@ module _ (m : LogMap) (f : Node → ℕ) (w : ℕ → ℕ) where
     tree_sum = all_nodes 4095
 
 -- ---- what a number adds
-module _ (m : LogMap) (is : IsLogMap m) (long : (n : ℕ) → AreLong m n) (formed : (n : ℕ) (h : Header) → m.header n ≡ Some h → h.kind ≡ kind.Directory → IsDirectory m n h) where
+module _ (m : LogMap) (is : IsLogMap m) (long : (n : ℕ) → AreLong m n)
+    (formed : (n : ℕ) (h : Header) → m.header n ≡ Some h → h.kind ≡ kind.Directory → IsDirectory m n h) where
   costs : (n : ℕ) (h : Header) → m.header n ≡ Some h → HasCosts (node_by m h.kind n h) (stored_blocks m n)
   costs n h at = object_costs m n h is (long n) at (formed n h at)
 
@@ -83,7 +84,8 @@ module _ (m : LogMap) (is : IsLogMap m) (long : (n : ℕ) → AreLong m n) (form
 
   meta_each : (n : ℕ) (o : Option Header) → m.header n ≡ o → weighs m meta_of (meta_of_file m) (node_of m n o) ≡ meta_of_file m n
   meta_each n None at = sym (ap (λ (o : Option Header). elim o [ None ↦ 0 | Some h ↦ 1 + pointers (stored_blocks m n) ]) at)
-  meta_each n (Some h) at = (costs n h at).above ∙ sym (ap (λ (o : Option Header). elim o [ None ↦ 0 | Some h ↦ 1 + pointers (stored_blocks m n) ]) at)
+  meta_each n (Some h) at = (costs n h at).above
+      ∙ sym (ap (λ (o : Option Header). elim o [ None ↦ 0 | Some h ↦ 1 + pointers (stored_blocks m n) ]) at)
 
 pub totals_of_tree : TotalsOfTree
 totals_of_tree m is long formed = (

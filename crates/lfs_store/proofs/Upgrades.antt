@@ -14,7 +14,8 @@ use Rattle.lfs_store.specs.Drafting.{LosesOnly}
 use Rattle.lfs_store.specs.Making.{DraftsUpgrade}
 use Rattle.lfs_store.specs.Recounting.{AreTotals, CountsUpgraded}
 
-pub upgrades : (c c' : Changes) → IsNoChange c → c'.headers ≡ c.headers → c'.blocks ≡ c.blocks → LosesOnly c' FirstVersion → DraftsUpgrade c'
+pub upgrades : (c c' : Changes) → IsNoChange c → c'.headers ≡ c.headers → c'.blocks ≡ c.blocks → LosesOnly c' FirstVersion
+    → DraftsUpgrade c'
 upgrades c c' none headers blocks only = record {
   map = only.map;
   fits = λ m. only.fits m tt;
@@ -31,7 +32,9 @@ data_raised : (m : LogMap) → data_in (raised true m) ≡ data_in m
 data_raised m = ap (λ (f : ℕ → ℕ). sum_upto f 4095) (fun_ext (λ n. ap length (raised_list m n 16624)))
 
 meta_raised : (m : LogMap) → meta_in (raised true m) ≡ meta_in m
-meta_raised m = ap (λ (f : ℕ → ℕ). sum_upto f 4095) (fun_ext (λ n. ap (λ (is : List ℕ). elim (m.header n) [ None ↦ 0 | Some h ↦ 1 + pointers is ]) (raised_list m n 16624)))
+meta_raised m = ap (λ (f : ℕ → ℕ). sum_upto f 4095)
+    (fun_ext (λ n. ap (λ (is : List ℕ). elim (m.header n) [ None ↦ 0 | Some h ↦ 1 + pointers is ]) (raised_list m n 16624)))
 
 pub counts_upgraded : (c : Changes) → DraftsUpgrade c → CountsUpgraded c
-counts_upgraded c is m t are = subst (λ (x : LogMap). AreTotals x t) (sym (is.map m)) record { stored = are.stored ∙ sym (data_raised m); above = are.above ∙ sym (meta_raised m) }
+counts_upgraded c is m t are = subst (λ (x : LogMap). AreTotals x t)
+    (sym (is.map m)) record { stored = are.stored ∙ sym (data_raised m); above = are.above ∙ sym (meta_raised m) }

@@ -1,7 +1,8 @@
 -- Bytes written to a file, block by block, in a draft over a log.
 use Rattle.std.specs.Prelude.{slice_index, IsFalse, max}
 use Rattle.std.specs.Int.{div_ceil}
-use Rattle.std.proofs.Common.{◌≡◌, ◌⊎◌, ⊎_elim, inl, inr, ◌<◌, ◌≤◌, ◌+◌, ◌-◌, ◌/◌, ◌==◌, ℕ, Bool, true, false, List, length, Some, None, refl, sym, ◌∙◌, ap, subst, arith}
+use Rattle.std.proofs.Common.{◌≡◌, ◌⊎◌, ⊎_elim, inl, inr, ◌<◌, ◌≤◌, ◌+◌, ◌-◌, ◌/◌, ◌==◌, ℕ, Bool, true, false, List, length, Some, None}
+use Rattle.std.proofs.Common.{refl, sym, ◌∙◌, ap, subst, arith}
 use Rattle.lfs_model.specs.Changing.{IsWithBlock, IsWithHeader}
 use Rattle.lfs_model.specs.Checkpoint.{CheckpointValue}
 use Rattle.lfs_model.specs.Device.{DeviceState, IsLawful}
@@ -35,9 +36,13 @@ zero_byte : (k : ℕ) → slice_index (zeros 512) k ≡ 0
 unfolding zeros
 zero_byte k = get_or-zeros 512 k
 
-pub block_read : (m : LogMap) (n i : ℕ) (out : List ℕ) (found : Bool) → length out ≡ 512 → (IsFalse found → out ≡ zeros 512) → BlockAnswer m n i out found → HoldsBlock m n i out
+pub block_read : (m : LogMap) (n i : ℕ) (out : List ℕ) (found : Bool) → length out ≡ 512 → (IsFalse found → out ≡ zeros 512)
+    → BlockAnswer m n i out found → HoldsBlock m n i out
 block_read m n i out true long blank is = record { long = long; bytes = λ k. ap (λ (b : List ℕ). slice_index b k) (sym is) }
-block_read m n i out false long blank is = record { long = long; bytes = λ k. ap (λ (b : List ℕ). slice_index b k) (blank refl) ∙ zero_byte k ∙ ap (λ (b : List ℕ). slice_index b k) (sym is) }
+block_read m n i out false long blank is = record {
+  long = long;
+  bytes = λ k. ap (λ (b : List ℕ). slice_index b k) (blank refl) ∙ zero_byte k ∙ ap (λ (b : List ℕ). slice_index b k) (sym is);
+}
 
 pub block_put : (a b : LogMap) (n i : ℕ) (bytes : List ℕ) → b ≡ with_block a n i bytes → IsWithBlock a n i bytes b
 block_put a b n i bytes is = subst (IsWithBlock a n i bytes) (sym is) (is_with_block a n i bytes)
@@ -48,7 +53,8 @@ header_put a b n h is = subst (IsWithHeader a n (Some (as_header h))) (sym is) (
 -- ---- what is put fits
 
 -- a draft with the same loss, and the same header of the file, takes a block
-takes_block : (c c' : Changes) (m : LogMap) (n i : ℕ) → c'.loss ≡ c.loss → (staged c' m).header n ≡ (staged c m).header n → HasInode (staged c m) n → IsApart c.loss n → IsWithin m n i → TakesBlock c' m n i
+takes_block : (c c' : Changes) (m : LogMap) (n i : ℕ) → c'.loss ≡ c.loss → (staged c' m).header n ≡ (staged c m).header n
+    → HasInode (staged c m) n → IsApart c.loss n → IsWithin m n i → TakesBlock c' m n i
 takes_block c c' m n i loss same there apart within = record {
   there = (there.0, same ∙ there.1);
   apart = ap (λ (x : Loss). is_lost x (parent (Data n i))) loss ∙ apart.above i;
@@ -56,20 +62,24 @@ takes_block c c' m n i loss same there apart within = record {
 }
 
 -- and a header that has a name exactly where the file had one
-pub takes_header : (c : Changes) (m : LogMap) (n : ℕ) (head head' : Header) → (staged c m).header n ≡ Some (as_header head) → (head'.links == 0) ≡ (head.links == 0) → is_lost c.loss (Inode n) ≡ false
+pub takes_header : (c : Changes) (m : LogMap) (n : ℕ) (head head' : Header) → (staged c m).header n ≡ Some (as_header head)
+    → (head'.links == 0) ≡ (head.links == 0) → is_lost c.loss (Inode n) ≡ false
     → FitsHeader head'.kind head'.form head'.links head'.size → TakesHeader c m n head'
-takes_header c m n head head' there name apart fits = record { header = fits; name = λ has. name ∙ sym (ap is_unlinked there); apart = apart }
+takes_header c m n head head' there name apart fits =
+    record { header = fits; name = λ has. name ∙ sym (ap is_unlinked there); apart = apart }
 
 module _ {D : Type 0} (state : D → DeviceState) where
   -- ---- one block
   pub block_written : (h h' : Held D) (c c' : Changes) (n index at : ℕ) (w old new : List ℕ) → length new ≡ 512
-      → ReadsBeneath state h h' c n index at w old → BlockOverlays at w index old new → PutsBlock c c' n index new → WritesBlock state h h' c c' n index at w
+      → ReadsBeneath state h h' c n index at w old → BlockOverlays at w index old new → PutsBlock c c' n index new
+      → WritesBlock state h h' c c' n index at w
   block_written h h' c c' n index at w old new stays beneath over puts = record {
     few = puts.few;
     headers = puts.headers;
     loss = puts.loss;
     header = λ m. ap (λ (a : LogMap). a.header n) (puts.map m);
-    others = λ m i ne. other_block (staged c m) (staged c' m) n index (stored new) (block_put (staged c m) (staged c' m) n index (stored new) (puts.map m)) i ne;
+    others = λ m i ne. other_block (staged c m) (staged c' m) n index (stored new)
+        (block_put (staged c m) (staged c' m) n index (stored new) (puts.map m)) i ne;
     fits = puts.fits;
     goes_on = λ k m0 m a keeps is far.
         write_goes_on a (staged c m) (staged c' m) n at index w old new far (beneath k m0 m keeps is) over stays
@@ -77,9 +87,11 @@ module _ {D : Type 0} (state : D → DeviceState) where
   }
 
   -- a block that is read is what bytes are laid over
-  pub read_beneath : (h h' : Held D) (c : Changes) (n index at : ℕ) (w old : List ℕ) (found : Bool) → length old ≡ 512 → (IsFalse found → old ≡ zeros 512)
+  pub read_beneath : (h h' : Held D) (c : Changes) (n index at : ℕ) (w old : List ℕ) (found : Bool) → length old ≡ 512
+      → (IsFalse found → old ≡ zeros 512)
       → ReadsBlock state h h' c n index old found → ReadsBeneath state h h' c n index at w old
-  read_beneath h h' c n index at w old found long blank answer k m0 m keeps is = inl (block_read (staged c m) n index old found long blank (answer k m0 m keeps is))
+  read_beneath h h' c n index at w old found long blank answer k m0 m keeps is =
+      inl (block_read (staged c m) n index old found long blank (answer k m0 m keeps is))
 
   -- ---- the blocks up to here
   pub record WrittenUpTo (h h' : Held D) (c c' : Changes) (n at : ℕ) (w : List ℕ) (index : ℕ) : Type 0 where
@@ -89,13 +101,25 @@ module _ {D : Type 0} (state : D → DeviceState) where
     pub few : length c'.blocks.items ≤ length c.blocks.items + (index - at / 512)
     pub header : (m : LogMap) → (staged c' m).header n ≡ (staged c m).header n
     pub around : (m : LogMap) (i : ℕ) → (i < at / 512) ⊎ (index ≤ i) → (staged c' m).block n i ≡ (staged c m).block n i
-    pub fits : (m : LogMap) → FitsBatch m c → HasInode (staged c m) n → IsApart c.loss n → (m.header n ≡ None → index ≤ 112) → FitsBatch m c'
-    pub far : (k : CheckpointValue) (m0 m : LogMap) → (state h'.device).keeps_model → Holds state h k m0 m → WriteSoFar (staged c m) (staged c' m) n at w index
+    pub fits : (m : LogMap) → FitsBatch m c → HasInode (staged c m) n → IsApart c.loss n → (m.header n ≡ None → index ≤ 112)
+        → FitsBatch m c'
+    pub far : (k : CheckpointValue) (m0 m : LogMap) → (state h'.device).keeps_model → Holds state h k m0 m
+        → WriteSoFar (staged c m) (staged c' m) n at w index
 
   pub written_none : (h : Held D) (c : Changes) (n at : ℕ) (w : List ℕ) → Reads state h h → WrittenUpTo h h c c n at w (at / 512)
-  written_none h c n at w reads = record { reads = reads; loss = refl; headers = refl; few = omega arith; header = λ m. refl; around = λ m i out. refl; fits = λ m fit there apart within. fit; far = λ k m0 m keeps is. write_begins (staged c m) n at w }
+  written_none h c n at w reads = record {
+    reads = reads;
+    loss = refl;
+    headers = refl;
+    few = omega arith;
+    header = λ m. refl;
+    around = λ m i out. refl;
+    fits = λ m fit there apart within. fit;
+    far = λ k m0 m keeps is. write_begins (staged c m) n at w;
+  }
 
-  pub written_more : (h h' h'' : Held D) (c c' c'' : Changes) (n at : ℕ) (w : List ℕ) (index : ℕ) → IsLawful (state h.device) → at / 512 ≤ index → WrittenUpTo h h' c c' n at w index → Reads state h' h''
+  pub written_more : (h h' h'' : Held D) (c c' c'' : Changes) (n at : ℕ) (w : List ℕ) (index : ℕ) → IsLawful (state h.device)
+      → at / 512 ≤ index → WrittenUpTo h h' c c' n at w index → Reads state h' h''
       → WritesBlock state h' h'' c' c'' n index at w → WrittenUpTo h h'' c c'' n at w (index + 1)
   written_more h h' h'' c c' c'' n at w index lawful le was reads more = record {
     reads = reads_more state h h' h'' lawful was.reads reads;
@@ -110,17 +134,21 @@ module _ {D : Type 0} (state : D → DeviceState) where
     fits = λ m fit there apart within.
         more.fits m (was.fits m fit there apart (λ none. (let few = within none in omega (arith, few))))
         (takes_block c c' m n index was.loss (was.header m) there apart (λ none. (let few = within none in omega (arith, few))));
-    far = λ k m0 m keeps is. more.goes_on k m0 m (staged c m) keeps (held_still state h h' k m0 m was.reads is) (was.far k m0 m (reads.looks.carries.kept_before keeps) is);
+    far = λ k m0 m keeps is. more.goes_on k m0 m (staged c m) keeps (held_still state h h' k m0 m was.reads is)
+        (was.far k m0 m (reads.looks.carries.kept_before keeps) is);
   }
 
   -- ---- all of them, and the header
-  pub written : (h h' : Held D) (c c' c'' : Changes) (n : ℕ) (head : Header) (at : ℕ) (w : List ℕ) (index : ℕ) → 0 < length w → at / 512 ≤ index → index ≡ div_ceil (at + length w) 512
-      → WrittenUpTo h h' c c' n at w index → PutsHeader c' c'' n (resized head (max head.size (at + length w))) → Writes state h h' c c'' n head at w
+  pub written : (h h' : Held D) (c c' c'' : Changes) (n : ℕ) (head : Header) (at : ℕ) (w : List ℕ) (index : ℕ) → 0 < length w
+      → at / 512 ≤ index → index ≡ div_ceil (at + length w) 512
+      → WrittenUpTo h h' c c' n at w index → PutsHeader c' c'' n (resized head (max head.size (at + length w)))
+      → Writes state h h' c c'' n head at w
   written h h' c c' c'' n head at w index some le end was puts = record {
     loss = puts.loss ∙ was.loss;
     headers = let x = puts.few in let same = ap length (ap (λ v. v.items) was.headers) in omega (arith, x, same);
     blocks = let x = was.few in let same = ap length (ap (λ v. v.items) puts.blocks) in omega (arith, x, same, end);
-    around = λ m i out. ap (λ (a : LogMap). a.block n i) (puts.map m) ∙ was.around m i (subst (λ (e : ℕ). (i < at / 512) ⊎ (e ≤ i)) (sym end) out);
+    around = λ m i out. ap (λ (a : LogMap). a.block n i) (puts.map m)
+        ∙ was.around m i (subst (λ (e : ℕ). (i < at / 512) ⊎ (e ≤ i)) (sym end) out);
     fits = fits;
     file = λ k m0 m keeps is. file k m0 m (was.far k m0 m keeps is);
   }
@@ -129,24 +157,28 @@ module _ {D : Type 0} (state : D → DeviceState) where
       fits m fit takes =
           let few : m.header n ≡ None → index ≤ 112 = λ none. (let low = takes.within none in omega (arith, low, end)) in
           puts.fits m (was.fits m fit (as_header head, takes.there) takes.apart few)
-          (takes_header c' m n head (resized head (max head.size (at + length w))) (was.header m ∙ takes.there) refl (ap (λ (x : Loss). is_lost x (Inode n)) was.loss ∙ takes.apart.inode) takes.header)
+          (takes_header c' m n head (resized head (max head.size (at + length w))) (was.header m ∙ takes.there) refl
+          (ap (λ (x : Loss). is_lost x (Inode n)) was.loss ∙ takes.apart.inode) takes.header)
 
       head' : Header
       head' = resized head (max head.size (at + length w))
 
-      file : (k : CheckpointValue) (m0 m : LogMap) → WriteSoFar (staged c m) (staged c' m) n at w index → WritesFile (staged c m) (staged c'' m) n head head' at w
+      file : (k : CheckpointValue) (m0 m : LogMap) → WriteSoFar (staged c m) (staged c' m) n at w index
+          → WritesFile (staged c m) (staged c'' m) n head head' at w
       file k m0 m far =
           let with_it = header_put (staged c' m) (staged c'' m) n head' (puts.map m) in
           let done = write_heads (staged c m) (staged c' m) (staged c'' m) n at index w (Some (as_header head')) far with_it in
           record {
-            bytes = write_is_done (staged c m) (staged c'' m) n at index w (as_header head) (as_header head') done (last_block (at + length w) index (omega (arith, end))) some refl;
+            bytes = write_is_done (staged c m) (staged c'' m) n at index w (as_header head) (as_header head') done
+                (last_block (at + length w) index (omega (arith, end))) some refl;
             only = done.only;
             whole = done.whole;
             header = with_it.own;
           }
 
   -- a log that is only read before and after
-  pub writes_around : (h a b h' : Held D) (c c' : Changes) (n : ℕ) (head : Header) (at : ℕ) (w : List ℕ) → Reads state h a → Writes state a b c c' n head at w → Reads state b h' → Writes state h h' c c' n head at w
+  pub writes_around : (h a b h' : Held D) (c c' : Changes) (n : ℕ) (head : Header) (at : ℕ) (w : List ℕ) → Reads state h a
+      → Writes state a b c c' n head at w → Reads state b h' → Writes state h h' c c' n head at w
   writes_around h a b h' c c' n head at w first writes last = record {
     loss = writes.loss;
     headers = writes.headers;

@@ -63,11 +63,13 @@ module _ {D : Type 0} (state : D → DeviceState) where
 
   -- a mount gives the log map that the device stands for, which is saved
   abbrev pub MountsStore : D → Held D → Bool → Type 0
-  MountsStore d h saved = (m : LogMap) → (state h.device).keeps_model → (is : StandsLog (state d).content m) → Stores h saved is.checkpoint m m
+  MountsStore d h saved = (m : LogMap) → (state h.device).keeps_model → (is : StandsLog (state d).content m)
+      → Stores h saved is.checkpoint m m
 
   -- a stop at any moment leaves what was acknowledged, or the map of the store without its files of no links, on as many segments
   abbrev pub LeavesEither : Held D → Bool → Held D → Type 0
-  LeavesEither h saved h' = (k : CheckpointValue) (m0 m : LogMap) → (state h'.device).keeps_model → Stores h saved k m0 m → IsLogMap (dropped m)
+  LeavesEither h saved h' = (k : CheckpointValue) (m0 m : LogMap) → (state h'.device).keeps_model → Stores h saved k m0 m
+      → IsLogMap (dropped m)
       → LeavesOnly (state h.device) (state h'.device) (IsSaved state k.segments m0 m)
 
   -- A commit: what the store has, without its files of no links, is acknowledged. Where it was saved nothing happens.
@@ -79,11 +81,14 @@ module _ {D : Type 0} (state : D → DeviceState) where
     pub segments : length h'.memory.usage.segments ≡ length h.memory.usage.segments
     pub clean : clean_in h.memory.usage.segments ≤ clean_in h'.memory.usage.segments + 8
     pub no_failure : (state h'.device).failures ≡ (state h.device).failures
-    pub stores : (k : CheckpointValue) (m0 m : LogMap) → (state h'.device).keeps_model → Stores h saved k m0 m → IsLogMap (dropped m) → (next : CheckpointValue) × Stores h' true next (dropped m) m
-    pub left : (k : CheckpointValue) (m0 m : LogMap) → (state h'.device).keeps_model → Stores h saved k m0 m → IsLogMap (dropped m) → AllLeft (state h'.device) (λ c. StandsOn k.segments c (dropped m))
+    pub stores : (k : CheckpointValue) (m0 m : LogMap) → (state h'.device).keeps_model → Stores h saved k m0 m → IsLogMap (dropped m)
+        → (next : CheckpointValue) × Stores h' true next (dropped m) m
+    pub left : (k : CheckpointValue) (m0 m : LogMap) → (state h'.device).keeps_model → Stores h saved k m0 m → IsLogMap (dropped m)
+        → AllLeft (state h'.device) (λ c. StandsOn k.segments c (dropped m))
     pub moment : LeavesEither h saved h'
 
-  -- The store has log map m' now: over what was acknowledged before, m0, or over m without its files of no links, if a commit came. It has its segments still.
+  -- The store has log map m' now: over what was acknowledged before, m0, or over
+  -- m without its files of no links, if a commit came. It has its segments still.
   pub record StoresOver (segments : ℕ) (m0 m : LogMap) (h : Held D) (saved : Bool) (m' : LogMap) : Type 0 where
     pub checkpoint : CheckpointValue
     pub acknowledged : LogMap
@@ -136,7 +141,8 @@ module _ {D : Type 0} (state : D → DeviceState) where
     pub enough : HasClean h'
     pub unsaved : saved' ≡ false
     pub saves : SavesFew h saved h' saved'
-    pub stores : (k : CheckpointValue) (m0 m : LogMap) → (state h'.device).keeps_model → Stores h saved k m0 m → FitsBatch m c → IsLogMap (dropped m) → StoresOver k.segments m0 m h' saved' (staged c m)
+    pub stores : (k : CheckpointValue) (m0 m : LogMap) → (state h'.device).keeps_model → Stores h saved k m0 m → FitsBatch m c
+        → IsLogMap (dropped m) → StoresOver k.segments m0 m h' saved' (staged c m)
     pub moment : LeavesEither h saved h'
 
   -- Or it isn't: the store has the log map that it had.
@@ -145,14 +151,17 @@ module _ {D : Type 0} (state : D → DeviceState) where
     pub halted : h'.halted ≡ h.halted
     pub segments : length h'.memory.usage.segments ≡ length h.memory.usage.segments
     pub saves : SavesFew h saved h' saved'
-    pub stores : (k : CheckpointValue) (m0 m : LogMap) → (state h'.device).keeps_model → Stores h saved k m0 m → FitsBatch m c → IsLogMap (dropped m) → StoresOver k.segments m0 m h' saved' m
+    pub stores : (k : CheckpointValue) (m0 m : LogMap) → (state h'.device).keeps_model → Stores h saved k m0 m → FitsBatch m c
+        → IsLogMap (dropped m) → StoresOver k.segments m0 m h' saved' m
     pub moment : LeavesEither h saved h'
 
   -- a call of the device failed, where the store has a log map that the draft fits
   abbrev pub IsAcceptFault : Held D → Bool → Held D → Changes → Type 0
-  IsAcceptFault h saved h' c = (k : CheckpointValue) (m0 m : LogMap) → (state h'.device).keeps_model → Stores h saved k m0 m → FitsBatch m c → IsLogMap (dropped m)
+  IsAcceptFault h saved h' c = (k : CheckpointValue) (m0 m : LogMap) → (state h'.device).keeps_model → Stores h saved k m0 m → FitsBatch m c
+      → IsLogMap (dropped m)
       → (state h.device).failures < (state h'.device).failures
 
   -- A file without a name goes at once: what is acknowledged is as it was.
   abbrev pub Forgets : Held D → Bool → Held D → ℕ → Type 0
-  Forgets h saved h' n = (k : CheckpointValue) (m0 m : LogMap) → (state h'.device).keeps_model → Stores h saved k m0 m → is_nameless m n ≡ true → Stores h' saved k m0 (without_file n m)
+  Forgets h saved h' n = (k : CheckpointValue) (m0 m : LogMap) → (state h'.device).keeps_model → Stores h saved k m0 m
+      → is_nameless m n ≡ true → Stores h' saved k m0 (without_file n m)

@@ -75,7 +75,8 @@ LeavesBlock c n i = NoBlock n i c.blocks.items × ((m : LogMap) → (staged c m)
 
 -- ---- what is put into it
 
--- File n may have this header after a draft of changes of this log map: an inode may say it, and a file that is there has a name exactly where it had one.
+-- File n may have this header after a draft of changes of this log map: an inode
+-- may say it, and a file that is there has a name exactly where it had one.
 pub record TakesHeader (c : Changes) (m : LogMap) (n : ℕ) (h : Header) : Type 0 where
   pub header : FitsHeader h.kind h.form h.links h.size
   pub name : HasInode (staged c m) n → (h.links == 0) ≡ is_nameless (staged c m) n

@@ -32,8 +32,10 @@ relinked h links = record { kind = h.kind; form = h.form; links = links; size = 
 -- File n, which wasn't there, has this header, and no block.
 pub record Makes (c c' : Changes) (n : ℕ) (h : Header) : Type 0 where
   pub map : (m : LogMap) → staged c' m ≡ with_header (staged c m) n (Some (as_header h))
-  pub fits : (m : LogMap) → FitsBatch m c → (staged c m).header n ≡ None → is_lost c.loss (Inode n) ≡ false → FitsHeader h.kind h.form h.links h.size → FitsBatch m c'
-  pub keeps : (m : LogMap) → IsLogMap (staged c m) → (staged c m).header n ≡ None → IsForm (staged c m).version h.kind h.form → IsLogMap (staged c' m)
+  pub fits : (m : LogMap) → FitsBatch m c → (staged c m).header n ≡ None → is_lost c.loss (Inode n) ≡ false
+      → FitsHeader h.kind h.form h.links h.size → FitsBatch m c'
+  pub keeps : (m : LogMap) → IsLogMap (staged c m) → (staged c m).header n ≡ None → IsForm (staged c m).version h.kind h.form
+      → IsLogMap (staged c' m)
   pub few : length c'.headers.items ≤ length c.headers.items + 1
   pub blocks : c'.blocks ≡ c.blocks
   pub loss : c'.loss ≡ c.loss
@@ -41,7 +43,8 @@ pub record Makes (c c' : Changes) (n : ℕ) (h : Header) : Type 0 where
 -- File n has other links. One that loses its last had a name, as one that keeps a link has.
 pub record SetsLinks (c c' : Changes) (n : ℕ) (h : Header) (links : ℕ) : Type 0 where
   pub map : (m : LogMap) → staged c' m ≡ with_header (staged c m) n (Some (as_header (relinked h links)))
-  pub fits : (m : LogMap) → FitsBatch m c → (staged c m).header n ≡ Some (as_header h) → 0 < h.links → is_lost c.loss (Inode n) ≡ false → FitsHeader h.kind h.form links h.size → FitsBatch m c'
+  pub fits : (m : LogMap) → FitsBatch m c → (staged c m).header n ≡ Some (as_header h) → 0 < h.links → is_lost c.loss (Inode n) ≡ false
+      → FitsHeader h.kind h.form links h.size → FitsBatch m c'
   pub keeps : (m : LogMap) → IsLogMap (staged c m) → (staged c m).header n ≡ Some (as_header h) → IsLogMap (staged c' m)
   pub few : length c'.headers.items ≤ length c.headers.items + 1
   pub blocks : c'.blocks.items ≡ c.blocks.items

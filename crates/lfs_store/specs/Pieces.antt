@@ -1,5 +1,6 @@
 -- Bytes laid over the blocks of a file, cut off them, and read out of them, one block after the other.
-use Rattle.std.specs.Prelude.{◌≡◌, ◌⊎◌, ◌<◌, ◌≤◌, ℕ, ◌+◌, ◌-◌, ◌*◌, ◌/◌, ◌%◌, max, min, List, [], ◌++◌, length, take, drop, Option, slice_index}
+use Rattle.std.specs.Prelude.{◌≡◌, ◌⊎◌, ◌<◌, ◌≤◌, ℕ, ◌+◌, ◌-◌, ◌*◌, ◌/◌, ◌%◌, max, min, List, [], ◌++◌, length, take, drop, Option}
+use Rattle.std.specs.Prelude.{slice_index}
 use Rattle.lfs_model.specs.Bytes.{part}
 use Rattle.lfs_model.specs.Changing.{IsWithBlock, IsWithHeader}
 use Rattle.lfs_model.specs.Entry.{Header}
@@ -55,12 +56,14 @@ PartBegins = (m : LogMap) (n from to : ℕ) → PartSoFar m n from to (from / 51
 
 -- A block adds the bytes that lie in it.
 abbrev pub PartGoesOn : Type 0
-PartGoesOn = (m : LogMap) (n from to index : ℕ) (out block : List ℕ) → from ≤ to → PartSoFar m n from to index out → HoldsBlock m n index block
+PartGoesOn = (m : LogMap) (n from to index : ℕ) (out block : List ℕ) → from ≤ to → PartSoFar m n from to index out
+    → HoldsBlock m n index block
     → PartSoFar m n from to (index + 1) (out ++ part_of_block from to index block)
 
 -- With the last block it is the part of the object.
 abbrev pub PartEnds : Type 0
-PartEnds = (m : LogMap) (n : ℕ) (h : Header) (from to index : ℕ) (out : List ℕ) → to ≤ h.size → to ≤ 512 * index → PartSoFar m n from to index out
+PartEnds = (m : LogMap) (n : ℕ) (h : Header) (from to index : ℕ) (out : List ℕ) → to ≤ h.size → to ≤ 512 * index
+    → PartSoFar m n from to index out
     → out ≡ part (object m n h) from (to - from)
 
 -- So it is what is read of count bytes at o, where from and to are cut to the object.
@@ -90,11 +93,13 @@ WriteGoesOn = (m m' m'' : LogMap) (n at index : ℕ) (w old new : List ℕ) → 
 
 -- The file may get another header at any time.
 abbrev pub WriteHeads : Type 0
-WriteHeads = (m m' m'' : LogMap) (n at index : ℕ) (w : List ℕ) (h : Option Header) → WriteSoFar m m' n at w index → IsWithHeader m' n h m'' → WriteSoFar m m'' n at w index
+WriteHeads = (m m' m'' : LogMap) (n at index : ℕ) (w : List ℕ) (h : Option Header) → WriteSoFar m m' n at w index → IsWithHeader m' n h m''
+    → WriteSoFar m m'' n at w index
 
 -- With the last block the bytes are written.
 abbrev pub WriteIsDone : Type 0
-WriteIsDone = (m m' : LogMap) (n at index : ℕ) (w : List ℕ) (h h' : Header) → WriteSoFar m m' n at w index → at + length w ≤ 512 * index → 0 < length w
+WriteIsDone = (m m' : LogMap) (n at index : ℕ) (w : List ℕ) (h h' : Header) → WriteSoFar m m' n at w index → at + length w ≤ 512 * index
+    → 0 < length w
     → h'.size ≡ max h.size (at + length w) → WritesBytes m m' n h h' at w
 
 -- ---- cutting
@@ -123,7 +128,8 @@ abbrev pub CutHeads : Type 0
 CutHeads = (m m' m'' : LogMap) (n first : ℕ) (h : Option Header) → CutSoFar m m' n first → IsWithHeader m' n h m'' → CutSoFar m m'' n first
 
 abbrev pub CutBlocksHeads : Type 0
-CutBlocksHeads = (m m' m'' : LogMap) (n len : ℕ) (h : Option Header) → CutBlocks m m' n len → IsWithHeader m' n h m'' → CutBlocks m m'' n len
+CutBlocksHeads = (m m' m'' : LogMap) (n len : ℕ) (h : Option Header) → CutBlocks m m' n len → IsWithHeader m' n h m''
+    → CutBlocks m m'' n len
 
 -- A length of whole blocks cuts none of them,
 abbrev pub CutBetween : Type 0
@@ -131,7 +137,8 @@ CutBetween = (m m' : LogMap) (n len : ℕ) → len % 512 ≡ 0 → CutSoFar m m'
 
 -- another one cuts the last,
 abbrev pub CutInside : Type 0
-CutInside = (m m' m'' : LogMap) (n len : ℕ) (old new : List ℕ) → 0 < len % 512 → CutSoFar m m' n (len / 512 + 1) → HoldsBlock m' n (len / 512) old
+CutInside = (m m' m'' : LogMap) (n len : ℕ) (old new : List ℕ) → 0 < len % 512 → CutSoFar m m' n (len / 512 + 1)
+    → HoldsBlock m' n (len / 512) old
     → CutsTail (len % 512) old new → length new ≡ 512 → IsWithBlock m' n (len / 512) (stored new) m'' → CutBlocks m m'' n len
 
 -- or finds that it isn't stored.

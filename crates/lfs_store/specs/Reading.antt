@@ -51,10 +51,12 @@ module _ {D : Type 0} (state : D → DeviceState) where
     pub drafted : new.drafted ≡ old.drafted
 
   abbrev pub ReadsHeader : Held D → Held D → Changes → ℕ → Option Header → Type 0
-  ReadsHeader h h' c n found = (k : CheckpointValue) (m0 m : LogMap) → (state h'.device).keeps_model → Holds state h k m0 m → HeaderAnswer (staged c m) n found
+  ReadsHeader h h' c n found = (k : CheckpointValue) (m0 m : LogMap) → (state h'.device).keeps_model → Holds state h k m0 m
+      → HeaderAnswer (staged c m) n found
 
   abbrev pub ReadsBlock : Held D → Held D → Changes → ℕ → ℕ → List ℕ → Bool → Type 0
-  ReadsBlock h h' c n i out found = (k : CheckpointValue) (m0 m : LogMap) → (state h'.device).keeps_model → Holds state h k m0 m → BlockAnswer (staged c m) n i out found
+  ReadsBlock h h' c n i out found = (k : CheckpointValue) (m0 m : LogMap) → (state h'.device).keeps_model → Holds state h k m0 m
+      → BlockAnswer (staged c m) n i out found
 
   -- bytes of file n from one place to another, both at most its size
   abbrev pub ReadsPart : Held D → Held D → Changes → ℕ → ℕ → ℕ → List ℕ → Type 0
@@ -65,4 +67,5 @@ module _ {D : Type 0} (state : D → DeviceState) where
   pub record Appends (h h' : Held D) (c : Changes) (n at len : ℕ) (old new : List ℕ) : Type 0 where
     pub long : length new ≡ length old + len
     pub kept : (j : ℕ) → j < length old → slice_index new j ≡ slice_index old j
-    pub more : (k : CheckpointValue) (m0 m : LogMap) → (state h'.device).keeps_model → Holds state h k m0 m → (j : ℕ) → j < len → slice_index new (length old + j) ≡ byte_in (staged c m) n (at + j)
+    pub more : (k : CheckpointValue) (m0 m : LogMap) → (state h'.device).keeps_model → Holds state h k m0 m → (j : ℕ) → j < len
+        → slice_index new (length old + j) ≡ byte_in (staged c m) n (at + j)

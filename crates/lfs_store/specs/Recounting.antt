@@ -30,7 +30,8 @@ pub record Recounts (old new : BlockTotals) (before after : Measure) : Type 0 wh
 
 -- A file is made where none was: its inode is one block more.
 abbrev pub CountsMade : Changes → Changes → ℕ → BlockTotals → BlockTotals → Type 0
-CountsMade c c' n old new = (m : LogMap) → IsLogMap (staged c m) → (staged c m).header n ≡ None → AreTotals (staged c m) old → AreTotals (staged c' m) new
+CountsMade c c' n old new = (m : LogMap) → IsLogMap (staged c m) → (staged c m).header n ≡ None → AreTotals (staged c m) old
+    → AreTotals (staged c' m) new
 
 -- A file has other links: the totals stay.
 abbrev pub CountsRelinked : Changes → Changes → ℕ → Header → BlockTotals → Type 0

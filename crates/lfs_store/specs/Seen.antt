@@ -15,7 +15,8 @@ use Rattle.lfs_cleaner.specs.log.verify.declared.totals.BlockTotals.{BlockTotals
 abbrev pub counted_of : BlockTotals → Counted
 counted_of t = record { data_blocks = t.data_blocks; meta_blocks = t.meta_blocks }
 
--- what is staged: what the log has in memory, the number of the checkpoint that it acknowledged, the version of the layout, and whether it was raised since
+-- what is staged: what the log has in memory, the number of the checkpoint that
+-- it acknowledged, the version of the layout, and whether it was raised since
 pub record StagedLog : Type 0 where
   pub memory : LogMemory
   pub number : ℕ

@@ -15,7 +15,8 @@ use Rattle.lfs_store.specs.Drafting.{IsApart, TakesBlock}
 use Rattle.lfs_store.specs.Pieces.{CutBlocks}
 use Rattle.lfs_store.specs.Writing.{SizesFile, resized}
 
--- The log map may be changed so: the file is there, and apart from what is lost; one that the log map hasn't yet is cut below the 113th block alone.
+-- The log map may be changed so: the file is there, and apart from what is
+-- lost; one that the log map hasn't yet is cut below the 113th block alone.
 pub record TakesShrink (c : Changes) (m : LogMap) (n : ℕ) (h : Header) (len : ℕ) : Type 0 where
   pub there : (staged c m).header n ≡ Some (as_header h)
   pub apart : IsApart c.loss n
@@ -49,4 +50,5 @@ module _ {D : Type 0} (state : D → DeviceState) where
     pub header : (m : LogMap) → (staged c' m).header n ≡ Some (as_header (resized head len))
     pub fits : (m : LogMap) → FitsBatch m c → TakesShrink c m n head len → FitsBatch m c'
     pub file : (k : CheckpointValue) (m0 m : LogMap) → (state h'.device).keeps_model → Holds state h k m0 m
-        → IsLogMap (staged c m) → (staged c m).header n ≡ Some (as_header head) → SizesFile (staged c m) (staged c' m) n head (resized head len) len
+        → IsLogMap (staged c m) → (staged c m).header n ≡ Some (as_header head)
+        → SizesFile (staged c m) (staged c' m) n head (resized head len) len

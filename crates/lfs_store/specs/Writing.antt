@@ -21,7 +21,8 @@ use Rattle.lfs_store.specs.Pieces.{IsBeneath, WriteSoFar, CutBlocks}
 
 -- ---- writing
 
--- The log map may be changed so: the file is there, and apart from what is lost; a file that the log map hasn't yet gets blocks below the 113th alone.
+-- The log map may be changed so: the file is there, and apart from what is
+-- lost; a file that the log map hasn't yet gets blocks below the 113th alone.
 pub record TakesWrite (c : Changes) (m : LogMap) (n : ℕ) (h : Header) (at : ℕ) (w : List ℕ) : Type 0 where
   pub there : (staged c m).header n ≡ Some (as_header h)
   pub apart : IsApart c.loss n
@@ -42,14 +43,16 @@ module _ {D : Type 0} (state : D → DeviceState) where
     pub header : (m : LogMap) → (staged c' m).header n ≡ (staged c m).header n
     pub others : (m : LogMap) (i : ℕ) → (i ≡ index → ⊥) → (staged c' m).block n i ≡ (staged c m).block n i
     pub fits : (m : LogMap) → FitsBatch m c → TakesBlock c m n index → FitsBatch m c'
-    pub goes_on : (k : CheckpointValue) (m0 m a : LogMap) → (state h'.device).keeps_model → Holds state h k m0 m → WriteSoFar a (staged c m) n at w index → WriteSoFar a (staged c' m) n at w (index + 1)
+    pub goes_on : (k : CheckpointValue) (m0 m a : LogMap) → (state h'.device).keeps_model → Holds state h k m0 m
+        → WriteSoFar a (staged c m) n at w index → WriteSoFar a (staged c' m) n at w (index + 1)
 
   -- All of them have.
   pub record Writes (h h' : Held D) (c c' : Changes) (n : ℕ) (head : Header) (at : ℕ) (w : List ℕ) : Type 0 where
     pub loss : c'.loss ≡ c.loss
     pub headers : length c'.headers.items ≤ length c.headers.items + 1
     pub blocks : length c'.blocks.items ≤ length c.blocks.items + (div_ceil (at + length w) 512 - at / 512)
-    pub around : (m : LogMap) (i : ℕ) → (i < at / 512) ⊎ (div_ceil (at + length w) 512 ≤ i) → (staged c' m).block n i ≡ (staged c m).block n i
+    pub around : (m : LogMap) (i : ℕ) → (i < at / 512) ⊎ (div_ceil (at + length w) 512 ≤ i)
+        → (staged c' m).block n i ≡ (staged c m).block n i
     pub fits : (m : LogMap) → FitsBatch m c → TakesWrite c m n head at w → FitsBatch m c'
     pub file : (k : CheckpointValue) (m0 m : LogMap) → (state h'.device).keeps_model → Holds state h k m0 m
         → WritesFile (staged c m) (staged c' m) n head (resized head (max head.size (at + length w))) at w
@@ -86,4 +89,5 @@ module _ {D : Type 0} (state : D → DeviceState) where
     pub headers : length c.headers.items ≤ 1
     pub blocks : length c.blocks.items ≤ 1
     pub fits : (m : LogMap) → m.header n ≡ Some (as_header head) → FitsHeader head.kind head.form head.links len → FitsBatch m c
-    pub file : (k : CheckpointValue) (m0 m : LogMap) → (state h'.device).keeps_model → Holds state h k m0 m → SizesFile m (staged c m) n head (resized head len) len
+    pub file : (k : CheckpointValue) (m0 m : LogMap) → (state h'.device).keeps_model → Holds state h k m0 m
+        → SizesFile m (staged c m) n head (resized head len) len

@@ -17,7 +17,8 @@ use Rattle.lfs_verify.specs.declared.fault.MountFault.TheVariants as fault
 use Rattle.lfs_verify.specs.declared.tables.Tables.{Tables}
 use Rattle.lfs_verify.specs.Loading.{HoldsTables}
 use Rattle.lfs_verify.specs.Take.{Looks}
-use Rattle.lfs_tree.specs.Checking.{IsDamagedTree, IsFaultOf, IsGathered, IsOfLog, IsRefusedTree, IsTreeDamage, links_fail, reached_fail, room_fail}
+use Rattle.lfs_tree.specs.Checking.{IsDamagedTree, IsFaultOf, IsGathered, IsOfLog, IsRefusedTree, IsTreeDamage, links_fail, reached_fail}
+use Rattle.lfs_tree.specs.Checking.{room_fail}
 use Rattle.lfs_tree.specs.Linking.{AreLinksFit, FitsRoom}
 use Rattle.lfs_tree.specs.Naming.{NamesValue}
 use Rattle.lfs_tree.specs.Objects.{AreNamed}
@@ -45,22 +46,27 @@ module _ (c : Content) (k : CheckpointValue) (m : LogMap) (headers : List (Optio
       (λ room. omega (arith, room, need, same), λ fit. omega (arith, fit, need, same))
 
   pub fails_reached : (AreNamesFit headers names × AllClimb headers names.up → ⊥) → IsTreeDamage k.segments m 12
-  fails_reached other = reached_fail refl is.slots is.texts (λ reached. other (fit_if_reached m (held_headers c k m is.holds) headers is.told names is.named reached))
+  fails_reached other = reached_fail refl is.slots is.texts
+      (λ reached. other (fit_if_reached m (held_headers c k m is.holds) headers is.told names is.named reached))
 
   module _ (fit : AreNamesFit headers names × AllClimb headers names.up) where
     pub fails_links : (AreLinksFit headers names → ⊥) → IsTreeDamage k.segments m 13
-    fails_links other = links_fail refl is.slots is.texts (tree_reached fit) (λ links. other (fit_if_links m (held_headers c k m is.holds) headers is.told names is.named is.slots links))
+    fails_links other = links_fail refl is.slots is.texts (tree_reached fit)
+        (λ links. other (fit_if_links m (held_headers c k m is.holds) headers is.told names is.named is.slots links))
 
     module _ (links : AreLinksFit headers names) where
       pub fails_room : (FitsRoom t.data_blocks t.meta_blocks t.segments → ⊥) → IsTreeDamage k.segments m 14
       fails_room other = room_fail refl is.slots is.texts (tree_reached fit) (tree_links links) (λ room. other (need_here.0 room))
 
       pub tree_whole : FitsRoom t.data_blocks t.meta_blocks t.segments → IsTree k.segments m
-      tree_whole room = record { slots = is.slots; texts = is.texts; reached = tree_reached fit; links = tree_links links; room = need_here.1 room }
+      tree_whole room =
+          record { slots = is.slots; texts = is.texts; reached = tree_reached fit; links = tree_links links; room = need_here.1 room }
 
-pub gathered : (c : Content) (k : CheckpointValue) (m : LogMap) (headers : List (Option files.Header)) (names : NamesValue) (t : Tables) → HoldsAt c k m → IsSized c → TellsHeaders m headers 4096
+pub gathered : (c : Content) (k : CheckpointValue) (m : LogMap) (headers : List (Option files.Header)) (names : NamesValue) (t : Tables)
+    → HoldsAt c k m → IsSized c → TellsHeaders m headers 4096
     → AreSlots m → AreTexts m → AreNamed m headers names 4096 → IsOfLog c k m t → IsGathered c k m headers names t
-gathered c k m headers names t holds sized told slots texts named of_log = record { holds = holds; sized = sized; told = told; named = named; slots = slots; texts = texts; of_log = of_log }
+gathered c k m headers names t holds sized told slots texts named of_log =
+    record { holds = holds; sized = sized; told = told; named = named; slots = slots; texts = texts; of_log = of_log }
 
 -- ---- faults
 pub no_failure : (failed : Type 0) (damage : ℕ → Type 0) (f : MountFault) → IsFaultOf ⊥ damage f → IsFaultOf failed damage f
@@ -71,7 +77,8 @@ no_failure failed damage fault.NoCheckpoint is = is
 no_failure failed damage (fault.Damaged code) is = is
 
 -- a later call's fault
-pub fault_after : (a b d : DeviceState) → Looks a b → (damage : ℕ → Type 0) (f : MountFault) → IsFaultOf (b.failures < d.failures) damage f → IsFaultOf (a.failures < d.failures) damage f
+pub fault_after : (a b d : DeviceState) → Looks a b → (damage : ℕ → Type 0) (f : MountFault) → IsFaultOf (b.failures < d.failures) damage f
+    → IsFaultOf (a.failures < d.failures) damage f
 fault_after a b d looks damage fault.NoMemory is = is
 fault_after a b d looks damage fault.Device is = let before = looks.carries.failures in omega (arith, is, before)
 fault_after a b d looks damage fault.TooSmall is = is
@@ -102,17 +109,24 @@ module _ (old new : DeviceState) (t : Tables) (lawful : IsLawful old) (keeps : n
   }
 
   pub is_of_log : IsOfLog old.content has.checkpoint (log_in (view old.content has.checkpoint)) t
-  is_of_log = record { leads = leads_to; segments = has.says.segments; counted = subst (λ (m : LogMap). IsCounted m t.data_blocks t.meta_blocks) same has.counted }
+  is_of_log = record {
+    leads = leads_to;
+    segments = has.says.segments;
+    counted = subst (λ (m : LogMap). IsCounted m t.data_blocks t.meta_blocks) same has.counted;
+  }
 
-  pub tree_of : IsTree has.checkpoint.segments (log_in (view old.content has.checkpoint)) → TreeOf has.checkpoint.segments has.log (tree_in has.log)
+  pub tree_of : IsTree has.checkpoint.segments (log_in (view old.content has.checkpoint))
+      → TreeOf has.checkpoint.segments has.log (tree_in has.log)
   tree_of tree = record { is = refl; tree = subst (IsTree has.checkpoint.segments) (sym same) tree }
 
-  damage_in : (code : ℕ) → IsTreeDamage has.checkpoint.segments (log_in (view old.content has.checkpoint)) code → IsDamagedTree old.content code
+  damage_in : (code : ℕ) → IsTreeDamage has.checkpoint.segments (log_in (view old.content has.checkpoint)) code
+      → IsDamagedTree old.content code
   damage_in code is =
       let damage = damage_of_tree (view old.content has.checkpoint) code has.holds.stages is in
       (damage.0, damage.1, record { checkpoint = has.checkpoint; newest = has.newest; size = has.holds.size; damaged = damage.2 })
 
-  pub refused_tree : (f : MountFault) → IsFaultOf (old.failures < new.failures) (IsTreeDamage has.checkpoint.segments (log_in (view old.content has.checkpoint))) f → IsRefusedTree old new f
+  pub refused_tree : (f : MountFault) → IsFaultOf (old.failures < new.failures)
+      (IsTreeDamage has.checkpoint.segments (log_in (view old.content has.checkpoint))) f → IsRefusedTree old new f
   refused_tree fault.NoMemory is = is
   refused_tree fault.Device is = is
   refused_tree fault.TooSmall is = is

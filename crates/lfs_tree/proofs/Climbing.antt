@@ -1,6 +1,7 @@
 -- Going up from one number after the other, with marks.
 use Rattle.std.specs.Prelude.{◌==◌, nat_eq, not}
-use Rattle.std.proofs.Common.{◌≡◌, ◌≢◌, ◌<◌, ◌≤◌, ◌⊎◌, inl, inr, ⊎_elim, ◌+◌, cond, true, false, Bool, eqb, ℕ, zero, suc, List, length, set, Option, refl, sym, ◌∙◌, ap, subst, arith, slice_index}
+use Rattle.std.proofs.Common.{◌≡◌, ◌≢◌, ◌<◌, ◌≤◌, ◌⊎◌, inl, inr, ⊎_elim, ◌+◌, cond, true, false, Bool, eqb, ℕ, zero, suc, List, length, set}
+use Rattle.std.proofs.Common.{Option, refl, sym, ◌∙◌, ap, subst, arith, slice_index}
 use Rattle.std.proofs.lemmas.Bool.{cases_eq}
 use Rattle.std.proofs.lemmas.Bool.Decides.{nat_tests}
 use Rattle.std.proofs.lemmas.List.{get_or-set_other, get_or-set_same}
@@ -26,7 +27,8 @@ unfolding sum_below
 sum_less f g le at lt zero low = absurd (omega (arith, low))
 sum_less f g le at lt (suc n) low = ⊎_elim
     (λ (here : at ≡ n). (let rest = sum_same_or_less f g le n in let a = ap f here in let b = ap g here in omega (arith, rest, lt, a, b)))
-    (λ (other : at ≡ n → ⊥). (let rest = sum_less f g le at lt n (omega (arith, low, other)) in let here = le n in omega (arith, rest, here)))
+    (λ (other : at ≡ n → ⊥).
+    (let rest = sum_less f g le at lt n (omega (arith, low, other)) in let here = le n in omega (arith, rest, here)))
     (cases_eq at n)
 
 module _ (marks : List ℕ) (at start : ℕ) (inside : at < length marks) (none : slice_index marks at ≡ 0) (some : 0 < start) where
@@ -47,7 +49,8 @@ module _ (marks : List ℕ) (at start : ℕ) (inside : at < length marks) (none 
 
   less_each : (i : ℕ) → unmarked (set marks at start) i ≤ unmarked marks i
   less_each i = ⊎_elim
-      (λ (same : i ≡ at). let own = here_marked i same in let gone = a_mark (set marks at start) i (omega (arith, own, some)) in omega (arith, gone))
+      (λ (same : i ≡ at). let own = here_marked i same in let gone = a_mark (set marks at start) i (omega (arith, own, some)) in
+      omega (arith, gone))
       (λ (other : i ≡ at → ⊥). let same = ap {B = ℕ} (λ (x : ℕ). cond (x == 0) 1 0) (else_same i other) in omega (arith, same))
       (cases_eq i at)
 
@@ -93,7 +96,8 @@ module _ (up begin : List ℕ) (start : ℕ) (some : 2 ≤ start) where
       stays : (n : ℕ) → slice_index marks n ≡ start → slice_index (set marks at start) n ≡ start
       stays n is = ⊎_elim (own n) (λ (other : n ≡ at → ⊥). kept n other ∙ is) (cases_eq n at)
 
-      ring_then : (n : ℕ) → slice_index (set marks at start) n ≡ start → (slice_index up n ≡ slice_index up at) ⊎ (slice_index (set marks at start) (slice_index up n) ≡ start)
+      ring_then : (n : ℕ) → slice_index (set marks at start) n ≡ start
+          → (slice_index up n ≡ slice_index up at) ⊎ (slice_index (set marks at start) (slice_index up n) ≡ start)
       ring_then n is = ⊎_elim
           (λ (same : n ≡ at). inl (ap (slice_index up) same))
           (λ (other : n ≡ at → ⊥). ⊎_elim
@@ -131,7 +135,8 @@ module _ (up begin : List ℕ) (start : ℕ) (some : 2 ≤ start) where
     module _ (marked : 0 < slice_index marks at) where
       begun_on : (slice_index marks start ≡ start) ⊎ (0 < slice_index marks start)
       begun_on = ⊎_elim
-          (λ (first : (at ≡ start) × ((n : ℕ) → slice_index marks n ≢ start)). inr (subst (λ (n : ℕ). 0 < slice_index marks n) first.0 marked))
+          (λ (first : (at ≡ start) × ((n : ℕ) → slice_index marks n ≢ start)).
+          inr (subst (λ (n : ℕ). 0 < slice_index marks n) first.0 marked))
           (λ (on : slice_index marks start ≡ start). inl on)
           was.begun
 
@@ -189,10 +194,12 @@ pub root_marked : (up marks : List ℕ) → 1 < length marks → ((n : ℕ) → 
 root_marked up marks inside none = record {
   climbs = λ n lt. ⊎_elim
       (λ (same : n ≡ 1). subst (Climbs (slice_index up)) (sym same) root)
-      (λ (other : n ≡ 1 → ⊥). (let e = get_or-set_other marks 1 n 1 0 other in let zero_at = none n in absurd (omega (arith, e, zero_at, lt))))
+      (λ (other : n ≡ 1 → ⊥).
+      (let e = get_or-set_other marks 1 n 1 0 other in let zero_at = none n in absurd (omega (arith, e, zero_at, lt))))
       (cases_eq n 1);
   low = λ n. ⊎_elim
-      (λ (same : n ≡ 1). (let e = ap (slice_index (set marks 1 1)) same in let own = get_or-set_same marks 1 1 0 inside in omega (arith, e, own)))
+      (λ (same : n ≡ 1).
+      (let e = ap (slice_index (set marks 1 1)) same in let own = get_or-set_same marks 1 1 0 inside in omega (arith, e, own)))
       (λ (other : n ≡ 1 → ⊥). (let e = get_or-set_other marks 1 n 1 0 other in let zero_at = none n in omega (arith, e, zero_at)))
       (cases_eq n 1);
   root = get_or-set_same marks 1 1 0 inside;

@@ -1,6 +1,7 @@
 -- The slots of a directory, gone through from its last block on.
 use Rattle.std.specs.Prelude.{min}
-use Rattle.std.proofs.Common.{◌≡◌, ◌<◌, ◌≤◌, ◌+◌, ◌-◌, ◌*◌, ◌/◌, ℕ, true, false, List, [], ◌++◌, take, drop, Option, Vec, Global, sym, ◌∙◌, ap, subst, arith}
+use Rattle.std.proofs.Common.{◌≡◌, ◌<◌, ◌≤◌, ◌+◌, ◌-◌, ◌*◌, ◌/◌, ℕ, true, false, List, [], ◌++◌, take, drop, Option, Vec, Global, sym, ◌∙◌}
+use Rattle.std.proofs.Common.{ap, subst, arith}
 use Rattle.std.proofs.lemmas.List.{drop_all, take-append-drop}
 use Rattle.std.specs.BTreeSet.{BTreeSet}
 use Rattle.std.specs.BTreeMap.{is_at}
@@ -17,38 +18,52 @@ use Rattle.lfs_tree.specs.Naming.{AreGoodSlots, Base, HasNames, IsNoted, IsTaken
 use Rattle.lfs_tree.proofs.GoodSlots.{good_behind, good_none}
 
 module _ (headers : List (Option Header)) (d : ℕ) (base : Base) (m : LogMap) (head : Header) where
-  pub blocks_begin : (index : ℕ) (set : BTreeSet (Vec ℕ Global)) (t : NamesValue) → slot_count head ≤ per_block head.form * index → IsTaken head.form headers d base [] set t → IsTaken head.form headers d base (drop (per_block head.form * index) (slots_at m d head)) set t
+  pub blocks_begin : (index : ℕ) (set : BTreeSet (Vec ℕ Global)) (t : NamesValue) → slot_count head ≤ per_block head.form * index → IsTaken
+      head.form headers d base [] set t → IsTaken head.form headers d base (drop (per_block head.form * index) (slots_at m d head)) set t
   blocks_begin index set t past was =
       let many = slots_many m d head in
-      subst (λ (a : List (List ℕ)). IsTaken head.form headers d base a set t) (sym (drop_all (per_block head.form * index) (slots_at m d head) (omega (arith, many, past)))) was
+      subst (λ (a : List (List ℕ)). IsTaken head.form headers d base a set t)
+      (sym (drop_all (per_block head.form * index) (slots_at m d head) (omega (arith, many, past)))) was
 
-  pub blocks_end : (index : ℕ) (set : BTreeSet (Vec ℕ Global)) (t : NamesValue) → index ≡ 0 → IsTaken head.form headers d base (drop (per_block head.form * index) (slots_at m d head)) set t → TakesNames head.form headers d base (slots_at m d head) t true
+  pub blocks_end : (index : ℕ) (set : BTreeSet (Vec ℕ Global)) (t : NamesValue) → index ≡ 0 → IsTaken head.form headers d base
+      (drop (per_block head.form * index) (slots_at m d head)) set t → TakesNames head.form headers d base (slots_at m d head) t true
   blocks_end index set t all was =
       let times = ap (λ (i : ℕ). per_block head.form * i) all in
       let none : per_block head.form * index ≡ 0 = omega (arith, times) in
       let whole = subst (λ (j : ℕ). IsTaken head.form headers d base (drop j (slots_at m d head)) set t) none was in
       (whole.good, whole.noted)
 
-  module _ (index next count : ℕ) (block : List ℕ) (holds : HoldsBlock m d next block) (is : count ≡ min (slot_count head - per_block head.form * next) (per_block head.form)) (low : per_block head.form * next < slot_count head) (here : index ≡ next + 1)
-      (set set' : BTreeSet (Vec ℕ Global)) (t t' : NamesValue) (was : IsTaken head.form headers d base (drop (per_block head.form * index) (slots_at m d head)) set t) where
-    parts : first_slots head.form block count ++ drop (per_block head.form * index) (slots_at m d head) ≡ drop (per_block head.form * next) (slots_at m d head)
+  module _ (index next count : ℕ) (block : List ℕ) (holds : HoldsBlock m d next block) (is : count ≡ min (slot_count head
+      - per_block head.form * next) (per_block head.form)) (low : per_block head.form * next < slot_count head) (here : index ≡ next + 1)
+      (set set' : BTreeSet (Vec ℕ Global)) (t t' : NamesValue)
+      (was : IsTaken head.form headers d base (drop (per_block head.form * index) (slots_at m d head)) set t) where
+    parts : first_slots head.form block count ++ drop (per_block head.form * index) (slots_at m d head)
+        ≡ drop (per_block head.form * next) (slots_at m d head)
     parts =
-        ap (λ (a : List (List ℕ)). a ++ drop (per_block head.form * index) (slots_at m d head)) (sym (slots_of_block m d head next count block holds (omega (arith, is)) (omega (arith, is, low))))
-        ∙ ap (λ (j : ℕ). take count (drop (per_block head.form * next) (slots_at m d head)) ++ drop (per_block head.form * j) (slots_at m d head)) here
+        ap (λ (a : List (List ℕ)). a ++ drop (per_block head.form * index) (slots_at m d head))
+        (sym (slots_of_block m d head next count block holds (omega (arith, is)) (omega (arith, is, low))))
+        ∙ ap (λ (j : ℕ). take count (drop (per_block head.form * next) (slots_at m d head))
+        ++ drop (per_block head.form * j) (slots_at m d head)) here
         ∙ sym (block_and_rest head.form (slots_at m d head) next count (slot_count head) (slots_many m d head) is)
 
-    pub blocks_go_on : TakesSlots head.form headers d (first_slots head.form block count) set set' t t' true → IsTaken head.form headers d base (drop (per_block head.form * next) (slots_at m d head)) set' t'
-    blocks_go_on more = subst (λ (a : List (List ℕ)). IsTaken head.form headers d base a set' t') parts (more base (drop (per_block head.form * index) (slots_at m d head)) was)
+    pub blocks_go_on : TakesSlots head.form headers d (first_slots head.form block count) set set' t t' true
+        → IsTaken head.form headers d base (drop (per_block head.form * next) (slots_at m d head)) set' t'
+    blocks_go_on more = subst (λ (a : List (List ℕ)). IsTaken head.form headers d base a set' t') parts
+        (more base (drop (per_block head.form * index) (slots_at m d head)) was)
 
-    pub blocks_fail : TakesSlots head.form headers d (first_slots head.form block count) set set' t t' false → TakesNames head.form headers d base (slots_at m d head) t' false
+    pub blocks_fail : TakesSlots head.form headers d (first_slots head.form block count) set set' t t' false
+        → TakesNames head.form headers d base (slots_at m d head) t' false
     blocks_fail more good =
         more base (drop (per_block head.form * index) (slots_at m d head)) was
         (subst (AreGoodSlots head.form headers) (sym parts)
-        (good_behind head.form headers (take (per_block head.form * next) (slots_at m d head)) (drop (per_block head.form * next) (slots_at m d head))
+        (good_behind head.form headers (take (per_block head.form * next) (slots_at m d head))
+        (drop (per_block head.form * next) (slots_at m d head))
         (subst (AreGoodSlots head.form headers) (sym (take-append-drop (per_block head.form * next) (slots_at m d head))) good)))
 
-pub nothing_taken : (form : ℕ) (headers : List (Option Header)) (d : ℕ) (base : Base) (set : BTreeSet (Vec ℕ Global)) (t : NamesValue) → HasNames set [] → IsNoted headers d base [] t → IsTaken form headers d base [] set t
+pub nothing_taken : (form : ℕ) (headers : List (Option Header)) (d : ℕ) (base : Base) (set : BTreeSet (Vec ℕ Global)) (t : NamesValue)
+    → HasNames set [] → IsNoted headers d base [] t → IsTaken form headers d base [] set t
 nothing_taken form headers d base set t none was = record { good = good_none form headers; names = none; noted = was }
 
 pub names_none : (set : BTreeSet (Vec ℕ Global)) → set.keys ≡ [] → HasNames set []
-names_none set empty q = ap (λ (keys : List (Vec ℕ Global)). list_any (is_at (λ (y : Vec ℕ Global). slice_cmp nat_cmp q.items y.items)) keys) empty
+names_none set empty q =
+    ap (λ (keys : List (Vec ℕ Global)). list_any (is_at (λ (y : Vec ℕ Global). slice_cmp nat_cmp q.items y.items)) keys) empty

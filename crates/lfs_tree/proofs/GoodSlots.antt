@@ -1,6 +1,7 @@
 -- Slots that are good, with one slot more before them.
 use Rattle.std.specs.Prelude.{is_some}
-use Rattle.std.proofs.Common.{◌≡◌, ◌<◌, ◌≤◌, ◌+◌, ◌-◌, ◌*◌, ℕ, true, false, cond, T, List, [], ◌∷◌, ◌++◌, length, get_or, take, drop, Option, Some, None, Vec, Global, refl, sym, ◌∙◌, ap, subst, arith, append_assoc}
+use Rattle.std.proofs.Common.{◌≡◌, ◌<◌, ◌≤◌, ◌+◌, ◌-◌, ◌*◌, ℕ, true, false, cond, T, List, [], ◌∷◌, ◌++◌, length, get_or, take, drop}
+use Rattle.std.proofs.Common.{Option, Some, None, Vec, Global, refl, sym, ◌∙◌, ap, subst, arith, append_assoc}
 use Rattle.std.proofs.lemmas.List.{ext_get_or, get_or-drop, length-drop, take-append-drop}
 use Rattle.std.specs.BTreeSet.{BTreeSet}
 use Rattle.std.specs.Cmp.Lexicographic.{nat_list_cmp_total}
@@ -23,14 +24,16 @@ few_with : (o : Option SlotValue) (m : Names) → T (is_sorted byte_cmp m) → l
 few_with None m order = omega arith
 few_with (Some s) m order =
     let long = length-put byte_cmp nat_list_cmp_total s.name s.number m order in
-    elim (is_some (find byte_cmp s.name m)) as (λ b. length (put byte_cmp s.name s.number m) ≡ cond b (length m) (length m + 1) → length (put byte_cmp s.name s.number m) ≤ length m + 1) [
+    elim (is_some (find byte_cmp s.name m)) as (λ b. length (put byte_cmp s.name s.number m) ≡ cond b (length m) (length m + 1)
+    → length (put byte_cmp s.name s.number m) ≤ length m + 1) [
       | true ↦ λ e. omega (arith, e)
       | false ↦ λ e. omega (arith, e)
     ] long
 
 few_names : (form : ℕ) (a : List (List ℕ)) → length (map_of form a) ≤ length a
 few_names form [] = omega arith
-few_names form (x ∷ a) = let few = few_with (slot_in form x) (map_of form a) (sorted_names form a) in let rest = few_names form a in omega (arith, few, rest)
+few_names form (x ∷ a) = let few = few_with (slot_in form x) (map_of form a) (sorted_names form a) in let rest = few_names form a in
+    omega (arith, few, rest)
 
 module _ (form : ℕ) (headers : List (Option Header)) where
   pub good_behind : (a b : List (List ℕ)) → AreGoodSlots form headers (a ++ b) → AreGoodSlots form headers b
@@ -53,37 +56,48 @@ module _ (form : ℕ) (headers : List (Option Header)) (d : ℕ) (slot : List �
     map_more : (behind : List (List ℕ)) → map_of form (slot ∷ behind) ≡ put byte_cmp s.name s.number (map_of form behind)
     map_more behind = ap (λ (o : Option SlotValue). with_slot o (map_of form behind)) is
 
-    long_more : (behind : List (List ℕ)) → length (map_of form (slot ∷ behind)) ≡ cond (is_some (find byte_cmp s.name (map_of form behind))) (length (map_of form behind)) (length (map_of form behind) + 1)
-    long_more behind = ap length (map_more behind) ∙ length-put byte_cmp nat_list_cmp_total s.name s.number (map_of form behind) (sorted_names form behind)
+    long_more : (behind : List (List ℕ)) → length (map_of form (slot ∷ behind))
+        ≡ cond (is_some (find byte_cmp s.name (map_of form behind))) (length (map_of form behind)) (length (map_of form behind) + 1)
+    long_more behind = ap length (map_more behind)
+        ∙ length-put byte_cmp nat_list_cmp_total s.name s.number (map_of form behind) (sorted_names form behind)
 
-    pub slot_twice : (behind : List (List ℕ)) → AreGoodSlots form headers behind → (find byte_cmp s.name (map_of form behind) ≡ None → ⊥) → AreGoodSlots form headers (slot ∷ behind) → ⊥
+    pub slot_twice : (behind : List (List ℕ)) → AreGoodSlots form headers behind → (find byte_cmp s.name (map_of form behind) ≡ None → ⊥)
+        → AreGoodSlots form headers (slot ∷ behind) → ⊥
     slot_twice behind rest found good =
-        elim (find byte_cmp s.name (map_of form behind)) as (λ o. find byte_cmp s.name (map_of form behind) ≡ o → length (map_of form (slot ∷ behind)) ≡ cond (is_some o) (length (map_of form behind)) (length (map_of form behind) + 1) → ⊥) [
+        elim (find byte_cmp s.name (map_of form behind)) as (λ o. find byte_cmp s.name (map_of form behind) ≡ o
+        → length (map_of form (slot ∷ behind)) ≡ cond (is_some o) (length (map_of form behind)) (length (map_of form behind) + 1) → ⊥) [
           | None ↦ λ e long. found e
           | Some n ↦ λ e long. let all = good.apart in let some = rest.apart in omega (arith, long, all, some)
         ] refl (long_more behind)
 
-    pub slot_taken : (set set' : BTreeSet (Vec ℕ Global)) (t t' : NamesValue) (base : Base) (behind : List (List ℕ)) → d < 4096 → s.number < 4096 → (get_or headers s.number None ≡ None → ⊥) → AreTables t
+    pub slot_taken : (set set' : BTreeSet (Vec ℕ Global)) (t t' : NamesValue) (base : Base) (behind : List (List ℕ)) → d < 4096
+        → s.number < 4096 → (get_or headers s.number None ≡ None → ⊥) → AreTables t
         → IsTaken form headers d base behind set t → find byte_cmp s.name (map_of form behind) ≡ None
-        → HasNames set' (put byte_cmp s.name s.number (map_of form behind)) → Notes t t' d s.number (leads headers s.number) → IsTaken form headers d base (slot ∷ behind) set' t'
+        → HasNames set' (put byte_cmp s.name s.number (map_of form behind)) → Notes t t' d s.number (leads headers s.number)
+        → IsTaken form headers d base (slot ∷ behind) set' t'
     slot_taken set set' t t' base behind low inside there sizes was new names notes = record {
       good = record {
         each = (record { value = s; spelt = is; there = there }, was.good.each);
         apart =
-            let long = long_more behind ∙ ap (λ (o : Option ℕ). cond (is_some o) (length (map_of form behind)) (length (map_of form behind) + 1)) new in
+            let long = long_more behind
+            ∙ ap (λ (o : Option ℕ). cond (is_some o) (length (map_of form behind)) (length (map_of form behind) + 1)) new in
             let rest = was.good.apart in
             omega (arith, long, rest);
       };
       names = subst (HasNames set') (sym (map_more behind)) names;
-      noted = subst (λ (m : Names). IsNoted headers d base m t') (sym (map_more behind)) (noted_more headers d base (map_of form behind) t t' s.number s.name low inside sizes (sorted_names form behind) new was.noted notes);
+      noted = subst (λ (m : Names). IsNoted headers d base m t') (sym (map_more behind)) (noted_more headers d base
+          (map_of form behind) t t' s.number s.name low inside sizes (sorted_names form behind) new was.noted notes);
     }
 
 -- ---- the slots of a block, from its last on
-module _ (form : ℕ) (headers : List (Option Header)) (d : ℕ) (block : List ℕ) (count : ℕ) (set : BTreeSet (Vec ℕ Global)) (t : NamesValue) where
+module _ (form : ℕ) (headers : List (Option Header)) (d : ℕ) (block : List ℕ) (count : ℕ) (set : BTreeSet (Vec ℕ Global))
+    (t : NamesValue) where
   pub slots_begin : TakesSlots form headers d (slots_in form block count (count - count)) set set t t true
-  slots_begin base behind was = subst (λ (a : List (List ℕ)). IsTaken form headers d base (a ++ behind) set t) (sym (no_slots form block count count (omega arith))) was
+  slots_begin base behind was = subst (λ (a : List (List ℕ)). IsTaken form headers d base (a ++ behind) set t)
+      (sym (no_slots form block count count (omega arith))) was
 
-  module _ (place next : ℕ) (some : 0 < place) (le : place ≤ count) (before : next ≡ place - 1) (slot : List ℕ) (own : slot ≡ part (slot_len form * next) (slot_len form) block) where
+  module _ (place next : ℕ) (some : 0 < place) (le : place ≤ count) (before : next ≡ place - 1) (slot : List ℕ)
+      (own : slot ≡ part (slot_len form * next) (slot_len form) block) where
     split : slots_in form block next (count - next) ≡ slot ∷ slots_in form block place (count - place)
     split =
         let here : next + 1 ≡ place = omega (arith, some, before) in
@@ -91,17 +105,21 @@ module _ (form : ℕ) (headers : List (Option Header)) (d : ℕ) (block : List �
         ∙ ap (λ (k : ℕ). part (slot_len form * next) (slot_len form) block ∷ slots_in form block k (count - k)) here
         ∙ ap (λ (s : List ℕ). s ∷ slots_in form block place (count - place)) (sym own)
 
-    pub slots_go_on : (set1 set2 : BTreeSet (Vec ℕ Global)) (t1 t2 : NamesValue) → TakesSlots form headers d (slots_in form block place (count - place)) set set1 t t1 true
-        → TakesSlots form headers d (slot ∷ []) set1 set2 t1 t2 true → TakesSlots form headers d (slots_in form block next (count - next)) set set2 t t2 true
+    pub slots_go_on : (set1 set2 : BTreeSet (Vec ℕ Global)) (t1 t2 : NamesValue)
+        → TakesSlots form headers d (slots_in form block place (count - place)) set set1 t t1 true
+        → TakesSlots form headers d (slot ∷ []) set1 set2 t1 t2 true
+        → TakesSlots form headers d (slots_in form block next (count - next)) set set2 t t2 true
     slots_go_on set1 set2 t1 t2 was one base behind taken =
-        subst (λ (a : List (List ℕ)). IsTaken form headers d base (a ++ behind) set2 t2) (sym split) (one base (slots_in form block place (count - place) ++ behind) (was base behind taken))
+        subst (λ (a : List (List ℕ)). IsTaken form headers d base (a ++ behind) set2 t2) (sym split)
+        (one base (slots_in form block place (count - place) ++ behind) (was base behind taken))
 
     dropped : drop next (first_slots form block count) ≡ slots_in form block next (count - next)
     dropped =
         let many = block_slots_many form block 0 count in
         let left = length-drop next (first_slots form block count) in
         let rest = block_slots_many form block next (count - next) in
-        let long : length (drop next (first_slots form block count)) ≡ length (slots_in form block next (count - next)) = omega (arith, many, left, rest) in
+        let long : length (drop next (first_slots form block count)) ≡ length (slots_in form block next (count - next)) =
+        omega (arith, many, left, rest) in
         ext_get_or [] (drop next (first_slots form block count)) (slots_in form block next (count - next)) long
         (λ k low.
         let inside : k < count - next = omega (arith, low, many, left) in
@@ -110,10 +128,14 @@ module _ (form : ℕ) (headers : List (Option Header)) (d : ℕ) (block : List �
         ∙ ap (λ (j : ℕ). part (slot_len form * j) (slot_len form) block) (omega arith)
         ∙ sym (block_slot form block next (count - next) k inside))
 
-    pub slots_fail : (set1 set2 : BTreeSet (Vec ℕ Global)) (t1 t2 : NamesValue) → TakesSlots form headers d (slots_in form block place (count - place)) set set1 t t1 true
-        → TakesSlots form headers d (slot ∷ []) set1 set2 t1 t2 false → TakesSlots form headers d (first_slots form block count) set set2 t t2 false
+    pub slots_fail : (set1 set2 : BTreeSet (Vec ℕ Global)) (t1 t2 : NamesValue)
+        → TakesSlots form headers d (slots_in form block place (count - place)) set set1 t t1 true
+        → TakesSlots form headers d (slot ∷ []) set1 set2 t1 t2 false
+        → TakesSlots form headers d (first_slots form block count) set set2 t t2 false
     slots_fail set1 set2 t1 t2 was one base behind taken good =
         one base (slots_in form block place (count - place) ++ behind) (was base behind taken)
         (subst (λ (a : List (List ℕ)). AreGoodSlots form headers (a ++ behind)) (dropped ∙ split)
         (good_behind form headers (take next (first_slots form block count)) (drop next (first_slots form block count) ++ behind)
-        (subst (AreGoodSlots form headers) (ap (λ (a : List (List ℕ)). a ++ behind) (sym (take-append-drop next (first_slots form block count))) ∙ append_assoc (take next (first_slots form block count)) (drop next (first_slots form block count)) behind) good)))
+        (subst (AreGoodSlots form headers)
+        (ap (λ (a : List (List ℕ)). a ++ behind) (sym (take-append-drop next (first_slots form block count)))
+        ∙ append_assoc (take next (first_slots form block count)) (drop next (first_slots form block count)) behind) good)))

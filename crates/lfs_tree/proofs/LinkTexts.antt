@@ -1,6 +1,7 @@
 -- The texts of links, by their blocks, and in the tree.
 use Rattle.std.specs.Prelude.{min}
-use Rattle.std.proofs.Common.{◌≡◌, ◌≢◌, ◌<◌, ◌≤◌, ⊎_elim, ◌+◌, ◌-◌, ◌*◌, ℕ, true, false, Bool, List, get_or, Option, Some, None, refl, sym, ◌∙◌, ap, subst, arith, slice_index}
+use Rattle.std.proofs.Common.{◌≡◌, ◌≢◌, ◌<◌, ◌≤◌, ⊎_elim, ◌+◌, ◌-◌, ◌*◌, ℕ, true, false, Bool, List, get_or, Option, Some, None, refl, sym}
+use Rattle.std.proofs.Common.{◌∙◌, ap, subst, arith, slice_index}
 use Rattle.std.proofs.lemmas.Bool.{cases_lt}
 use Rattle.std.specs.List.{AllByRecursion}
 use Rattle.lfs_model.specs.declared.Kind.{Kind}
@@ -21,13 +22,15 @@ use Rattle.lfs_tree.specs.Texts.{Decides, HasNoZero, IsGoodText}
 use Rattle.lfs_tree.proofs.ObjectNames.{AreHeaders, all_at, all_from, head_told, node_at}
 
 -- ---- a block more
-module _ (m : LogMap) (n i size count : ℕ) (block : List ℕ) (holds : HoldsBlock m n i block) (low : 512 * i < size) (is : count ≡ min (size - 512 * i) 512) where
+module _ (m : LogMap) (n i size count : ℕ) (block : List ℕ) (holds : HoldsBlock m n i block) (low : 512 * i < size)
+    (is : count ≡ min (size - 512 * i) 512) where
   in_block : (p : ℕ) → 512 * i ≤ p → p < 512 * i + 512 → slice_index block (p - 512 * i) ≡ byte_in m n p
   in_block p le lt =
       let here : 512 * i + (p - 512 * i) ≡ p = omega (arith, le) in
       holds.bytes (p - 512 * i) ∙ sym (block_byte m n i (p - 512 * i) (omega (arith, le, lt))) ∙ ap (byte_in m n) here
 
-  pub texts_go_on : HasNoZero m n (min (512 * i) size) → ((j : ℕ) → j < count → slice_index block j ≢ 0) → HasNoZero m n (min (512 * (i + 1)) size)
+  pub texts_go_on : HasNoZero m n (min (512 * i) size) → ((j : ℕ) → j < count → slice_index block j ≢ 0)
+      → HasNoZero m n (min (512 * (i + 1)) size)
   texts_go_on was each p lt none = ⊎_elim
       (λ (before : p < 512 * i). was p (omega (arith, before, low)) none)
       (λ (le : 512 * i ≤ p). each (p - 512 * i) (omega (arith, le, lt, is)) (in_block p le (omega (arith, lt)) ∙ none))
@@ -56,7 +59,8 @@ module _ (m : LogMap) (are : AreHeaders m) where
       let high = range.1 in
       by at.0 at.1 (omega (arith, high)) at.0.kind refl at.2
     where
-      by : (h : entry.Header) → m.header n ≡ Some h → n < 4096 → (k : Kind) → h.kind ≡ k → Link text ≡ node_by m h.kind n h → AllByRecursion (λ c. c ≢ 0) text
+      by : (h : entry.Header) → m.header n ≡ Some h → n < 4096 → (k : Kind) → h.kind ≡ k → Link text ≡ node_by m h.kind n h
+          → AllByRecursion (λ c. c ≢ 0) text
       by h at low kind.File e same = absurd (let both = same ∙ ap (λ (k : Kind). node_by m k n h) e in cc)
       by h at low kind.Directory e same = absurd (let both = same ∙ ap (λ (k : Kind). node_by m k n h) e in cc)
       by h at low kind.Link e same =

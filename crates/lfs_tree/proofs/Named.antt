@@ -43,13 +43,15 @@ module _ (m : LogMap) (headers : List (Option Header)) where
       others = λ e other. refl;
     }
 
-    module _ (t' : NamesValue) (good : IsGoodObject m headers upto) (noted : IsNoted headers upto (base_at t upto) (names_at m upto) t') where
+    module _ (t' : NamesValue) (good : IsGoodObject m headers upto)
+        (noted : IsNoted headers upto (base_at t upto) (names_at m upto) t') where
       up_then : (n : ℕ) → n < 4096 → 0 < given_below m (upto + 1) n → 0 < giving (names_at m (slice_index t'.up n)) n
       up_then n low some = ⊎_elim
           (λ (here : 0 < giving (names_at m upto) n). subst (λ (d : ℕ). 0 < giving (names_at m d) n) (sym (noted.given n low here)) here)
           (λ (none : giving (names_at m upto) n ≤ 0).
           let more = sum_more (λ d. giving (names_at m d) n) upto in
-          subst (λ (d : ℕ). 0 < giving (names_at m d) n) (sym (noted.kept n low (omega (arith, none)))) (was.up n low (omega (arith, more, none, some))))
+          subst (λ (d : ℕ). 0 < giving (names_at m d) n) (sym (noted.kept n low (omega (arith, none))))
+          (was.up n low (omega (arith, more, none, some))))
           (cases_lt 0 (giving (names_at m upto) n))
 
       below_then : (d : ℕ) → d < upto + 1 → slice_index t'.below d ≡ capped (count_by (λ x. leads headers x.1) (names_at m d))
@@ -70,7 +72,8 @@ module _ (m : LogMap) (headers : List (Option Header)) where
 
       pub named_more : AreNamed m headers t' (upto + 1)
       named_more = record {
-        counts = λ n low. let own = noted.counts n low in let more = sum_more (λ d. giving (names_at m d) n) upto in omega (arith, own, more);
+        counts = λ n low. let own = noted.counts n low in let more = sum_more (λ d. giving (names_at m d) n) upto in
+            omega (arith, own, more);
         up = up_then;
         below = below_then;
         none = λ d le. noted.others d (λ e. omega (arith, e, le)) ∙ was.none d (omega (arith, le));

@@ -1,5 +1,6 @@
 -- The tables, with one entry of a directory more.
-use Rattle.std.proofs.Common.{◌≡◌, ◌<◌, ◌+◌, ⊎_elim, true, false, cond, eqb, Bool, ℕ, T, List, length, Option, None, sym, ◌∙◌, ap, arith, slice_index, slice_set}
+use Rattle.std.proofs.Common.{◌≡◌, ◌<◌, ◌+◌, ⊎_elim, true, false, cond, eqb, Bool, ℕ, T, List, length, Option, None, sym, ◌∙◌, ap, arith}
+use Rattle.std.proofs.Common.{slice_index, slice_set}
 use Rattle.std.specs.Prelude.{◌==◌, count_by, min}
 use Rattle.std.proofs.lemmas.Bool.{cases_eq}
 use Rattle.std.proofs.lemmas.Bool.Decides.{nat_tests}
@@ -19,8 +20,10 @@ counted_put p names name v order new =
     let none = ap (λ (o : Option ℕ). weight nat_list_cmp_total (λ w. cond {A = ℕ} (p w) 1 0) o) new in
     omega (arith, put_in, none)
 
-module _ (headers : List (Option Header)) (d : ℕ) (base : Base) (names : Names) (t t' : NamesValue) (n : ℕ) (name : List ℕ) (here : d < 4096) (inside : n < 4096)
-    (sizes : AreTables t) (order : T (is_sorted byte_cmp names)) (new : find byte_cmp name names ≡ None) (was : IsNoted headers d base names t) (notes : Notes t t' d n (leads headers n)) where
+module _ (headers : List (Option Header)) (d : ℕ) (base : Base) (names : Names) (t t' : NamesValue) (n : ℕ) (name : List ℕ)
+    (here : d < 4096) (inside : n < 4096)
+    (sizes : AreTables t) (order : T (is_sorted byte_cmp names)) (new : find byte_cmp name names ≡ None)
+    (was : IsNoted headers d base names t) (notes : Notes t t' d n (leads headers n)) where
   given_more : (q : ℕ) → giving (put byte_cmp name n names) q ≡ giving names q + cond {A = ℕ} (n == q) 1 0
   given_more q = counted_put (λ w. w == q) names name n order new
 
@@ -39,11 +42,14 @@ module _ (headers : List (Option Header)) (d : ℕ) (base : Base) (names : Names
   count_own q same =
       let size = sizes.counts in
       let low : n < length t.counts = omega (arith, size, inside) in
-      ap (λ (l : List ℕ). slice_index l q) notes.counts ∙ ap (slice_index (slice_set t.counts n (min (slice_index t.counts n + 1) 65535))) same
-      ∙ get_or-set_same t.counts n (min (slice_index t.counts n + 1) 65535) 0 low ∙ ap (λ (x : ℕ). min (slice_index t.counts x + 1) 65535) (sym same)
+      ap (λ (l : List ℕ). slice_index l q) notes.counts
+      ∙ ap (slice_index (slice_set t.counts n (min (slice_index t.counts n + 1) 65535))) same
+      ∙ get_or-set_same t.counts n (min (slice_index t.counts n + 1) 65535) 0 low
+      ∙ ap (λ (x : ℕ). min (slice_index t.counts x + 1) 65535) (sym same)
 
   count_other : (q : ℕ) → (q ≡ n → ⊥) → slice_index t'.counts q ≡ slice_index t.counts q
-  count_other q other = ap (λ (l : List ℕ). slice_index l q) notes.counts ∙ get_or-set_other t.counts n q (min (slice_index t.counts n + 1) 65535) 0 other
+  count_other q other = ap (λ (l : List ℕ). slice_index l q) notes.counts
+      ∙ get_or-set_other t.counts n q (min (slice_index t.counts n + 1) 65535) 0 other
 
   up_own : (q : ℕ) → q ≡ n → slice_index t'.up q ≡ d
   up_own q same =
@@ -78,7 +84,8 @@ module _ (headers : List (Option Header)) (d : ℕ) (base : Base) (names : Names
   own_then =
       let size = sizes.below in
       let low : d < length t.below = omega (arith, size, here) in
-      let own = ap (λ (l : List ℕ). slice_index l d) notes.below ∙ get_or-set_same t.below d (min (slice_index t.below d + cond {A = ℕ} (leads headers n) 1 0) 65535) 0 low in
+      let own = ap (λ (l : List ℕ). slice_index l d) notes.below
+      ∙ get_or-set_same t.below d (min (slice_index t.below d + cond {A = ℕ} (leads headers n) 1 0) 65535) 0 low in
       let more = counted_put (leads headers) names name n order new in
       let before = was.own in
       omega (arith, own, more, before)
@@ -89,5 +96,6 @@ module _ (headers : List (Option Header)) (d : ℕ) (base : Base) (names : Names
     given = given_then;
     kept = kept_then;
     own = own_then;
-    others = λ e other. ap (λ (l : List ℕ). slice_index l e) notes.below ∙ get_or-set_other t.below d e (min (slice_index t.below d + cond {A = ℕ} (leads headers n) 1 0) 65535) 0 other ∙ was.others e other;
+    others = λ e other. ap (λ (l : List ℕ). slice_index l e) notes.below ∙ get_or-set_other t.below d e
+        (min (slice_index t.below d + cond {A = ℕ} (leads headers n) 1 0) 65535) 0 other ∙ was.others e other;
   }

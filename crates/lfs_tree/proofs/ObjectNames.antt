@@ -1,6 +1,7 @@
 -- The names of a log map's objects, and those in its tree.
 use Rattle.std.specs.Prelude.{unwrap_or}
-use Rattle.std.proofs.Common.{◌≡◌, ◌≢◌, ◌<◌, ◌≤◌, ⊎_elim, ℕ, zero, suc, true, false, Bool, List, [], ◌∷◌, length, get_or, Option, Some, None, refl, sym, ◌∙◌, ap, subst, arith}
+use Rattle.std.proofs.Common.{◌≡◌, ◌≢◌, ◌<◌, ◌≤◌, ⊎_elim, ℕ, zero, suc, true, false, Bool, List, [], ◌∷◌, length, get_or, Option, Some}
+use Rattle.std.proofs.Common.{None, refl, sym, ◌∙◌, ap, subst, arith}
 use Rattle.std.proofs.lemmas.Bool.{cases_lt}
 use Rattle.std.specs.List.{AllByRecursion}
 use Rattle.std.specs.FinMap.{find}
@@ -47,7 +48,8 @@ pub held_headers : (c : Content) (k : CheckpointValue) (m : LogMap) → HoldsAt 
 held_headers c k m st n h is = subst (λ (v : ℕ). IsHeader v n h) (sym st.version) (headers_are c k m st n h is)
 
 -- what the table says of a number
-pub head_told : (m : LogMap) (headers : List (Option Header)) → TellsHeaders m headers 4096 → (n : ℕ) → n < 4096 → (head : Header) → get_or headers n None ≡ Some head → m.header n ≡ Some (as_header head)
+pub head_told : (m : LogMap) (headers : List (Option Header)) → TellsHeaders m headers 4096 → (n : ℕ) → n < 4096 → (head : Header)
+    → get_or headers n None ≡ Some head → m.header n ≡ Some (as_header head)
 head_told m headers told n low head is = told n low ∙ ap (option_map as_header) is
 
 module _ (m : LogMap) (are : AreHeaders m) where
@@ -100,7 +102,8 @@ module _ (m : LogMap) (are : AreHeaders m) where
   pub names_other : (n : ℕ) (h : entry.Header) → m.header n ≡ Some h → (h.kind ≡ kind.Directory → ⊥) → names_at m n ≡ []
   names_other n h at other = names_of_header n h at ∙ names_by n h h.kind other
 
-  pub names_directory : (n : ℕ) (h : entry.Header) → m.header n ≡ Some h → h.kind ≡ kind.Directory → names_at m n ≡ map_of h.form (slots m n h)
+  pub names_directory : (n : ℕ) (h : entry.Header) → m.header n ≡ Some h → h.kind ≡ kind.Directory
+      → names_at m n ≡ map_of h.form (slots m n h)
   names_directory n h at dir = names_of_header n h at ∙ ap (λ (k : Kind). names_of (node_by m k n h)) dir
 
   -- ---- the stage, and each object by itself
@@ -114,21 +117,29 @@ module _ (m : LogMap) (are : AreHeaders m) where
       | Some h ↦ λ e. let both : Some (as_header h) ≡ None = sym (told n low ∙ ap (option_map as_header) e) ∙ none in absurd (cc)
     ] refl
 
-    slot_good : AreSlots m → (n : ℕ) (h : entry.Header) → m.header n ≡ Some h → h.kind ≡ kind.Directory → length (map_of h.form (slots m n h)) ≡ length (slots m n h)
-        → (j : ℕ) → j < length (slots m n h) → (o : Option SlotValue) → slot_in h.form (get_or (slots m n h) j []) ≡ o → o ≢ None → IsGoodSlot h.form headers (get_or (slots m n h) j [])
+    slot_good : AreSlots m → (n : ℕ) (h : entry.Header) → m.header n ≡ Some h → h.kind ≡ kind.Directory
+        → length (map_of h.form (slots m n h)) ≡ length (slots m n h)
+        → (j : ℕ) → j < length (slots m n h) → (o : Option SlotValue) → slot_in h.form (get_or (slots m n h) j []) ≡ o → o ≢ None
+        → IsGoodSlot h.form headers (get_or (slots m n h) j [])
     slot_good is n h at dir distinct j low None own some = absurd (some refl)
     slot_good is n h at dir distinct j low (Some s) own some =
         let found = (slot_gives h.form (slots m n h) s.name s.number).1 distinct j record { inside = low; slot = own } in
         let range = (slot_found h.form (get_or (slots m n h) j []) s own).0.number in
         let high = range.1 in
-        let given : entry_in (tree_in m) n s.name ≡ Some s.number = ap (find byte_cmp s.name) (names_in_is n ∙ names_directory n h at dir) ∙ found in
-        record { value = s; spelt = own; there = there_told s.number (omega (arith, high)) (node_header s.number (is.there n s.name s.number given)) }
+        let given : entry_in (tree_in m) n s.name ≡ Some s.number = ap (find byte_cmp s.name) (names_in_is n ∙ names_directory n h at dir)
+        ∙ found in
+        record {
+          value = s;
+          spelt = own;
+          there = there_told s.number (omega (arith, high)) (node_header s.number (is.there n s.name s.number given));
+        }
 
     pub good_if_stage : AreSlots m → (n : ℕ) → IsGoodObject m headers n
     good_if_stage is n h at dir =
         let formed = is.formed n h at dir in
         record {
-          each = all_from (IsGoodSlot h.form headers) (slots m n h) [] (λ j low. slot_good is n h at dir formed.1 j low (slot_in h.form (get_or (slots m n h) j [])) refl (all_at (λ b. slot_in h.form b ≢ None) (slots m n h) j [] formed.0 low));
+          each = all_from (IsGoodSlot h.form headers) (slots m n h) [] (λ j low. slot_good is n h at dir formed.1 j low
+              (slot_in h.form (get_or (slots m n h) j [])) refl (all_at (λ b. slot_in h.form b ≢ None) (slots m n h) j [] formed.0 low));
           apart = formed.1;
         }
 
@@ -136,11 +147,16 @@ module _ (m : LogMap) (are : AreHeaders m) where
     formed_if_good good n h at dir =
         let range = (are n h at).number in
         let high = range.1 in
-        let own = good n (omega (arith, high)) h at dir in
-        (all_map (IsGoodSlot h.form headers) (λ b. slot_in h.form b ≢ None) (λ b g none. let both : Some g.value ≡ None = sym g.spelt ∙ none in absurd (cc)) (slots m n h) own.each, own.apart)
+        let own = good n (omega (arith, high)) h at dir in (
+          all_map (IsGoodSlot h.form headers) (λ b. slot_in h.form b ≢ None)
+              (λ b g none. let both : Some g.value ≡ None = sym g.spelt ∙ none in absurd (cc)) (slots m n h) own.each,
+          own.apart,
+        )
 
-    found_there : ((n : ℕ) → n < 4096 → IsGoodObject m headers n) → (d : ℕ) (name : List ℕ) (n : ℕ) (o : Option entry.Header) → m.header d ≡ o → find byte_cmp name (names_at m d) ≡ Some n → m.header n ≢ None
-    found_there good d name n None is found = absurd (let none : None ≡ Some n = sym (ap (find byte_cmp name) (no_names d is)) ∙ found in cc)
+    found_there : ((n : ℕ) → n < 4096 → IsGoodObject m headers n) → (d : ℕ) (name : List ℕ) (n : ℕ) (o : Option entry.Header)
+        → m.header d ≡ o → find byte_cmp name (names_at m d) ≡ Some n → m.header n ≢ None
+    found_there good d name n None is found =
+        absurd (let none : None ≡ Some n = sym (ap (find byte_cmp name) (no_names d is)) ∙ found in cc)
     found_there good d name n (Some h) is found = by h.kind refl
       where
         other : (h.kind ≡ kind.Directory → ⊥) → m.header n ≢ None
@@ -164,7 +180,8 @@ module _ (m : LogMap) (are : AreHeaders m) where
     pub stage_if_good : ((n : ℕ) → n < 4096 → IsGoodObject m headers n) → AreSlots m
     stage_if_good good = record {
       formed = formed_if_good good;
-      there = λ d name n given. header_node n (found_there good d name n (m.header d) refl (sym (ap (find byte_cmp name) (names_in_is d)) ∙ given));
+      there = λ d name n given.
+          header_node n (found_there good d name n (m.header d) refl (sym (ap (find byte_cmp name) (names_in_is d)) ∙ given));
     }
 
     -- ---- one object
@@ -184,18 +201,22 @@ module _ (m : LogMap) (are : AreHeaders m) where
             let same : as_header head ≡ h = cc in
             subst (λ (x : entry.Header). AreGoodSlots x.form headers (slots m n x)) same good
 
-        pub object_directory : (r : Bool) → is_directory_kind head.kind ≡ true → TakesNames head.form headers n base (slots_at m n head) t r → TakesObject m headers n base t r
+        pub object_directory : (r : Bool) → is_directory_kind head.kind ≡ true → TakesNames head.form headers n base (slots_at m n head) t r
+            → TakesObject m headers n base t r
         object_directory true dir taken = (
           good_slots taken.0,
-          subst (λ (ms : Names). IsNoted headers n base ms t) (sym (names_directory n (as_header head) at_head (kind_dir head.kind dir))) taken.1,
+          subst (λ (ms : Names). IsNoted headers n base ms t) (sym (names_directory n (as_header head) at_head (kind_dir head.kind dir)))
+              taken.1,
         )
         object_directory false dir taken = λ good. taken (good (as_header head) at_head (kind_dir head.kind dir))
 
         other_kind : is_directory_kind head.kind ≡ false → head.kind ≡ kind.Directory → ⊥
         other_kind apart dir = let both : true ≡ false = sym (ap is_directory_kind dir) ∙ apart in absurd (cc)
 
-        pub object_other : is_directory_kind head.kind ≡ false → IsNoted headers n base [] t → IsGoodObject m headers n × IsNoted headers n base (names_at m n) t
+        pub object_other : is_directory_kind head.kind ≡ false → IsNoted headers n base [] t
+            → IsGoodObject m headers n × IsNoted headers n base (names_at m n) t
         object_other apart was = (
-          λ h at dir. (let both : Some (as_header head) ≡ Some h = sym at_head ∙ at in let same : as_header head ≡ h = cc in absurd (other_kind apart (ap (λ (x : entry.Header). x.kind) same ∙ dir))),
+          λ h at dir. (let both : Some (as_header head) ≡ Some h = sym at_head ∙ at in let same : as_header head ≡ h = cc in
+              absurd (other_kind apart (ap (λ (x : entry.Header). x.kind) same ∙ dir))),
           subst (λ (ms : Names). IsNoted headers n base ms t) (sym (names_other n (as_header head) at_head (other_kind apart))) was,
         )

@@ -1,6 +1,7 @@
 -- What the tables say of the tree: numbers that are named, directories that are reached, and links.
 use Rattle.std.specs.Prelude.{◌==◌, T, count_by, unwrap_or}
-use Rattle.std.proofs.Common.{◌≡◌, ◌≢◌, ◌<◌, ◌≤◌, ◌↔◌, ⊎_elim, ◌+◌, cond, true, false, Bool, eqb, ℕ, List, [], ◌∷◌, get_or, Option, Some, None, refl, sym, ◌∙◌, ap, subst, arith, slice_index}
+use Rattle.std.proofs.Common.{◌≡◌, ◌≢◌, ◌<◌, ◌≤◌, ◌↔◌, ⊎_elim, ◌+◌, cond, true, false, Bool, eqb, ℕ, List, [], ◌∷◌, get_or, Option, Some}
+use Rattle.std.proofs.Common.{None, refl, sym, ◌∙◌, ap, subst, arith, slice_index}
 use Rattle.std.proofs.lemmas.Bool.{cases_eq}
 use Rattle.std.proofs.lemmas.Bool.Decides.{nat_tests}
 use Rattle.std.proofs.lemmas.List.Sums.{sum_by-cons}
@@ -54,7 +55,8 @@ module _ (m : LogMap) (are : AreHeaders m) (headers : List (Option Header)) (tol
   dir_by n h kind.Directory = refl
   dir_by n h kind.Link = refl
 
-  node_there : (n : ℕ) (hd : Header) → n < 4096 → get_or headers n None ≡ Some hd → node (tree_in m) n ≡ Some (node_by m hd.kind n (as_header hd))
+  node_there : (n : ℕ) (hd : Header) → n < 4096 → get_or headers n None ≡ Some hd
+      → node (tree_in m) n ≡ Some (node_by m hd.kind n (as_header hd))
   node_there n hd low is = node_at m are n ∙ ap (node_of m n) (head_told m headers told n low hd is)
 
   node_not : (n : ℕ) → n < 4096 → get_or headers n None ≡ None → node (tree_in m) n ≡ None
@@ -93,9 +95,12 @@ module _ (m : LogMap) (are : AreHeaders m) (headers : List (Option Header)) (tol
   sorted_at d = by (m.header d) refl
     where
       sorted_by : (h : entry.Header) → m.header d ≡ Some h → (k : Kind) → h.kind ≡ k → T (is_sorted byte_cmp (names_at m d))
-      sorted_by h is kind.File e = subst (λ (ms : Names). T (is_sorted byte_cmp ms)) (sym (names_other m are d h is (λ dir. let both = sym e ∙ dir in absurd (cc)))) tt
-      sorted_by h is kind.Link e = subst (λ (ms : Names). T (is_sorted byte_cmp ms)) (sym (names_other m are d h is (λ dir. let both = sym e ∙ dir in absurd (cc)))) tt
-      sorted_by h is kind.Directory e = subst (λ (ms : Names). T (is_sorted byte_cmp ms)) (sym (names_directory m are d h is e)) (sorted_names h.form (slots m d h))
+      sorted_by h is kind.File e = subst (λ (ms : Names). T (is_sorted byte_cmp ms))
+          (sym (names_other m are d h is (λ dir. let both = sym e ∙ dir in absurd (cc)))) tt
+      sorted_by h is kind.Link e = subst (λ (ms : Names). T (is_sorted byte_cmp ms))
+          (sym (names_other m are d h is (λ dir. let both = sym e ∙ dir in absurd (cc)))) tt
+      sorted_by h is kind.Directory e =
+          subst (λ (ms : Names). T (is_sorted byte_cmp ms)) (sym (names_directory m are d h is e)) (sorted_names h.form (slots m d h))
 
       by : (o : Option entry.Header) → m.header d ≡ o → T (is_sorted byte_cmp (names_at m d))
       by None is = subst (λ (ms : Names). T (is_sorted byte_cmp ms)) (sym (no_names m are d is)) tt
@@ -106,7 +111,8 @@ module _ (m : LogMap) (are : AreHeaders m) (headers : List (Option Header)) (tol
   entry_dir d name n given = by (node (tree_in m) d) refl
     where
       none_of : (o : Option Node) → node (tree_in m) d ≡ o → names_of (unwrap_or o (File [])) ≡ [] → is_dir (node (tree_in m) d) ≡ true
-      none_of o is none = absurd (let both : None ≡ Some n = sym (ap (λ (x : Option Node). find byte_cmp name (names_of (unwrap_or x (File [])))) is ∙ ap (find byte_cmp name) none) ∙ given in cc)
+      none_of o is none = absurd (let both : None ≡ Some n = sym
+          (ap (λ (x : Option Node). find byte_cmp name (names_of (unwrap_or x (File [])))) is ∙ ap (find byte_cmp name) none) ∙ given in cc)
 
       by : (o : Option Node) → node (tree_in m) d ≡ o → is_dir (node (tree_in m) d) ≡ true
       by None is = none_of None is refl
@@ -133,7 +139,8 @@ module _ (m : LogMap) (are : AreHeaders m) (headers : List (Option Header)) (tol
 
     -- ---- numbers named
     module _ (fit : AreNamesFit headers t) where
-      fits_at : (n : ℕ) (h : entry.Header) → m.header n ≡ Some h → (hd : Header) × (h ≡ as_header hd) × FitsNames (Some hd) n (slice_index t.counts n)
+      fits_at : (n : ℕ) (h : entry.Header) → m.header n ≡ Some h
+          → (hd : Header) × (h ≡ as_header hd) × FitsNames (Some hd) n (slice_index t.counts n)
       fits_at n h at =
           let is = header_of n h at in
           (is.0, is.2, subst (λ (o : Option Header). FitsNames o n (slice_index t.counts n)) is.1 (fit n (low_of n h at)))
@@ -172,8 +179,10 @@ module _ (m : LogMap) (are : AreHeaders m) (headers : List (Option Header)) (tol
             let at = node_there n hd low is in
             subst (λ (o : Option Header). FitsNames o n (slice_index t.counts n)) (sym is) (
               λ one. (let none = ap (names (tree_in m)) one ∙ reached.root in omega (arith, same, none)),
-              λ other. (let some = reached.some n other (λ none. let both : Some (node_by m hd.kind n (as_header hd)) ≡ None = sym at ∙ none in absurd (cc)) in omega (arith, same, some)),
-              λ other dir. (let one = reached.one n other (ap is_dir at ∙ dir_by n (as_header hd) hd.kind ∙ dir) in omega (arith, same, one)),
+              λ other. (let some = reached.some n other (λ none.
+                  let both : Some (node_by m hd.kind n (as_header hd)) ≡ None = sym at ∙ none in absurd (cc)) in omega (arith, same, some)),
+              λ other dir.
+                  (let one = reached.one n other (ap is_dir at ∙ dir_by n (as_header hd) hd.kind ∙ dir) in omega (arith, same, one)),
             )
 
     -- ---- directories reached
@@ -194,14 +203,16 @@ module _ (m : LogMap) (are : AreHeaders m) (headers : List (Option Header)) (tol
       up_low : (n : ℕ) → n < 4096 → 0 < names (tree_in m) n → slice_index t.up n < 4096
       up_low n low some = let given = up_entry n low some in dir_low (slice_index t.up n) (entry_dir (slice_index t.up n) given.0 n given.1)
 
-      same_up : (n d : ℕ) (name : List ℕ) → n ≢ 1 → is_dir (node (tree_in m) n) ≡ true → entry_in (tree_in m) d name ≡ Some n → d ≡ slice_index t.up n
+      same_up : (n d : ℕ) (name : List ℕ) → n ≢ 1 → is_dir (node (tree_in m) n) ≡ true → entry_in (tree_in m) d name ≡ Some n
+          → d ≡ slice_index t.up n
       same_up n d name other dir given = ⊎_elim
           (λ (same : d ≡ slice_index t.up n). same)
           (λ (apart : d ≡ slice_index t.up n → ⊥).
           let once = one n other dir in
           let first = entry_given d name n given in
           let second = up_names n (dir_low n dir) (omega (arith, once)) in
-          let both = sum_both (λ (x : ℕ). giving (names_at m x) n) d (slice_index t.up n) 4096 (dir_low d (entry_dir d name n given)) (up_low n (dir_low n dir) (omega (arith, once))) apart in
+          let both = sum_both (λ (x : ℕ). giving (names_at m x) n) d (slice_index t.up n) 4096 (dir_low d (entry_dir d name n given))
+          (up_low n (dir_low n dir) (omega (arith, once))) apart in
           let all = names_given m are n in
           absurd (omega (arith, once, first, second, both, all)))
           (cases_eq d (slice_index t.up n))
@@ -211,7 +222,8 @@ module _ (m : LogMap) (are : AreHeaders m) (headers : List (Option Header)) (tol
       reached_climbs (below {d} {n} name from given) dir = ⊎_elim
           (λ (here : n ≡ 1). subst (Climbs (slice_index t.up)) (sym here) way.root)
           (λ (other : n ≡ 1 → ⊥).
-          way.more n (subst (Climbs (slice_index t.up)) (same_up n d name other dir given) (reached_climbs from (entry_dir d name n given))))
+          way.more n
+          (subst (Climbs (slice_index t.up)) (same_up n d name other dir given) (reached_climbs from (entry_dir d name n given))))
           (cases_eq n 1)
 
     -- ---- the stage
@@ -227,7 +239,8 @@ module _ (m : LogMap) (are : AreHeaders m) (headers : List (Option Header)) (tol
     }
 
     pub fit_if_reached : AreReached m → AreNamesFit headers t × AllClimb headers t.up
-    fit_if_reached reached = (names_fit reached, λ n some low on. (let dir = sym (leads_is n low) ∙ on in reached_climbs reached.one (reached.down n dir) dir))
+    fit_if_reached reached =
+        (names_fit reached, λ n some low on. (let dir = sym (leads_is n low) ∙ on in reached_climbs reached.one (reached.down n dir) dir))
 
     -- ---- links
     module _ (entries : AreSlots m) where
@@ -239,7 +252,8 @@ module _ (m : LogMap) (are : AreHeaders m) (headers : List (Option Header)) (tol
           low_of n at.0 at.1
 
       links_of : (n : ℕ) (hd : Header) → n < 4096 → get_or headers n None ≡ Some hd → hd.links ≤ 1000 → (k : Kind) → hd.kind ≡ k
-          → (hd.links ≡ cond (is_directory_kind hd.kind) (2 + slice_index t.below n) (slice_index t.counts n)) ↔ (hd.links ≡ links (tree_in m) n)
+          → (hd.links ≡ cond (is_directory_kind hd.kind) (2 + slice_index t.below n) (slice_index t.counts n)) ↔
+          (hd.links ≡ links (tree_in m) n)
       links_of n hd low is few kind.File e =
           let same = count_is n low in
           let tree = ap (links_at (tree_in m) n) (node_there n hd low is ∙ ap (λ (k : Kind). Some (node_by m k n (as_header hd))) e) in
@@ -253,7 +267,8 @@ module _ (m : LogMap) (are : AreHeaders m) (headers : List (Option Header)) (tol
       links_of n hd low is few kind.Directory e =
           let own = names_directory m are n (as_header hd) (head_told m headers told n low hd is) e in
           let same = named.below n low in
-          let counted = count_same (leads headers) (λ (v : ℕ). is_dir (node (tree_in m) v)) (names_at m n) (λ v some. leads_is v (given_low n v some)) in
+          let counted = count_same (leads headers) (λ (v : ℕ). is_dir (node (tree_in m) v)) (names_at m n)
+          (λ v some. leads_is v (given_low n v some)) in
           let moved = ap (λ (ms : Names). count_by (λ x. is_dir (node (tree_in m) x.1)) ms) own in
           let tree = ap (links_at (tree_in m) n) (node_there n hd low is ∙ ap (λ (k : Kind). Some (node_by m k n (as_header hd))) e) in
           let test = ap {B = ℕ} (λ (k : Kind). cond (is_directory_kind k) (2 + slice_index t.below n) (slice_index t.counts n)) e in
@@ -272,7 +287,8 @@ module _ (m : LogMap) (are : AreHeaders m) (headers : List (Option Header)) (tol
       pub fit_if_links : AreLinks m → AreLinksFit headers t
       fit_if_links all n low = by (get_or headers n None) refl
         where
-          by : (o : Option Header) → get_or headers n None ≡ o → FitsLinks (get_or headers n None) (slice_index t.counts n) (slice_index t.below n)
+          by : (o : Option Header) → get_or headers n None ≡ o
+              → FitsLinks (get_or headers n None) (slice_index t.counts n) (slice_index t.below n)
           by None is = subst (λ (o : Option Header). FitsLinks o (slice_index t.counts n) (slice_index t.below n)) (sym is) tt
           by (Some hd) is =
               subst (λ (o : Option Header). FitsLinks o (slice_index t.counts n) (slice_index t.below n)) (sym is)

@@ -1,5 +1,6 @@
 -- What a device that holds a log map answers to reads.
-use Rattle.std.proofs.Common.{◌≡◌, ◌<◌, ⊎_elim, ◌+◌, ◌-◌, ◌/◌, ◌%◌, ℕ, zero, suc, nat_lt, cond, List, [], length, replicate, Option, Some, None, refl, sym, ◌∙◌, ap, ap₂, subst, arith, slice_index}
+use Rattle.std.proofs.Common.{◌≡◌, ◌<◌, ⊎_elim, ◌+◌, ◌-◌, ◌/◌, ◌%◌, ℕ, zero, suc, nat_lt, cond, List, [], length, replicate, Option, Some}
+use Rattle.std.proofs.Common.{None, refl, sym, ◌∙◌, ap, ap₂, subst, arith, slice_index}
 use Rattle.std.proofs.lemmas.Bool.{cases_eq}
 use Rattle.std.proofs.lemmas.List.{get_or-set_other, get_or-set_same, length-replicate}
 use Rattle.std.proofs.Common.{get_or, set}
@@ -42,16 +43,22 @@ sees_first a b c k m sees looks = record { keeps = looks.carries.kept_before see
 pub sees_then : (a b c : DeviceState) (k : CheckpointValue) (m : LogMap) → Sees a c k m → Looks a b → Sees b c k m
 sees_then a b c k m sees looks =
     let same = sym looks.untouched.content in
-    record { keeps = sees.keeps; holds = subst (λ (x : Content). HoldsAt x k m) same sees.holds; sized = subst (λ (x : Content). (at : ℕ) (bytes : List ℕ) → cell_at x at ≡ Some bytes → length bytes ≡ 512) same sees.sized }
+    record {
+      keeps = sees.keeps;
+      holds = subst (λ (x : Content). HoldsAt x k m) same sees.holds;
+      sized = subst (λ (x : Content). (at : ℕ) (bytes : List ℕ) → cell_at x at ≡ Some bytes → length bytes ≡ 512) same sees.sized;
+    }
 
 pub leads_then : (a b : DeviceState) (k : CheckpointValue) (map : MapValue) → Leads a.content k map → Looks a b → Leads b.content k map
 leads_then a b k map leads looks = subst (λ (x : Content). Leads x k map) (sym looks.untouched.content) leads
 
-pub inode_then : (a b : DeviceState) (k : CheckpointValue) (n : ℕ) (bytes : List ℕ) → bytes ≡ block a.content (address a.content k (Inode n)) → Looks a b → bytes ≡ block b.content (address b.content k (Inode n))
+pub inode_then : (a b : DeviceState) (k : CheckpointValue) (n : ℕ) (bytes : List ℕ)
+    → bytes ≡ block a.content (address a.content k (Inode n)) → Looks a b → bytes ≡ block b.content (address b.content k (Inode n))
 inode_then a b k n bytes is looks = is ∙ ap (λ (x : Content). block x (address x k (Inode n))) (sym looks.untouched.content)
 
 -- ---- what is there
-module _ (c : Content) (k : CheckpointValue) (m : LogMap) (sized : (at : ℕ) (bytes : List ℕ) → cell_at c at ≡ Some bytes → length bytes ≡ 512) (st : HoldsAt c k m) where
+module _ (c : Content) (k : CheckpointValue) (m : LogMap)
+    (sized : (at : ℕ) (bytes : List ℕ) → cell_at c at ≡ Some bytes → length bytes ≡ 512) (st : HoldsAt c k m) where
   pub is_long : (e : Entry) (at : ℕ) → at ≡ address c k e → 0 < at → 0 < length (block c at)
   is_long e at is some =
       let long = Decodes.long c k m sized st e (omega (arith, is, some)) in
@@ -90,10 +97,12 @@ module _ (c : Content) (k : CheckpointValue) (m : LogMap) (sized : (at : ℕ) (b
   unfolding address
   double_is n bytes is = ap (λ (b : List ℕ). word b 121) is
 
-  data_by : (n i : ℕ) (bytes : List ℕ) → bytes ≡ block c (address c k (Inode n)) → (leaf : ℕ) → leaf ≡ address c k (Leaf n ((i - 112) / 128))
+  data_by : (n i : ℕ) (bytes : List ℕ) → bytes ≡ block c (address c k (Inode n)) → (leaf : ℕ)
+      → leaf ≡ address c k (Leaf n ((i - 112) / 128))
       → cond (nat_lt i 112) (word bytes (8 + i)) (word (block c leaf) ((i - 112) % 128)) ≡ address c k (Data n i)
   unfolding address
-  data_by n i bytes is leaf at = ap₂ (λ (b : List ℕ) (x : ℕ). cond (nat_lt i 112) (word b (8 + i)) (word (block c x) ((i - 112) % 128))) is at
+  data_by n i bytes is leaf at =
+      ap₂ (λ (b : List ℕ) (x : ℕ). cond (nat_lt i 112) (word b (8 + i)) (word (block c x) ((i - 112) % 128))) is at
 
   pub data_is : (n i : ℕ) (bytes : List ℕ) → bytes ≡ block c (address c k (Inode n)) → data_in c bytes i ≡ address c k (Data n i)
   data_is n i bytes is = data_by n i bytes is (leaf_in c bytes ((i - 112) / 128)) (leaf_is n ((i - 112) / 128) bytes is)
@@ -101,7 +110,8 @@ module _ (c : Content) (k : CheckpointValue) (m : LogMap) (sized : (at : ℕ) (b
   pub data_not_lost : (n i : ℕ) (bytes : List ℕ) → bytes ≡ block c (address c k (Inode n)) → IsDataLost c bytes i → ⊥
   data_not_lost n i bytes is lost = ⊎_elim
       (λ (double : IsLeafLost c bytes ((i - 112) / 128)). not_lost (Double n) (word bytes 121) (double_is n bytes is) double.1)
-      (λ (leaf : IsLost c (leaf_in c bytes ((i - 112) / 128))). not_lost (Leaf n ((i - 112) / 128)) (leaf_in c bytes ((i - 112) / 128)) (leaf_is n ((i - 112) / 128) bytes is) leaf)
+      (λ (leaf : IsLost c (leaf_in c bytes ((i - 112) / 128))).
+      not_lost (Leaf n ((i - 112) / 128)) (leaf_in c bytes ((i - 112) / 128)) (leaf_is n ((i - 112) / 128) bytes is) leaf)
       lost.1
 
   pub block_there : (n i at : ℕ) (bytes : List ℕ) → at ≡ address c k (Data n i) → 0 < at → block c at ≡ bytes → HoldsBlock m n i bytes
@@ -121,8 +131,10 @@ module _ (c : Content) (k : CheckpointValue) (m : LogMap) (sized : (at : ℕ) (b
       }
 
 -- ---- headers by number
-pub told_next : (m : LogMap) (hs : List (Option Header)) (i : ℕ) (found : Option Header) → i < length hs → TellsHeaders m hs i → m.header i ≡ option_map as_header found → TellsHeaders m (set hs i found) (i + 1)
+pub told_next : (m : LogMap) (hs : List (Option Header)) (i : ℕ) (found : Option Header) → i < length hs → TellsHeaders m hs i
+    → m.header i ≡ option_map as_header found → TellsHeaders m (set hs i found) (i + 1)
 told_next m hs i found inside was own n low = ⊎_elim
-    (λ (here : n ≡ i). ap m.header here ∙ own ∙ ap (option_map as_header) (sym (ap (λ (x : ℕ). get_or (set hs i found) x None) here ∙ get_or-set_same hs i found None inside)))
+    (λ (here : n ≡ i). ap m.header here ∙ own
+    ∙ ap (option_map as_header) (sym (ap (λ (x : ℕ). get_or (set hs i found) x None) here ∙ get_or-set_same hs i found None inside)))
     (λ (other : n ≡ i → ⊥). was n (omega (arith, low, other)) ∙ ap (option_map as_header) (sym (get_or-set_other hs i n found None other)))
     (cases_eq n i)

@@ -1,6 +1,7 @@
 -- How often the tree's directories give a number, and which.
 use Rattle.std.specs.Prelude.{T, sum_by, unwrap_or}
-use Rattle.std.proofs.Common.{◌≡◌, ◌<◌, ◌≤◌, ⊎_elim, ◌+◌, cond, true, false, Bool, eqb, ℕ, zero, suc, List, [], ◌∷◌, Option, Some, None, refl, ◌∙◌, ap, arith}
+use Rattle.std.proofs.Common.{◌≡◌, ◌<◌, ◌≤◌, ⊎_elim, ◌+◌, cond, true, false, Bool, eqb, ℕ, zero, suc, List, [], ◌∷◌, Option, Some, None}
+use Rattle.std.proofs.Common.{refl, ◌∙◌, ap, arith}
 use Rattle.std.proofs.lemmas.Bool.{cases_eq}
 use Rattle.std.proofs.lemmas.List.Sums.{sum_by-cons}
 use Rattle.std.specs.Cmp.Lexicographic.{nat_list_cmp_total}
@@ -66,7 +67,8 @@ module _ (m : LogMap) (f : Node → ℕ) (w : ℕ → ℕ) where
 
 -- ---- names
 module _ (m : LogMap) (are : AreHeaders m) (n : ℕ) where
-  given_each : (d : ℕ) (o : Option Node) → elim o [ None ↦ 0 | Some x ↦ giving (names_of x) n ] ≡ giving (names_of (unwrap_or o (File []))) n
+  given_each : (d : ℕ) (o : Option Node)
+      → elim o [ None ↦ 0 | Some x ↦ giving (names_of x) n ] ≡ giving (names_of (unwrap_or o (File []))) n
   given_each d None = refl
   given_each d (Some x) = refl
 
@@ -112,6 +114,7 @@ sum_both f a b (suc n) low high ne = ⊎_elim
     (λ (here : a ≡ n). (let e = ap f here in let rest = sum_own f b n (omega (arith, here, high, ne)) in omega (arith, e, rest)))
     (λ (other : a ≡ n → ⊥). ⊎_elim
     (λ (there : b ≡ n). (let e = ap f there in let rest = sum_own f a n (omega (arith, low, other)) in omega (arith, e, rest)))
-    (λ (apart : b ≡ n → ⊥). (let rest = sum_both f a b n (omega (arith, low, other)) (omega (arith, high, apart)) ne in omega (arith, rest)))
+    (λ (apart : b ≡ n → ⊥).
+    (let rest = sum_both f a b n (omega (arith, low, other)) (omega (arith, high, apart)) ne in omega (arith, rest)))
     (cases_eq b n))
     (cases_eq a n)

@@ -1,5 +1,6 @@
 -- The stages of a tree by number, and the room that it needs.
-use Rattle.std.proofs.Common.{◌≡◌, ◌≤◌, ◌+◌, ◌*◌, ◌%◌, ◌==◌, nat_le, true, false, Bool, ℕ, zero, suc, length, Option, Some, None, refl, sym, ◌∙◌, ap, subst, arith}
+use Rattle.std.proofs.Common.{◌≡◌, ◌≤◌, ◌+◌, ◌*◌, ◌%◌, ◌==◌, nat_le, true, false, Bool, ℕ, zero, suc, length, Option, Some, None, refl, sym}
+use Rattle.std.proofs.Common.{◌∙◌, ap, subst, arith}
 use Rattle.std.specs.Prelude.{sum_by}
 use Rattle.std.proofs.lemmas.Bool.{and_parts, eqb-true, ltb-true}
 use Rattle.lfs_model.specs.declared.Kind.{Kind}
@@ -22,7 +23,8 @@ use Rattle.lfs_model.proofs.Decodes
 use Rattle.lfs_model.proofs.ObjectNeeds.{filter_none, object_costs}
 use Rattle.lfs_model.proofs.Standing.{headers_are}
 use Rattle.lfs_verify.specs.Codes.{HoldsBelow}
-use Rattle.lfs_verify.proofs.CodeSteps.{below_1, below_next, stage_1, stage_2, stage_3, stage_4, stage_5, stage_6, stage_7, stage_8, stage_9}
+use Rattle.lfs_verify.proofs.CodeSteps.{below_1, below_next, stage_1, stage_2, stage_3, stage_4, stage_5, stage_6, stage_7, stage_8}
+use Rattle.lfs_verify.proofs.CodeSteps.{stage_9}
 use Rattle.lfs_tree.specs.Checking.{IsTreeDamage, links_fail, reached_fail, room_fail, slots_fail, texts_fail}
 use Rattle.lfs_tree.specs.Objects.{sum_below}
 use Rattle.lfs_tree.proofs.TreeNames.{tree_sum}
@@ -30,29 +32,45 @@ use Rattle.lfs_tree.proofs.TreeNames.{tree_sum}
 -- ---- stages by number
 below_10 : (v : View) → Stages v → HoldsBelow v 10
 below_10 v s =
-    below_next v 9 (below_next v 8 (below_next v 7 (below_next v 6 (below_next v 5 (below_next v 4 (below_next v 3 (below_next v 2 (below_next v 1 (below_1 v)
-    ((stage_1 v).1 s.usages)) ((stage_2 v).1 s.rows)) ((stage_3 v).1 s.maps)) ((stage_4 v).1 s.inodes)) (stage_5 v s.roots)) (stage_6 v s.leaves))
+    below_next v 9 (below_next v 8
+    (below_next v 7 (below_next v 6 (below_next v 5 (below_next v 4 (below_next v 3 (below_next v 2 (below_next v 1 (below_1 v)
+    ((stage_1 v).1 s.usages)) ((stage_2 v).1 s.rows)) ((stage_3 v).1 s.maps)) ((stage_4 v).1 s.inodes)) (stage_5 v s.roots))
+    (stage_6 v s.leaves))
     ((stage_7 v).1 s.blocks)) ((stage_8 v).1 s.named)) ((stage_9 v).1 s.counted)
 
 -- damage of the tree is damage of the volume, where the stages of its log hold
-pub damage_of_tree : (v : View) (code : ℕ) → Stages v → IsTreeDamage v.checkpoint.segments (log_in v) code → (10 ≤ code) × (code ≤ 14) × IsDamaged v code
+pub damage_of_tree : (v : View) (code : ℕ) → Stages v → IsTreeDamage v.checkpoint.segments (log_in v) code
+    → (10 ≤ code) × (code ≤ 14) × IsDamaged v code
 unfolding stage
 damage_of_tree v code s (slots_fail is fails) =
     (omega (arith, is), omega (arith, is), subst (IsDamaged v) (sym is) (below_10 v s, fails))
 damage_of_tree v code s (texts_fail is slots fails) =
     (omega (arith, is), omega (arith, is), subst (IsDamaged v) (sym is) (below_next v 10 (below_10 v s) slots, fails))
-damage_of_tree v code s (reached_fail is slots texts fails) =
-    (omega (arith, is), omega (arith, is), subst (IsDamaged v) (sym is) (below_next v 11 (below_next v 10 (below_10 v s) slots) texts, fails))
-damage_of_tree v code s (links_fail is slots texts reached fails) =
-    (omega (arith, is), omega (arith, is), subst (IsDamaged v) (sym is) (below_next v 12 (below_next v 11 (below_next v 10 (below_10 v s) slots) texts) reached, fails))
-damage_of_tree v code s (room_fail is slots texts reached links fails) =
-    (omega (arith, is), omega (arith, is), subst (IsDamaged v) (sym is) (below_next v 13 (below_next v 12 (below_next v 11 (below_next v 10 (below_10 v s) slots) texts) reached) links, fails))
+damage_of_tree v code s (reached_fail is slots texts fails) = (
+  omega (arith, is),
+  omega (arith, is),
+  subst (IsDamaged v) (sym is) (below_next v 11 (below_next v 10 (below_10 v s) slots) texts, fails),
+)
+damage_of_tree v code s (links_fail is slots texts reached fails) = (
+  omega (arith, is),
+  omega (arith, is),
+  subst (IsDamaged v) (sym is) (below_next v 12 (below_next v 11 (below_next v 10 (below_10 v s) slots) texts) reached, fails),
+)
+damage_of_tree v code s (room_fail is slots texts reached links fails) = (
+  omega (arith, is),
+  omega (arith, is),
+  subst (IsDamaged v) (sym is)
+      (below_next v 13 (below_next v 12 (below_next v 11 (below_next v 10 (below_10 v s) slots) texts) reached) links, fails),
+)
 
 -- where the stages of the log and of its tree hold, too few clean segments are what is damaged
 pub too_few_clean : (v : View) → Stages v → IsTree v.checkpoint.segments (log_in v) → (EnoughClean v → ⊥) → IsDamaged v 15
 unfolding stage
-too_few_clean v s t few =
-    (below_next v 14 (below_next v 13 (below_next v 12 (below_next v 11 (below_next v 10 (below_10 v s) t.slots) t.texts) t.reached) t.links) t.room, few)
+too_few_clean v s t few = (
+  below_next v 14 (below_next v 13 (below_next v 12 (below_next v 11 (below_next v 10 (below_10 v s) t.slots) t.texts) t.reached)
+      t.links) t.room,
+  few,
+)
 
 -- ---- the log map of a content
 pub same_log : (c : Content) (k : CheckpointValue) (m : LogMap) → HoldsAt c k m → m ≡ log_in (view c k)
@@ -84,7 +102,8 @@ module _ (c : Content) (k : CheckpointValue) (m : LogMap) (sized : IsSized c) (s
   long : (n : ℕ) → AreLong m n
   long n i has = ap length (st.block n i) ∙ Decodes.long c k m sized st (Data n i) (Decodes.stored c k m sized st (Data n i) has)
 
-  whole_slots : (h : Header) → is_size h.form h.kind h.size ≡ true → (k : Kind) → h.kind ≡ k → k ≡ kind.Directory → h.size % slot_len h.form ≡ 0
+  whole_slots : (h : Header) → is_size h.form h.kind h.size ≡ true → (k : Kind) → h.kind ≡ k → k ≡ kind.Directory
+      → h.size % slot_len h.form ≡ 0
   unfolding is_size
   whole_slots h size kind.File e dir = absurd (cc)
   whole_slots h size kind.Link e dir = absurd (cc)
@@ -120,7 +139,8 @@ module _ (c : Content) (k : CheckpointValue) (m : LogMap) (sized : IsSized c) (s
 
   meta_each : (n : ℕ) (o : Option Header) → m.header n ≡ o → elim (node_of m n o) [ None ↦ 0 | Some x ↦ meta_of x ] ≡ meta_of_file m n
   meta_each n None at = sym (ap (λ (o : Option Header). elim o [ None ↦ 0 | Some h ↦ 1 + pointers (stored_blocks m n) ]) at)
-  meta_each n (Some h) at = (costs n h at).above ∙ sym (ap (λ (o : Option Header). elim o [ None ↦ 0 | Some h ↦ 1 + pointers (stored_blocks m n) ]) at)
+  meta_each n (Some h) at = (costs n h at).above
+      ∙ sym (ap (λ (o : Option Header). elim o [ None ↦ 0 | Some h ↦ 1 + pointers (stored_blocks m n) ]) at)
 
   nobody : m.header 0 ≡ None
   nobody = by (m.header 0) refl
@@ -135,15 +155,18 @@ module _ (c : Content) (k : CheckpointValue) (m : LogMap) (sized : IsSized c) (s
       sums_same (λ n. elim (node_of m n (m.header n)) [ None ↦ 0 | Some x ↦ f x ]) g
       (ap (λ (o : Option Header). elim (node_of m 0 o) [ None ↦ 0 | Some x ↦ f x ]) nobody) (λ n. each (suc n)) 4095
 
-  total_of : (f : Node → ℕ) → sum_by (λ (e : ℕ × Node). f e.1) (tree_in m) ≡ sum_below (λ n. elim (node_of m n (m.header n)) [ None ↦ 0 | Some x ↦ f x ]) 4096
+  total_of : (f : Node → ℕ)
+      → sum_by (λ (e : ℕ × Node). f e.1) (tree_in m) ≡ sum_below (λ n. elim (node_of m n (m.header n)) [ None ↦ 0 | Some x ↦ f x ]) 4096
   total_of f =
       tree_sum m f (λ n. elim (node_of m n (m.header n)) [ None ↦ 0 | Some x ↦ f x ]) (λ n. refl)
       (ap (λ (o : Option Header). elim (node_of m 0 o) [ None ↦ 0 | Some x ↦ f x ]) nobody)
 
   pub need_is : (blocks others : ℕ) → IsCounted m blocks others → need (tree_in m) ≡ blocks + 7 * others + 720
   need_is blocks others counted =
-      let data_is : data_blocks (tree_in m) ≡ sum_upto (data_of_file m) 4095 = total_of data_of ∙ sum_of data_of (data_of_file m) (λ n. data_each n (m.header n) refl) in
-      let meta : meta_blocks (tree_in m) ≡ sum_upto (meta_of_file m) 4095 = total_of meta_of ∙ sum_of meta_of (meta_of_file m) (λ n. meta_each n (m.header n) refl) in
+      let data_is : data_blocks (tree_in m) ≡ sum_upto (data_of_file m) 4095 = total_of data_of
+      ∙ sum_of data_of (data_of_file m) (λ n. data_each n (m.header n) refl) in
+      let meta : meta_blocks (tree_in m) ≡ sum_upto (meta_of_file m) 4095 = total_of meta_of
+      ∙ sum_of meta_of (meta_of_file m) (λ n. meta_each n (m.header n) refl) in
       let stored = counted.stored in
       let above = counted.above in
       omega (arith, data_is, meta, stored, above)

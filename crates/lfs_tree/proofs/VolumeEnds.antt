@@ -28,14 +28,16 @@ refused_log old new fault.NoCheckpoint is = is
 refused_log old new (fault.Damaged code) is = λ keeps. (is keeps).1
 
 -- ---- the tree behind the log
-module _ (a b d : DeviceState) (one : Looks a b) (two : Looks b d) (found : FoundLog) (holds : b.keeps_model → IsFound a.content found) where
+module _ (a b d : DeviceState) (one : Looks a b) (two : Looks b d) (found : FoundLog)
+    (holds : b.keeps_model → IsFound a.content found) where
   found_then : d.keeps_model → IsFound b.content found
   found_then keeps = subst (λ (x : Content). IsFound x found) (sym one.untouched.content) (holds (two.carries.kept_before keeps))
 
   has_then : d.keeps_model → HoldsTables b.content found.tables
   has_then keeps = (found_then keeps).tables
 
-  module _ (tree : d.keeps_model → (has : HoldsTables b.content found.tables) → TreeOf has.checkpoint.segments has.log (tree_in has.log)) where
+  module _ (tree : d.keeps_model → (has : HoldsTables b.content found.tables)
+      → TreeOf has.checkpoint.segments has.log (tree_in has.log)) where
     pub tree_found : found.enough_clean ≡ true → d.keeps_model → HasTree a.content found.tables
     tree_found on keeps =
         let log = found_then keeps in
@@ -54,7 +56,8 @@ module _ (a b d : DeviceState) (one : Looks a b) (two : Looks b d) (found : Foun
           checkpoint = has.checkpoint;
           newest = has.newest;
           size = has.holds.size;
-          damaged = too_few_clean (view b.content has.checkpoint) has.holds.stages whole (λ clean. let bad : false ≡ true = sym off ∙ log.clean.1 clean in absurd (cc));
+          damaged = too_few_clean (view b.content has.checkpoint) has.holds.stages whole
+              (λ clean. let bad : false ≡ true = sym off ∙ log.clean.1 clean in absurd (cc));
         })
 
   refused_by : (f : MountFault) → d.keeps_model → IsRefusedTree b d f → IsRefusedVolume a d f
@@ -86,7 +89,8 @@ undamaged c code damage s is =
     not_damaged (view c is.checkpoint) is.stands.holds.stages
     (subst (IsTree is.checkpoint.segments) (same_log c is.checkpoint is.log is.stands.holds) is.tree.tree) is.stands.clean code here
 
-pub fault_of_volume : (old new : DeviceState) → IsLawful old → (f : MountFault) → IsRefusedVolume old new f → (f ≡ fault.NoMemory → ⊥) → IsTreeFault old new f
+pub fault_of_volume : (old new : DeviceState) → IsLawful old → (f : MountFault) → IsRefusedVolume old new f → (f ≡ fault.NoMemory → ⊥)
+    → IsTreeFault old new f
 fault_of_volume old new lawful fault.NoMemory is other = absurd (other refl)
 fault_of_volume old new lawful fault.Device is other = λ s keeps stands. is keeps
 fault_of_volume old new lawful fault.TooSmall is other = λ s keeps stands.

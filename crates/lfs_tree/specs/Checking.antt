@@ -44,7 +44,8 @@ IsFaultOf failed damage NoCheckpoint = ⊥
 IsFaultOf failed damage (Damaged code) = damage code
 
 -- all that the stages of names look at is in tables, and the stages before hold
-pub record IsGathered (c : Content) (k : CheckpointValue) (m : LogMap) (headers : List (Option Header)) (names : NamesValue) (t : Tables) : Type 0 where
+pub record IsGathered (c : Content) (k : CheckpointValue) (m : LogMap) (headers : List (Option Header)) (names : NamesValue)
+    (t : Tables) : Type 0 where
   pub holds : HoldsAt c k m
   pub sized : IsSized c
   pub told : TellsHeaders m headers 4096
@@ -72,8 +73,8 @@ pub record HasTree (c : Content) (t : Tables) : Type 0 where
   pub tables : HasTables c t
   pub tree : TreeOf tables.held.checkpoint.segments tables.held.log (tree_in tables.held.log)
 
--- Why a volume is refused, by fault: a call of the device failed, or this is so of the content that was there. Damage is told by the first of the
--- stages 1 to 15 that fails: 1 to 9 are those of the log, 10 to 14 those of the tree, and with 15 too few segments are clean.
+-- Why a volume is refused, by fault: a call of the device failed, or this is so of the content that was there. Damage is told by the first
+-- of the stages 1 to 15 that fails: 1 to 9 are those of the log, 10 to 14 those of the tree, and with 15 too few segments are clean.
 abbrev pub IsRefusedVolume : DeviceState → DeviceState → MountFault → Type 0
 IsRefusedVolume old new NoMemory = Unit {0}
 IsRefusedVolume old new Device = new.keeps_model → old.failures < new.failures

@@ -1,6 +1,7 @@
 -- What the entries of directories say of numbers, in tables by number, and the slots that they are read from.
 -- All of it is an own choice.
-use Rattle.std.specs.Prelude.{◌≡◌, ◌≢◌, ◌<◌, ◌+◌, ◌==◌, min, is_some, cond, ℕ, Bool, true, false, List, ◌++◌, length, slice_index, slice_set, get_or, count_by, Option, Some, None, MatchBool, Vec}
+use Rattle.std.specs.Prelude.{◌≡◌, ◌≢◌, ◌<◌, ◌+◌, ◌==◌, min, is_some, cond, ℕ, Bool, true, false, List, ◌++◌, length, slice_index}
+use Rattle.std.specs.Prelude.{slice_set, get_or, count_by, Option, Some, None, MatchBool, Vec}
 use Rattle.std.specs.declared.alloc.Global.{Global}
 use Rattle.std.specs.BTreeSet as tree
 use Rattle.std.specs.BTreeSet.{BTreeSet}
@@ -40,7 +41,8 @@ capped n = min n 65535
 
 -- the set has these names, and no other
 abbrev pub HasNames : BTreeSet (Vec ℕ Global) → Names → Type 0
-HasNames set names = (q : Vec ℕ Global) → tree.contains (λ (x y : Vec ℕ Global). slice_cmp nat_cmp x.items y.items) set q ≡ is_some (find byte_cmp q.items names)
+HasNames set names = (q : Vec ℕ Global)
+    → tree.contains (λ (x y : Vec ℕ Global). slice_cmp nat_cmp x.items y.items) set q ≡ is_some (find byte_cmp q.items names)
 
 -- ---- tables by number
 
@@ -99,16 +101,19 @@ pub record AreGoodSlots (form : ℕ) (headers : List (Option Header)) (slots : L
   pub apart : length (map_of form slots) ≡ length slots
 
 -- slots of directory d were gone through
-pub record IsTaken (form : ℕ) (headers : List (Option Header)) (d : ℕ) (base : Base) (slots : List (List ℕ)) (set : BTreeSet (Vec ℕ Global)) (t : NamesValue) : Type 0 where
+pub record IsTaken (form : ℕ) (headers : List (Option Header)) (d : ℕ) (base : Base) (slots : List (List ℕ)) (set : BTreeSet (Vec ℕ Global))
+    (t : NamesValue) : Type 0 where
   pub good : AreGoodSlots form headers slots
   pub names : HasNames set (map_of form slots)
   pub noted : IsNoted headers d base (map_of form slots) t
 
 -- More slots are gone through, which stand before those; or they aren't good.
-abbrev pub TakesSlots : ℕ → List (Option Header) → ℕ → List (List ℕ) → BTreeSet (Vec ℕ Global) → BTreeSet (Vec ℕ Global) → NamesValue → NamesValue → Bool → Type 0
+abbrev pub TakesSlots : ℕ → List (Option Header) → ℕ → List (List ℕ) → BTreeSet (Vec ℕ Global) → BTreeSet (Vec ℕ Global) → NamesValue
+    → NamesValue → Bool → Type 0
 TakesSlots form headers d more set set' t t' taken = (base : Base) (behind : List (List ℕ)) → IsTaken form headers d base behind set t
     → MatchBool taken (IsTaken form headers d base (more ++ behind) set' t') (AreGoodSlots form headers (more ++ behind) → ⊥)
 
 -- Whether slots are good and the tables tell their names too, or they aren't good.
 abbrev pub TakesNames : ℕ → List (Option Header) → ℕ → Base → List (List ℕ) → NamesValue → Bool → Type 0
-TakesNames form headers d base slots t taken = MatchBool taken (AreGoodSlots form headers slots × IsNoted headers d base (map_of form slots) t) (AreGoodSlots form headers slots → ⊥)
+TakesNames form headers d base slots t taken =
+    MatchBool taken (AreGoodSlots form headers slots × IsNoted headers d base (map_of form slots) t) (AreGoodSlots form headers slots → ⊥)

@@ -36,7 +36,8 @@ pub record AreNamed (m : LogMap) (headers : List (Option Header)) (t : NamesValu
 
 -- Object n is good and the tables tell its names too, or it isn't good.
 abbrev pub TakesObject : LogMap → List (Option Header) → ℕ → Base → NamesValue → Bool → Type 0
-TakesObject m headers n base t taken = MatchBool taken (IsGoodObject m headers n × IsNoted headers n base (names_at m n) t) (IsGoodObject m headers n → ⊥)
+TakesObject m headers n base t taken =
+    MatchBool taken (IsGoodObject m headers n × IsNoted headers n base (names_at m n) t) (IsGoodObject m headers n → ⊥)
 
 -- The stage holds and the tables tell all names, or it fails.
 abbrev pub SlotStage : LogMap → List (Option Header) → NamesValue → Bool → Type 0

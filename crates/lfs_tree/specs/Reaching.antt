@@ -29,9 +29,11 @@ pub record Marked (up : List ℕ) (marks : List ℕ) (limit : ℕ) : Type 0 wher
 
 -- A number and all on the way up from it get marks, or one doesn't come to the root from it.
 abbrev pub MarksUp : List ℕ → List ℕ → ℕ → Bool → Type 0
-MarksUp up marks start reached = MatchBool reached (Marked up marks (start + 1) × (0 < slice_index marks start)) (Climbs (slice_index up) start → ⊥)
+MarksUp up marks start reached =
+    MatchBool reached (Marked up marks (start + 1) × (0 < slice_index marks start)) (Climbs (slice_index up) start → ⊥)
 
 -- The same of a directory; another number is passed by.
 abbrev pub MarksDirectory : List (Option Header) → List ℕ → List ℕ → ℕ → Bool → Type 0
 MarksDirectory headers up marks n reached =
-    MatchBool reached (Marked up marks (n + 1) × (leads headers n ≡ true → Climbs (slice_index up) n)) ((leads headers n ≡ true) × (Climbs (slice_index up) n → ⊥))
+    MatchBool reached (Marked up marks (n + 1) × (leads headers n ≡ true → Climbs (slice_index up) n))
+    ((leads headers n ≡ true) × (Climbs (slice_index up) n → ⊥))

@@ -49,12 +49,15 @@ OfLog old new map P = (k : CheckpointValue) (m : LogMap) → Sees old new k m �
 
 -- The same where these are its headers.
 abbrev pub OfHeaders : DeviceState → DeviceState → MapValue → List (Option Header) → (CheckpointValue → LogMap → Type 0) → Type 0
-OfHeaders old new map headers P = (k : CheckpointValue) (m : LogMap) → Sees old new k m → Leads old.content k map → TellsHeaders m headers 4096 → P k m
+OfHeaders old new map headers P = (k : CheckpointValue) (m : LogMap) → Sees old new k m → Leads old.content k map
+    → TellsHeaders m headers 4096 → P k m
 
 -- Of each log map that the device holds, and a file of it that has this inode, this is so.
 abbrev pub OfInode : DeviceState → DeviceState → List ℕ → (LogMap → ℕ → Type 0) → Type 0
-OfInode old new inode P = (k : CheckpointValue) (m : LogMap) (n : ℕ) → Sees old new k m → inode ≡ block old.content (address old.content k (Inode n)) → P m n
+OfInode old new inode P = (k : CheckpointValue) (m : LogMap) (n : ℕ) → Sees old new k m
+    → inode ≡ block old.content (address old.content k (Inode n)) → P m n
 
 -- The same of one file.
 abbrev pub OfInodeAt : DeviceState → DeviceState → List ℕ → ℕ → (LogMap → Type 0) → Type 0
-OfInodeAt old new inode n P = (k : CheckpointValue) (m : LogMap) → Sees old new k m → inode ≡ block old.content (address old.content k (Inode n)) → P m
+OfInodeAt old new inode n P = (k : CheckpointValue) (m : LogMap) → Sees old new k m
+    → inode ≡ block old.content (address old.content k (Inode n)) → P m

@@ -1,5 +1,6 @@
 -- The data blocks of a leaf, of a double root, of a whole file.
-use Rattle.std.proofs.Common.{◌≡◌, ◌<◌, ◌≤◌, ⊎_elim, ◌+◌, ◌-◌, ◌*◌, ◌/◌, ◌%◌, nat_lt, cond, ℕ, zero, suc, Bool, List, [], length, refl, sym, ◌∙◌, ap, ap₂, subst, arith}
+use Rattle.std.proofs.Common.{◌≡◌, ◌<◌, ◌≤◌, ⊎_elim, ◌+◌, ◌-◌, ◌*◌, ◌/◌, ◌%◌, nat_lt, cond, ℕ, zero, suc, Bool, List, [], length, refl, sym}
+use Rattle.std.proofs.Common.{◌∙◌, ap, ap₂, subst, arith}
 use Rattle.std.proofs.lemmas.Bool.{cases_lt, ltb-true, lt-ltb}
 use Rattle.lfs_model.specs.Entry.{Entry, Data, Leaf, Double, Inode, Map, Usage, word, header}
 use Rattle.lfs_model.specs.Checkpoint.{CheckpointValue}
@@ -15,7 +16,8 @@ use Rattle.lfs_verify.proofs.Takes.{no_word}
 use Rattle.lfs_verify.proofs.Words.{word_none}
 
 -- the same steps, written in another way
-pub goes_as : (v : View) (old new : List ℕ) (r r2 s s2 : ℕ) (stage : Type 0) (x : Bool) → r2 ≡ r → s2 ≡ s → Advances v old new r s stage x → Advances v old new r2 s2 stage x
+pub goes_as : (v : View) (old new : List ℕ) (r r2 s s2 : ℕ) (stage : Type 0) (x : Bool) → r2 ≡ r → s2 ≡ s → Advances v old new r s stage x
+    → Advances v old new r2 s2 stage x
 goes_as v old new r r2 s s2 stage x first last goes =
     subst (λ (a : ℕ). Advances v old new a s2 stage x) (sym first) (subst (λ (b : ℕ). Advances v old new r b stage x) (sym last) goes)
 
@@ -33,7 +35,8 @@ module _ (c : Content) (k : CheckpointValue) (n : ℕ) where
   pub direct_at : (i : ℕ) → i < 112 → address c k (Data n i) ≡ word (block c (address c k (Inode n))) (8 + i)
   direct_at i lt =
       address_linked c k (Data n i)
-      ∙ ap (λ (b : Bool). cond b (word (block c (address c k (Inode n))) (8 + i)) (word (block c (address c k (Leaf n ((i - 112) / 128)))) ((i - 112) % 128))) (lt-ltb i 112 lt)
+      ∙ ap (λ (b : Bool). cond b (word (block c (address c k (Inode n))) (8 + i))
+      (word (block c (address c k (Leaf n ((i - 112) / 128)))) ((i - 112) % 128))) (lt-ltb i 112 lt)
 
   -- the address of a block behind a leaf
   pub behind_at : (q j i : ℕ) → j < 128 → i ≡ 112 + 128 * q + j → address c k (Data n i) ≡ word (block c (address c k (Leaf n q))) j
@@ -41,11 +44,13 @@ module _ (c : Content) (k : CheckpointValue) (n : ℕ) where
       let here : (i - 112) / 128 ≡ q = omega (arith, lt, is) in
       let place : (i - 112) % 128 ≡ j = omega (arith, lt, is) in
       address_linked c k (Data n i)
-      ∙ cond_not (nat_lt i 112) (word (block c (address c k (Inode n))) (8 + i)) (word (block c (address c k (Leaf n ((i - 112) / 128)))) ((i - 112) % 128)) (λ on. let x = ltb-true i 112 on in omega arith)
+      ∙ cond_not (nat_lt i 112) (word (block c (address c k (Inode n))) (8 + i))
+      (word (block c (address c k (Leaf n ((i - 112) / 128)))) ((i - 112) % 128)) (λ on. let x = ltb-true i 112 on in omega arith)
       ∙ ap₂ (λ (x y : ℕ). word (block c (address c k (Leaf n x))) y) here place
 
   module _ (low : n < 4096) (a b : ℕ) (few : b ≤ 16624) (none : (i : ℕ) → a ≤ i → i < b → address c k (Data n i) ≡ 0) where
-    none_there : (e : Entry) → InBounds e → 536624 + 16624 * n + a ≤ step_of e → step_of e < 536624 + 16624 * n + b → Reached (view c k) e → ⊥
+    none_there : (e : Entry) → InBounds e → 536624 + 16624 * n + a ≤ step_of e → step_of e < 536624 + 16624 * n + b → Reached (view c k) e
+        → ⊥
     none_there (Usage j) bounds le lt reached = absurd (omega arith)
     none_there (Map j) bounds le lt reached = absurd (omega arith)
     none_there (Inode j) bounds le lt reached = absurd (omega arith)
@@ -61,7 +66,8 @@ module _ (c : Content) (k : CheckpointValue) (n : ℕ) where
     pass_to m le w = skip_to (view c k) m (536624 + 16624 * n + a) (536624 + 16624 * n + b) w (omega arith) none_there
 
   -- no leaf, no blocks behind it
-  pub behind_none : (q : ℕ) → address c k (Leaf n q) ≡ 0 → (i : ℕ) → 112 + 128 * q ≤ i → i < 112 + 128 * (q + 1) → address c k (Data n i) ≡ 0
+  pub behind_none : (q : ℕ) → address c k (Leaf n q) ≡ 0 → (i : ℕ) → 112 + 128 * q ≤ i → i < 112 + 128 * (q + 1)
+      → address c k (Data n i) ≡ 0
   behind_none q none i le lt =
       behind_at q (i - (112 + 128 * q)) i (omega arith) (omega arith)
       ∙ ap (λ (x : ℕ). word (block c x) (i - (112 + 128 * q))) none
@@ -73,17 +79,21 @@ module _ (c : Content) (k : CheckpointValue) (n : ℕ) where
   leaf_passed low q few none m w = pass_to low (112 + 128 * q) (112 + 128 * (q + 1)) (omega arith) (behind_none q none) m (omega arith) w
 
   -- a leaf that was reached is marked, and so has a sector
-  pub leaf_inside : n < 4096 → (q : ℕ) → q < 129 → (m : List ℕ) (r : ℕ) → 536624 ≤ r → (p : ℕ) → p ≡ address c k (Leaf n q) → (p ≡ 0 → ⊥) → Walked (view c k) m r → p < length m
+  pub leaf_inside : n < 4096 → (q : ℕ) → q < 129 → (m : List ℕ) (r : ℕ) → 536624 ≤ r → (p : ℕ) → p ≡ address c k (Leaf n q) → (p ≡ 0 → ⊥)
+      → Walked (view c k) m r → p < length m
   leaf_inside low q few m r past p is some w =
       let reached : Reached (view c k) (Leaf n q) = omega arith in
       let before = leaf_before n q low few in
-      let x = inside_marks m (address c k (Leaf n q)) (step_of (Leaf n q)) (w.marked (Leaf n q) (omega (arith, before, past)) (leaf_bounds n q low few) reached) in omega (arith, x, is)
+      let x = inside_marks m (address c k (Leaf n q)) (step_of (Leaf n q))
+      (w.marked (Leaf n q) (omega (arith, before, past)) (leaf_bounds n q low few) reached) in omega (arith, x, is)
 
-  pub leaf_readable : n < 4096 → (q : ℕ) → q < 129 → (m : List ℕ) (r : ℕ) → 536624 ≤ r → (p : ℕ) → p ≡ address c k (Leaf n q) → (p ≡ 0 → ⊥) → Walked (view c k) m r → block c p ≡ [] → ⊥
+  pub leaf_readable : n < 4096 → (q : ℕ) → q < 129 → (m : List ℕ) (r : ℕ) → 536624 ≤ r → (p : ℕ) → p ≡ address c k (Leaf n q) → (p ≡ 0 → ⊥)
+      → Walked (view c k) m r → block c p ≡ [] → ⊥
   leaf_readable low q few m r past p is some w none =
       let reached : Reached (view c k) (Leaf n q) = omega arith in
       let before = leaf_before n q low few in
-      no_word (block c (address c k (Leaf n q))) (ap (block c) (sym is) ∙ none) (w.good (Leaf n q) (omega (arith, before, past)) (leaf_bounds n q low few) reached)
+      no_word (block c (address c k (Leaf n q))) (ap (block c) (sym is) ∙ none)
+      (w.good (Leaf n q) (omega (arith, before, past)) (leaf_bounds n q low few) reached)
 
   -- the addresses that stand in a leaf
   pub leaf_words : (q p : ℕ) → p ≡ address c k (Leaf n q) → (words : List ℕ) → block c p ≡ words
@@ -93,12 +103,14 @@ module _ (c : Content) (k : CheckpointValue) (n : ℕ) where
       ap (word words) e ∙ ap (λ (b : List ℕ). word b j) (sym read ∙ ap (block c) is) ∙ sym (behind_at q j (112 + 128 * q + j) lt refl)
 
   -- ---- the blocks to which the inode leads by itself
-  pub direct_words : (inode : List ℕ) → block c (address c k (Inode n)) ≡ inode → (j : ℕ) → j < 112 → word inode (8 + j) ≡ address c k (Data n (0 + j))
+  pub direct_words : (inode : List ℕ) → block c (address c k (Inode n)) ≡ inode → (j : ℕ) → j < 112
+      → word inode (8 + j) ≡ address c k (Data n (0 + j))
   direct_words inode read j lt =
       let e : j ≡ 0 + j = omega arith in
       ap (λ (b : List ℕ). word b (8 + j)) (sym read) ∙ sym (direct_at j lt) ∙ ap (λ (x : ℕ). address c k (Data n x)) e
 
-  pub size_there : (inode : List ℕ) → block c (address c k (Inode n)) ≡ inode → (size : ℕ) → size ≡ (header inode).size → size ≡ (header (block c (address c k (Inode n)))).size
+  pub size_there : (inode : List ℕ) → block c (address c k (Inode n)) ≡ inode → (size : ℕ) → size ≡ (header inode).size
+      → size ≡ (header (block c (address c k (Inode n)))).size
   size_there inode read size is = is ∙ ap (λ (b : List ℕ). (header b).size) (sym read)
 
   -- ---- the leaves under the double root
@@ -116,16 +128,19 @@ module _ (c : Content) (k : CheckpointValue) (n : ℕ) where
       → Walked (view c k) m (536624 + 16624 * n + 240) → Walked (view c k) m (536624 + 16624 * n + 16624)
   double_passed low none m w =
       pass_to low 240 16624 (omega arith)
-      (λ i le lt. behind_none ((i - 112) / 128) (under_none none ((i - 112) / 128) (omega (arith, le))) i (omega (arith, le)) (omega (arith, le)))
+      (λ i le lt.
+      behind_none ((i - 112) / 128) (under_none none ((i - 112) / 128) (omega (arith, le))) i (omega (arith, le)) (omega (arith, le)))
       m (omega arith) w
 
   -- a double root that was reached is marked, and so has a sector
-  pub root_inside : n < 4096 → (m : List ℕ) (r : ℕ) → 536624 ≤ r → (p : ℕ) → p ≡ address c k (Double n) → (p ≡ 0 → ⊥) → Walked (view c k) m r → p < length m
+  pub root_inside : n < 4096 → (m : List ℕ) (r : ℕ) → 536624 ≤ r → (p : ℕ) → p ≡ address c k (Double n) → (p ≡ 0 → ⊥)
+      → Walked (view c k) m r → p < length m
   root_inside low m r past p is some w =
       let reached : Reached (view c k) (Double n) = omega arith in
       let x = inside_marks m (address c k (Double n)) (4145 + 2 * n) (w.marked (Double n) (omega arith) low reached) in omega (arith, x, is)
 
-  pub root_readable : n < 4096 → (m : List ℕ) (r : ℕ) → 536624 ≤ r → (p : ℕ) → p ≡ address c k (Double n) → (p ≡ 0 → ⊥) → Walked (view c k) m r → block c p ≡ [] → ⊥
+  pub root_readable : n < 4096 → (m : List ℕ) (r : ℕ) → 536624 ≤ r → (p : ℕ) → p ≡ address c k (Double n) → (p ≡ 0 → ⊥)
+      → Walked (view c k) m r → block c p ≡ [] → ⊥
   root_readable low m r past p is some w none =
       let reached : Reached (view c k) (Double n) = omega arith in
       no_word (block c (address c k (Double n))) (ap (block c) (sym is) ∙ none) (w.good (Double n) (omega arith) low reached)
@@ -142,7 +157,8 @@ module _ (c : Content) (k : CheckpointValue) (n : ℕ) where
 
   any_none : address c k (Inode n) ≡ 0 → (q : ℕ) → address c k (Leaf n q) ≡ 0
   any_none none zero = address_linked c k (Leaf n 0) ∙ ap (λ (x : ℕ). word (block c x) 120) none ∙ word_none 120
-  any_none none (suc q) = under_none (address_linked c k (Double n) ∙ ap (λ (x : ℕ). word (block c x) 121) none ∙ word_none 121) (suc q) (omega arith)
+  any_none none (suc q) =
+      under_none (address_linked c k (Double n) ∙ ap (λ (x : ℕ). word (block c x) 121) none ∙ word_none 121) (suc q) (omega arith)
 
   data_none : address c k (Inode n) ≡ 0 → (i : ℕ) → 0 ≤ i → i < 16624 → address c k (Data n i) ≡ 0
   data_none none i le lt = ⊎_elim
@@ -156,4 +172,5 @@ module _ (c : Content) (k : CheckpointValue) (n : ℕ) where
   file_passed low none m w =
       let first : 536624 + 16624 * n ≡ 536624 + 16624 * n + 0 = omega arith in
       let last : 536624 + 16624 * n + 16624 ≡ 536624 + 16624 * (n + 1) = omega arith in
-      subst (Walked (view c k) m) last (pass_to low 0 16624 (omega arith) (data_none none) m (omega arith) (subst (Walked (view c k) m) first w))
+      subst (Walked (view c k) m) last
+      (pass_to low 0 16624 (omega arith) (data_none none) m (omega arith) (subst (Walked (view c k) m) first w))

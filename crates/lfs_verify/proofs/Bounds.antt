@@ -1,5 +1,6 @@
 -- No address stands past the places of its block.
-use Rattle.std.proofs.Common.{◌≡◌, ◌<◌, ◌≤◌, ⊎_elim, ◌+◌, ◌-◌, ◌/◌, ◌%◌, nat_lt, cond, ℕ, zero, suc, Bool, true, false, List, length, Option, Some, None, refl, ◌∙◌, ap, ap₂, arith}
+use Rattle.std.proofs.Common.{◌≡◌, ◌<◌, ◌≤◌, ⊎_elim, ◌+◌, ◌-◌, ◌/◌, ◌%◌, nat_lt, cond, ℕ, zero, suc, Bool, true, false, List, length}
+use Rattle.std.proofs.Common.{Option, Some, None, refl, ◌∙◌, ap, ap₂, arith}
 use Rattle.std.proofs.lemmas.Bool.{cases_lt, ltb-true}
 use Rattle.std.proofs.lemmas.List.{get_or_past}
 use Rattle.lfs_model.specs.Entry.{Data, Leaf, Double, Inode, Map, Usage, word}
@@ -36,7 +37,8 @@ module _ (c : Content) (sized : IsSized c) (k : CheckpointValue) (maps : length 
   usage_none j le = address_linked c k (Usage j) ∙ get_or_past k.usage j 0 (omega arith)
 
   inode_none : (n : ℕ) → 4096 ≤ n → address c k (Inode n) ≡ 0
-  inode_none n le = address_linked c k (Inode n) ∙ ap (λ (a : ℕ). word (block c a) (n % 128)) (map_none (n / 128) (omega arith)) ∙ word_none (n % 128)
+  inode_none n le = address_linked c k (Inode n) ∙ ap (λ (a : ℕ). word (block c a) (n % 128)) (map_none (n / 128) (omega arith))
+      ∙ word_none (n % 128)
 
   double_none : (n : ℕ) → 4096 ≤ n → address c k (Double n) ≡ 0
   double_none n le = address_linked c k (Double n) ∙ ap (λ (a : ℕ). word (block c a) 121) (inode_none n le) ∙ word_none 121
@@ -48,7 +50,8 @@ module _ (c : Content) (sized : IsSized c) (k : CheckpointValue) (maps : length 
   leaf_file_none n q le = address_linked c k (Leaf n (suc q)) ∙ ap (λ (a : ℕ). word (block c a) q) (double_none n le) ∙ word_none q
 
   leaf_place_none : (n q : ℕ) → 128 ≤ q → address c k (Leaf n (suc q)) ≡ 0
-  leaf_place_none n q le = address_linked c k (Leaf n (suc q)) ∙ word_past (block c (address c k (Double n))) q (let s = short c sized (address c k (Double n)) in omega arith)
+  leaf_place_none n q le = address_linked c k (Leaf n (suc q))
+      ∙ word_past (block c (address c k (Double n))) q (let s = short c sized (address c k (Double n)) in omega arith)
 
   any_leaf_none : (n q : ℕ) → 4096 ≤ n → address c k (Leaf n q) ≡ 0
   any_leaf_none n zero le = single_none n le
@@ -61,14 +64,16 @@ module _ (c : Content) (sized : IsSized c) (k : CheckpointValue) (maps : length 
   data_file_none : (n i : ℕ) → 4096 ≤ n → address c k (Data n i) ≡ 0
   data_file_none n i le =
       address_linked c k (Data n i)
-      ∙ ap₂ (λ (a b : ℕ). cond (nat_lt i 112) (word (block c a) (8 + i)) (word (block c b) ((i - 112) % 128))) (inode_none n le) (any_leaf_none n ((i - 112) / 128) le)
+      ∙ ap₂ (λ (a b : ℕ). cond (nat_lt i 112) (word (block c a) (8 + i)) (word (block c b) ((i - 112) % 128))) (inode_none n le)
+      (any_leaf_none n ((i - 112) / 128) le)
       ∙ ap₂ (λ (a b : ℕ). cond (nat_lt i 112) a b) (word_none (8 + i)) (word_none ((i - 112) % 128))
       ∙ same_cond (nat_lt i 112) 0
 
   data_place_none : (n i : ℕ) → 16624 ≤ i → address c k (Data n i) ≡ 0
   data_place_none n i le =
       address_linked c k (Data n i)
-      ∙ cond_not (nat_lt i 112) (word (block c (address c k (Inode n))) (8 + i)) (word (block c (address c k (Leaf n ((i - 112) / 128)))) ((i - 112) % 128)) (λ on. let x = ltb-true i 112 on in omega arith)
+      ∙ cond_not (nat_lt i 112) (word (block c (address c k (Inode n))) (8 + i))
+      (word (block c (address c k (Leaf n ((i - 112) / 128)))) ((i - 112) % 128)) (λ on. let x = ltb-true i 112 on in omega arith)
       ∙ ap (λ (a : ℕ). word (block c a) ((i - 112) % 128)) (far_leaf_none n ((i - 112) / 128) (omega arith))
       ∙ word_none ((i - 112) % 128)
 
@@ -81,5 +86,9 @@ module _ (c : Content) (sized : IsSized c) (k : CheckpointValue) (maps : length 
   bounded_of (Inode n) reached = below n 4096 (λ le. let z = inode_none n le in omega arith)
   bounded_of (Double n) reached = below n 4096 (λ le. let z = double_none n le in omega arith)
   bounded_of (Leaf n zero) reached = below n 4096 (λ le. let z = single_none n le in omega arith)
-  bounded_of (Leaf n (suc q)) reached = (below n 4096 (λ le. let z = leaf_file_none n q le in omega arith), below q 128 (λ le. let z = leaf_place_none n q le in omega arith))
-  bounded_of (Data n i) reached = (below n 4096 (λ le. let z = data_file_none n i le in omega arith), below i 16624 (λ le. let z = data_place_none n i le in omega arith))
+  bounded_of (Leaf n (suc q)) reached =
+      (below n 4096 (λ le. let z = leaf_file_none n q le in omega arith), below q 128 (λ le. let z = leaf_place_none n q le in omega arith))
+  bounded_of (Data n i) reached = (
+    below n 4096 (λ le. let z = data_file_none n i le in omega arith),
+    below i 16624 (λ le. let z = data_place_none n i le in omega arith),
+  )

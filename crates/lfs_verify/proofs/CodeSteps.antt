@@ -15,7 +15,8 @@ use Rattle.lfs_verify.proofs.Takes.{goes_true, goes_false}
 
 -- one stage more
 pub below_next : (v : View) (j : ℕ) → HoldsBelow v j → stage v j → HoldsBelow v (suc j)
-below_next v j below here k lt = ⊎_elim (λ (same : k ≡ j). subst (stage v) (sym same) here) (λ (other : k ≡ j → ⊥). below k (omega arith)) (cases_eq k j)
+below_next v j below here k lt =
+    ⊎_elim (λ (same : k ≡ j). subst (stage v) (sym same) here) (λ (other : k ≡ j → ⊥). below k (omega arith)) (cases_eq k j)
 
 -- the stages of the pointers
 pub stage_5 : (v : View) → Roots v → stage v 5
@@ -83,7 +84,8 @@ nine_stages v below = record {
 }
 
 -- a walk begins with no mark
-pub passed_none : (v : View) (marks : List ℕ) → IsBounded v → length marks ≡ 2 + 64 * v.checkpoint.segments → ((a : ℕ) → get_or marks a 0 ≡ 0) → Passed v marks 0 1
+pub passed_none : (v : View) (marks : List ℕ) → IsBounded v → length marks ≡ 2 + 64 * v.checkpoint.segments
+    → ((a : ℕ) → get_or marks a 0 ≡ 0) → Passed v marks 0 1
 passed_none v marks bounded size empty = record { bounded = bounded; below = below_1 v; walked = walked_start v marks size empty }
 
 -- one stage more, which may have taken blocks
@@ -96,20 +98,23 @@ damage v marks r code n passed is fails = subst (IsDamaged v) is (passed.below, 
 
 module _ (v : View) (code : ℕ) (S : Type 0) (by : stage v code ↔ S) (old : List ℕ) (r : ℕ) (passed : Passed v old r code) where
   -- the stage takes blocks
-  pub walk_pass : (new : List ℕ) (s : ℕ) (x : Bool) → x ≡ true → Advances v old new r s S x → (Walked v new s → IsBounded v → S) → Passed v new s (suc code)
+  pub walk_pass : (new : List ℕ) (s : ℕ) (x : Bool) → x ≡ true → Advances v old new r s S x → (Walked v new s → IsBounded v → S)
+      → Passed v new s (suc code)
   walk_pass new s x is goes here =
       let w = goes_true v old new r s S x is goes passed.walked in
       pass v old new r s code passed (by.1 (here w passed.bounded)) w
 
   pub walk_fails : (new : List ℕ) (s : ℕ) (x : Bool) → x ≡ false → Advances v old new r s S x → (n : ℕ) → code ≡ n → IsDamaged v n
-  walk_fails new s x is goes n number = damage v old r code n passed number (λ here. goes_false v old new r s S x is goes passed.walked (by.0 here))
+  walk_fails new s x is goes n number =
+      damage v old r code n passed number (λ here. goes_false v old new r s S x is goes passed.walked (by.0 here))
 
   -- the stage looks at what was taken
   pub look_pass : (x : Bool) → x ≡ true → (x ≡ true) ↔ S → Passed v old r (suc code)
   look_pass x is tells = pass v old old r r code passed (by.1 (tells.0 is)) passed.walked
 
   pub look_fails : (x : Bool) → x ≡ false → (x ≡ true) ↔ S → (n : ℕ) → code ≡ n → IsDamaged v n
-  look_fails x is tells n number = damage v old r code n passed number (λ here. let e : true ≡ false = sym (tells.1 (by.0 here)) ∙ is in absurd (cc))
+  look_fails x is tells n number =
+      damage v old r code n passed number (λ here. let e : true ≡ false = sym (tells.1 (by.0 here)) ∙ is in absurd (cc))
 
 -- the tables that stage 1 copied
 pub used_says : (v : View) (used live : List ℕ) → Usages v → length used ≡ v.checkpoint.segments → SaysAll v used live → IsUsedTable v used

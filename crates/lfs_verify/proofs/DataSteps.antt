@@ -13,18 +13,21 @@ use Rattle.lfs_verify.proofs.Takes.{took, refused}
 pub no_data : (i size : ℕ) (bytes : List ℕ) → bytes ≡ [] → IsDataBytes i size bytes → ⊥
 no_data i size bytes none d = let z = ap (λ (b : List ℕ). slice_index b d.nonzero.0) none in let lt = d.nonzero.1 in omega arith
 
-module _ (c : Content) (k : CheckpointValue) (n i : ℕ) (low : n < 4096) (few : i < 16624) (size : ℕ) (sized : size ≡ (header (block c (address c k (Inode n)))).size)
+module _ (c : Content) (k : CheckpointValue) (n i : ℕ) (low : n < 4096) (few : i < 16624) (size : ℕ)
+    (sized : size ≡ (header (block c (address c k (Inode n)))).size)
     (m m1 : List ℕ) (p : ℕ) (at : p ≡ address c k (Data n i)) (x : Bool)
     (t : TakesAddress (IsDataBytes i size) c m m1 p (536624 + 16624 * n + i) x) (w : Walked (view c k) m (536624 + 16624 * n + i)) where
   there : IsDataBytes i size (block c p) → IsDataBytes i (header (block c (address c k (Inode n)))).size (block c (address c k (Data n i)))
   there d = subst (λ (s : ℕ). IsDataBytes i s (block c (address c k (Data n i)))) sized (subst (IsDataBytes i size) (ap (block c) at) d)
 
   back : IsDataBytes i (header (block c (address c k (Inode n)))).size (block c (address c k (Data n i))) → IsDataBytes i size (block c p)
-  back d = subst (IsDataBytes i size) (sym (ap (block c) at)) (subst (λ (s : ℕ). IsDataBytes i s (block c (address c k (Data n i)))) (sym sized) d)
+  back d = subst (IsDataBytes i size) (sym (ap (block c) at))
+      (subst (λ (s : ℕ). IsDataBytes i s (block c (address c k (Data n i)))) (sym sized) d)
 
   pub data_refused : x ≡ false → Blocks (view c k) → ⊥
   data_refused fails blocks =
-      refused (view c k) m m1 (536624 + 16624 * n + i) w (Data n i) refl (low, few) p at c (IsDataBytes i size) (there, back) x fails t blocks.fresh
+      refused (view c k) m m1 (536624 + 16624 * n + i) w (Data n i) refl (low, few) p at c (IsDataBytes i size)
+      (there, back) x fails t blocks.fresh
       (λ reached. record { nonzero = blocks.nonzero n i reached; within = blocks.within n i reached; past = blocks.past n i reached })
 
   pub data_took : x ≡ true → Walked (view c k) m1 (536624 + 16624 * n + i + 1)
@@ -33,7 +36,8 @@ module _ (c : Content) (k : CheckpointValue) (n i : ℕ) (low : n < 4096) (few :
       (took (view c k) m m1 (536624 + 16624 * n + i) w (Data n i) refl (low, few) p at c (IsDataBytes i size) (there, back) x holds t)
 
 -- the same at a place of a row
-pub run_next : (c : Content) (k : CheckpointValue) (n i j : ℕ) → n < 4096 → i + j < 16624 → (size : ℕ) → size ≡ (header (block c (address c k (Inode n)))).size
+pub run_next : (c : Content) (k : CheckpointValue) (n i j : ℕ) → n < 4096 → i + j < 16624 → (size : ℕ)
+    → size ≡ (header (block c (address c k (Inode n)))).size
     → (m m1 : List ℕ) (p : ℕ) → p ≡ address c k (Data n (i + j)) → (x : Bool)
     → TakesAddress (IsDataBytes (i + j) size) c m m1 p (536624 + 16624 * n + i + j) x → Walked (view c k) m (536624 + 16624 * n + i + j)
     → (x ≡ false → Blocks (view c k) → ⊥) × (x ≡ true → Walked (view c k) m1 (536624 + 16624 * n + i + (j + 1)))

@@ -6,7 +6,8 @@ use Rattle.lfs_verify.specs.declared.fault.MountFault.TheVariants as fault
 use Rattle.lfs_verify.specs.Faults.{IsFault}
 
 -- what a fault says, where the one gives the other
-pub fault_on : (failed lacking failed' lacking' : Type 0) → (failed → failed') → (lacking → lacking') → (f : MountFault) → IsFault failed lacking f → IsFault failed' lacking' f
+pub fault_on : (failed lacking failed' lacking' : Type 0) → (failed → failed') → (lacking → lacking') → (f : MountFault)
+    → IsFault failed lacking f → IsFault failed' lacking' f
 fault_on failed lacking failed' lacking' rise lack fault.NoMemory is = is
 fault_on failed lacking failed' lacking' rise lack fault.Device is = rise is
 fault_on failed lacking failed' lacking' rise lack fault.TooSmall is = lack is

@@ -10,14 +10,16 @@ use Rattle.lfs_verify.specs.Take.{TakesAddress}
 use Rattle.lfs_verify.proofs.Takes.{took, refused}
 
 module _ (c : Content) (k : CheckpointValue) (n : ℕ) (low : n < 4096) (m m1 : List ℕ) (p : ℕ) (at : p ≡ address c k (Inode n)) (x : Bool)
-    (version : ℕ) (same : layout_version k ≡ version) (takes : TakesAddress (IsInode version n) c m m1 p (48 + n) x) (w : Walked (view c k) m (48 + n)) where
+    (version : ℕ) (same : layout_version k ≡ version) (takes : TakesAddress (IsInode version n) c m m1 p (48 + n) x)
+    (w : Walked (view c k) m (48 + n)) where
   t : TakesAddress (IsInode (layout_version k) n) c m m1 p (48 + n) x
   t = subst (λ (v : ℕ). TakesAddress (IsInode v n) c m m1 p (48 + n) x) (sym same) takes
 
   pub inode_refused : x ≡ false → Inodes (view c k) → ⊥
   inode_refused fails inodes =
       refused (view c k) m m1 (48 + n) w (Inode n) refl low p at c (IsInode (layout_version k) n)
-      (subst (IsInode (layout_version k) n) (ap (block c) at), subst (IsInode (layout_version k) n) (sym (ap (block c) at))) x fails t inodes.fresh (inodes.formed n)
+      (subst (IsInode (layout_version k) n) (ap (block c) at), subst (IsInode (layout_version k) n) (sym (ap (block c) at))) x fails t
+      inodes.fresh (inodes.formed n)
 
   pub inode_took : x ≡ true → Walked (view c k) m1 (48 + (n + 1))
   inode_took holds =

@@ -1,5 +1,7 @@
 -- Labels of a row against the marks, one chunk at a time.
-use Rattle.std.proofs.Common.{◌≡◌, ◌<◌, ◌≤◌, ⊎_elim, ◌+◌, ◌-◌, ◌*◌, ℕ, zero, suc, List, [], ◌∷◌, length, get_or, drop, map, Option, Some, None, refl, sym, ◌∙◌, ap, subst, arith, zero-add, ◌⊎◌, ◌/◌, ◌%◌, inl, inr, pred, set, length-set, get_or-set_other, get_or-set_same}
+use Rattle.std.proofs.Common.{◌≡◌, ◌<◌, ◌≤◌, ⊎_elim, ◌+◌, ◌-◌, ◌*◌, ℕ, zero, suc, List, [], ◌∷◌, length, get_or, drop, map, Option, Some}
+use Rattle.std.proofs.Common.{None, refl, sym, ◌∙◌, ap, subst, arith, zero-add, ◌⊎◌, ◌/◌, ◌%◌, inl, inr, pred, set, length-set}
+use Rattle.std.proofs.Common.{get_or-set_other, get_or-set_same}
 use Rattle.std.proofs.lemmas.Bool.{cases_eq, cases_lt}
 use Rattle.std.proofs.lemmas.List.{get_or-map, get_or_past, length-map}
 use Rattle.lfs_model.specs.declared.BlockKind.{BlockKind}
@@ -16,7 +18,8 @@ use Rattle.lfs_verify.specs.Rows.{HasRow, IsSummaryOf, part, from}
 use Rattle.lfs_verify.specs.Tables.{IsUsedTable}
 use Rattle.lfs_verify.specs.Walk.{InBounds, step_of, Walked, IsBounded}
 use Rattle.lfs_verify.proofs.Sectors.{named_by_marks}
-use Rattle.lfs_verify.proofs.RowSteps.{here, behind, opens, opens_names, entries_some, end_is, enough_behind, rest_is, next_chunk, from_start, row_is}
+use Rattle.lfs_verify.proofs.RowSteps.{here, behind, opens, opens_names, entries_some, end_is, enough_behind, rest_is, next_chunk}
+use Rattle.lfs_verify.proofs.RowSteps.{from_start, row_is}
 
 -- what a summary may name is in bounds
 bounds_of : (k : BlockKind) (file index : ℕ) → IsPlaced k file index → InBounds (entry_by k file index)
@@ -51,17 +54,21 @@ rest_row e None h = let z = h.1 in absurd (cc)
 rest_row e (Some row) h = (row, refl)
 
 -- the blocks of a chunk have its labels
-label_here : (es : List Entry) (ss : List Cell) (d : Entry) (i : ℕ) → HasRow (chunks es ss) → i < length es → place_in (chunks es ss) i ≡ Some (get_or es i d)
+label_here : (es : List Entry) (ss : List Cell) (d : Entry) (i : ℕ) → HasRow (chunks es ss) → i < length es
+    → place_in (chunks es ss) i ≡ Some (get_or es i d)
 label_here [] ss d i h lt = absurd (omega arith)
 label_here (e ∷ es) [] d i h lt = let z = h.1 in absurd (cc)
 label_here (e ∷ es) (s ∷ ss) d zero h lt = after_label e (chunks es ss) h
-label_here (e ∷ es) (s ∷ ss) d (suc i) h lt = after_next (Some e) (chunks es ss) i ∙ label_here es ss d i (rest_row (Some e) (chunks es ss) h) (omega arith)
+label_here (e ∷ es) (s ∷ ss) d (suc i) h lt = after_next (Some e) (chunks es ss) i
+    ∙ label_here es ss d i (rest_row (Some e) (chunks es ss) h) (omega arith)
 
-label_behind : (es : List Entry) (ss : List Cell) (j : ℕ) → length es ≤ length ss → place_in (chunks es ss) (length es + j) ≡ place_in (chunks [] (drop (length es) ss)) j
+label_behind : (es : List Entry) (ss : List Cell) (j : ℕ) → length es ≤ length ss
+    → place_in (chunks es ss) (length es + j) ≡ place_in (chunks [] (drop (length es) ss)) j
 label_behind [] ss j le = ap (place_in (chunks [] ss)) (omega arith)
 label_behind (e ∷ es) [] j le = absurd (omega arith)
 label_behind (e ∷ es) (s ∷ ss) j le =
-    ap (place_in (after (Some e) (chunks es ss))) (omega arith) ∙ after_next (Some e) (chunks es ss) (length es + j) ∙ label_behind es ss j (omega arith)
+    ap (place_in (after (Some e) (chunks es ss))) (omega arith) ∙ after_next (Some e) (chunks es ss) (length es + j)
+    ∙ label_behind es ss j (omega arith)
 
 -- Up to a place of a row that begins a chunk, what is marked has its label.
 pub record NamedTo (c : Content) (used segment : ℕ) (marks : List ℕ) (at : ℕ) : Type 0 where
@@ -82,14 +89,16 @@ named_start c used segment marks h =
     }
 
 -- a sector without a label isn't marked
-unlabelled : (row : Option Row) (marks : List ℕ) (s o m : ℕ) → get_or marks (2 + 64 * s + o) 0 ≡ m → place_in row o ≡ None → IsNamedIn row marks s o → m ≡ 0
+unlabelled : (row : Option Row) (marks : List ℕ) (s o m : ℕ) → get_or marks (2 + 64 * s + o) 0 ≡ m → place_in row o ≡ None
+    → IsNamedIn row marks s o → m ≡ 0
 unlabelled row marks s o zero is none named = refl
 unlabelled row marks s o (suc p) is none named = let h = named p is in let z = sym none ∙ h.1 in absurd (cc)
 
 unmarked_named : (row : Option Row) (marks : List ℕ) (s o : ℕ) → get_or marks (2 + 64 * s + o) 0 ≡ 0 → IsNamedIn row marks s o
 unmarked_named row marks s o none p is = absurd (omega arith)
 
-module _ (c : Content) (used segment at : ℕ) (marks : List ℕ) (long : 2 + 64 * segment + used ≤ length c) (few : used ≤ 64) (lt : at < used) (to : NamedTo c used segment marks at) where
+module _ (c : Content) (used segment at : ℕ) (marks : List ℕ) (long : 2 + 64 * segment + used ≤ length c) (few : used ≤ 64) (lt : at < used)
+    (to : NamedTo c used segment marks at) where
   summary_place : place_in (row_by c used segment) at ≡ None
   summary_place =
       let l = here c used segment at long lt in
@@ -97,11 +106,8 @@ module _ (c : Content) (used segment at : ℕ) (marks : List ℕ) (long : 2 + 64
       ∙ ap (λ (x : Option Row). place_in x 0) (opens c used segment at long lt)
       ∙ opened_first (entries_in (bytes_of l)) (λ es. chunks es (behind c used segment at long lt))
 
-  -- a summary isn't marked
-  pub summary_refused : (get_or marks (2 + 64 * segment + at) 0 ≡ 0 → ⊥) → AllNamed c used segment marks → ⊥
-  summary_refused some all = some (unlabelled (row_by c used segment) marks segment at (get_or marks (2 + 64 * segment + at) 0) refl summary_place (all at (omega arith)))
-
-  module _ (bytes : List ℕ) (there : block c (2 + 64 * segment + at) ≡ bytes) (bs : List BlockNameValue) (is : Some bs ≡ summary_in bytes) (room : at + length bs < used) where
+  module _ (bytes : List ℕ) (there : block c (2 + 64 * segment + at) ≡ bytes) (bs : List BlockNameValue) (is : Some bs ≡ summary_in bytes)
+      (room : at + length bs < used) where
     abbrev known : IsSummaryOf (block c (2 + 64 * segment + at)) (length bs)
     known = (map entry_of bs, ap entries_in there ∙ entries_some bytes bs is, length-map bs entry_of)
 
@@ -112,7 +118,8 @@ module _ (c : Content) (used segment at : ℕ) (marks : List ℕ) (long : 2 + 64
     chunk_row = rest_row None (chunks (map entry_of bs) (behind c used segment at long lt)) (subst HasRow opened_row to.rest)
 
     -- a sector behind the summary, by its place there
-    place_behind : (j : ℕ) → place_in (row_by c used segment) (at + 1 + j) ≡ place_in (chunks (map entry_of bs) (behind c used segment at long lt)) j
+    place_behind : (j : ℕ)
+        → place_in (row_by c used segment) (at + 1 + j) ≡ place_in (chunks (map entry_of bs) (behind c used segment at long lt)) j
     place_behind j =
         ap (place_in (row_by c used segment)) (omega arith) ∙ to.places (suc j)
         ∙ ap (λ (x : Option Row). place_in x (suc j)) opened_row
@@ -121,7 +128,8 @@ module _ (c : Content) (used segment at : ℕ) (marks : List ℕ) (long : 2 + 64
     label_is : (i : ℕ) → i < length bs → place_in (row_by c used segment) (at + 1 + i) ≡ Some (entry_of (get_or bs i no_block))
     label_is i small =
         place_behind i
-        ∙ label_here (map entry_of bs) (behind c used segment at long lt) (entry_of no_block) i chunk_row (let x = length-map bs entry_of in omega arith)
+        ∙ label_here (map entry_of bs) (behind c used segment at long lt) (entry_of no_block) i chunk_row
+        (let x = length-map bs entry_of in omega arith)
         ∙ ap Some (get_or-map entry_of bs i no_block (entry_of no_block) small)
 
     abbrev AreSteps : ℕ → Type 0
@@ -136,27 +144,32 @@ module _ (c : Content) (used segment at : ℕ) (marks : List ℕ) (long : 2 + 64
         let same : h.0 ≡ entry_of (get_or bs i no_block) = cc in
         sym (ap step_of same) ∙ h.2
 
-    behind_places : (next : ℕ) → next ≡ at + 1 + length bs → (j : ℕ) → place_in (row_by c used segment) (next + j) ≡ place_in (from c used segment next) j
+    behind_places : (next : ℕ) → next ≡ at + 1 + length bs → (j : ℕ)
+        → place_in (row_by c used segment) (next + j) ≡ place_in (from c used segment next) j
     unfolding from
     behind_places next is_next j =
         let ss = behind c used segment at long lt in
         let l = length-map bs entry_of in
         let e : next + j ≡ at + 1 + (length (map entry_of bs) + j) = omega arith in
         ap (place_in (row_by c used segment)) e ∙ place_behind (length (map entry_of bs) + j)
-        ∙ label_behind (map entry_of bs) (behind c used segment at long lt) j (enough_behind c used segment at long lt (length bs) known room)
+        ∙ label_behind (map entry_of bs) (behind c used segment at long lt) j
+        (enough_behind c used segment at long lt (length bs) known room)
         ∙ ap (λ (x : List Cell). place_in (chunks [] x) j) (rest_is c used segment at long lt (length bs) known)
         ∙ ap (λ (x : ℕ). place_in (chunks [] (drop x (part c used segment))) j) (sym is_next)
 
     -- one chunk more is named
-    pub chunk_taken : FitsSummary bs → get_or marks (2 + 64 * segment + at) 0 ≡ 0 → (first next : ℕ) → first ≡ 2 + 64 * segment + at + 1 → next ≡ at + 1 + length bs → AreSteps first
+    pub chunk_taken : FitsSummary bs → get_or marks (2 + 64 * segment + at) 0 ≡ 0 → (first next : ℕ) → first ≡ 2 + 64 * segment + at + 1
+        → next ≡ at + 1 + length bs → AreSteps first
         → NamedTo c used segment marks next
     chunk_taken fits clear first next is_first is_next steps = record {
-      rest = subst (λ (x : ℕ). HasRow (from c used segment x)) (sym is_next) ((next_chunk c used segment at long lt (length bs) known room).0 to.rest);
+      rest = subst (λ (x : ℕ). HasRow (from c used segment x)) (sym is_next)
+          ((next_chunk c used segment at long lt (length bs) known room).0 to.rest);
       places = behind_places next is_next;
       named = λ o small. ⊎_elim
           (λ (before : o < at). to.named o before)
           (λ (later : at ≤ o). ⊎_elim
-          (λ (same : o ≡ at). unmarked_named (row_by c used segment) marks segment o (ap (λ (x : ℕ). get_or marks (2 + 64 * segment + x) 0) same ∙ clear))
+          (λ (same : o ≡ at).
+          unmarked_named (row_by c used segment) marks segment o (ap (λ (x : ℕ). get_or marks (2 + 64 * segment + x) 0) same ∙ clear))
           (λ (other : o ≡ at → ⊥).
           let i = o - (at + 1) in
           let e : o ≡ at + 1 + (o - (at + 1)) = omega arith in
@@ -166,7 +179,8 @@ module _ (c : Content) (used segment at : ℕ) (marks : List ℕ) (long : 2 + 64
             entry_of (get_or bs (o - (at + 1)) no_block),
             ap (place_in (row_by c used segment)) e ∙ label_is (o - (at + 1)) low,
             steps (o - (at + 1)) low p (ap (λ (x : ℕ). get_or marks x 0) there ∙ is_marked),
-            bounds_of (get_or bs (o - (at + 1)) no_block).kind (get_or bs (o - (at + 1)) no_block).file (get_or bs (o - (at + 1)) no_block).index (fits.each (o - (at + 1)) low),
+            bounds_of (get_or bs (o - (at + 1)) no_block).kind (get_or bs (o - (at + 1)) no_block).file
+                (get_or bs (o - (at + 1)) no_block).index (fits.each (o - (at + 1)) low),
           ))
           (cases_eq o at))
           (cases_lt o at);
@@ -176,14 +190,16 @@ module _ (c : Content) (used segment at : ℕ) (marks : List ℕ) (long : 2 + 64
 past_end : (x : Option Row) (j : ℕ) → x ≡ Some [] → place_in x j ≡ None
 past_end x j is = ap (λ (y : Option Row). place_in y j) is ∙ get_or_past [] j None (omega arith)
 
-module _ (c : Content) (used segment : ℕ) (marks : List ℕ) (long : 2 + 64 * segment + used ≤ length c) (few : used ≤ 64) (to : NamedTo c used segment marks used) where
+module _ (c : Content) (used segment : ℕ) (marks : List ℕ) (long : 2 + 64 * segment + used ≤ length c) (few : used ≤ 64)
+    (to : NamedTo c used segment marks used) where
   abbrev AreClear : ℕ → ℕ → Type 0
   AreClear a b = (i : ℕ) → a ≤ i → i < b → get_or marks i 0 ≡ 0
 
   pub all_named : (a b : ℕ) → a ≡ 2 + 64 * segment + used → b ≡ 2 + 64 * segment + 64 → AreClear a b → AllNamed c used segment marks
   all_named a b is_a is_b clear o small = ⊎_elim
       (λ (before : o < used). to.named o before)
-      (λ (later : used ≤ o). unmarked_named (row_by c used segment) marks segment o (clear (2 + 64 * segment + o) (omega arith) (omega arith)))
+      (λ (later : used ≤ o).
+      unmarked_named (row_by c used segment) marks segment o (clear (2 + 64 * segment + o) (omega arith) (omega arith)))
       (cases_lt o used)
 
   pub all_clear : (a b : ℕ) → a ≡ 2 + 64 * segment + used → b ≡ 2 + 64 * segment + 64 → AllNamed c used segment marks → AreClear a b
@@ -191,8 +207,10 @@ module _ (c : Content) (used segment : ℕ) (marks : List ℕ) (long : 2 + 64 * 
       let o = i - (2 + 64 * segment) in
       let e : i ≡ 2 + 64 * segment + (i - (2 + 64 * segment)) = omega arith in
       let s : i - (2 + 64 * segment) ≡ used + (i - (2 + 64 * segment) - used) = omega arith in
-      let none = ap (place_in (row_by c used segment)) s ∙ to.places (i - (2 + 64 * segment) - used) ∙ past_end (from c used segment used) (i - (2 + 64 * segment) - used) (end_is c used segment long) in
-      unlabelled (row_by c used segment) marks segment (i - (2 + 64 * segment)) (get_or marks i 0) (ap (λ (x : ℕ). get_or marks x 0) (sym e)) none (all (i - (2 + 64 * segment)) (omega arith))
+      let none = ap (place_in (row_by c used segment)) s ∙ to.places (i - (2 + 64 * segment) - used)
+      ∙ past_end (from c used segment used) (i - (2 + 64 * segment) - used) (end_is c used segment long) in
+      unlabelled (row_by c used segment) marks segment (i - (2 + 64 * segment)) (get_or marks i 0)
+      (ap (λ (x : ℕ). get_or marks x 0) (sym e)) none (all (i - (2 + 64 * segment)) (omega arith))
 
 -- ---- the rows of all segments
 module _ (c : Content) (k : CheckpointValue) (used : List ℕ) (table : IsUsedTable (view c k) used) (s : ℕ) (lt : s < length used) where
@@ -208,11 +226,14 @@ pub record LabelledTo (c : Content) (used segment : ℕ) (labels : List ℕ) (at
   pub named : NamedTo c used segment labels at
   pub agree : (marks : List ℕ) → AllNamed c used segment marks → (o : ℕ) → o < at → Agrees marks labels (2 + 64 * segment + o)
 
-pub labelled_start : (c : Content) (used segment : ℕ) (labels : List ℕ) → HasRow (row_by c used segment) → LabelledTo c used segment labels 0
-labelled_start c used segment labels h = record { named = named_start c used segment labels h; agree = λ marks all o lt. absurd (omega (arith, lt)) }
+pub labelled_start : (c : Content) (used segment : ℕ) (labels : List ℕ) → HasRow (row_by c used segment)
+    → LabelledTo c used segment labels 0
+labelled_start c used segment labels h =
+    record { named = named_start c used segment labels h; agree = λ marks all o lt. absurd (omega (arith, lt)) }
 
 -- a place of a row is one of any marks
-named_as : (c : Content) (used segment : ℕ) (old new : List ℕ) (at : ℕ) → NamedTo c used segment old at → ((o : ℕ) → o < at → IsNamedIn (row_by c used segment) new segment o) → NamedTo c used segment new at
+named_as : (c : Content) (used segment : ℕ) (old new : List ℕ) (at : ℕ) → NamedTo c used segment old at
+    → ((o : ℕ) → o < at → IsNamedIn (row_by c used segment) new segment o) → NamedTo c used segment new at
 named_as c used segment old new at to named = record { rest = to.rest; places = to.places; named = named }
 
 -- a mark that has the step of a label is the one that the label gives
@@ -220,8 +241,10 @@ step_label : (mark label step : ℕ) → label ≡ suc step → ((p : ℕ) → m
 step_label zero label step is has = inl refl
 step_label (suc p) label step is has = inr (ap suc (sym (has p refl)) ∙ sym is)
 
-module _ (c : Content) (used segment at : ℕ) (old new : List ℕ) (long : 2 + 64 * segment + used ≤ length c) (few : used ≤ 64) (lt : at < used) (to : LabelledTo c used segment old at)
-    (bytes : List ℕ) (there : block c (2 + 64 * segment + at) ≡ bytes) (bs : List BlockNameValue) (is : Some bs ≡ summary_in bytes) (room : at + length bs < used)
+module _ (c : Content) (used segment at : ℕ) (old new : List ℕ) (long : 2 + 64 * segment + used ≤ length c) (few : used ≤ 64)
+    (lt : at < used) (to : LabelledTo c used segment old at)
+    (bytes : List ℕ) (there : block c (2 + 64 * segment + at) ≡ bytes) (bs : List BlockNameValue) (is : Some bs ≡ summary_in bytes)
+    (room : at + length bs < used)
     (first next : ℕ) (is_first : first ≡ 2 + 64 * segment + at + 1) (is_next : next ≡ at + 1 + length bs)
     (labelled : (i : ℕ) → i < length bs → get_or new (first + i) 0 ≡ suc (step_of (entry_of (get_or bs i no_block))))
     (before : (i : ℕ) → i < first → get_or new i 0 ≡ get_or old i 0) (empty : get_or old (2 + 64 * segment + at) 0 ≡ 0) where
@@ -242,39 +265,47 @@ module _ (c : Content) (used segment at : ℕ) (old new : List ℕ) (long : 2 + 
       (to.agree marks all o low))
       (λ (later : at ≤ o). ⊎_elim
       (λ (here : o ≡ at).
-      inl (unlabelled (row_by c used segment) marks segment o (get_or marks (2 + 64 * segment + o) 0) refl (ap (place_in (row_by c used segment)) here ∙ summary_place c used segment at new long few lt so_far) (all o (omega (arith, small, is_next, room, few)))))
+      inl (unlabelled (row_by c used segment) marks segment o (get_or marks (2 + 64 * segment + o) 0) refl
+      (ap (place_in (row_by c used segment)) here ∙ summary_place c used segment at new long few lt so_far)
+      (all o (omega (arith, small, is_next, room, few)))))
       (λ (other : o ≡ at → ⊥).
       let i = o - (at + 1) in
       let e : first + (o - (at + 1)) ≡ 2 + 64 * segment + o = omega (arith, is_first, later, other) in
       let low : o - (at + 1) < length bs = omega (arith, small, is_next, later, other) in
       let own = named_as c used segment old marks at to.named (λ x lower. all x (omega (arith, lower, lt, few))) in
       let has = steps_of c used segment at marks long few lt own bytes there bs is room first is_first all (o - (at + 1)) low in
-      subst (Agrees marks new) e (step_label (get_or marks (first + (o - (at + 1))) 0) (get_or new (first + (o - (at + 1))) 0) (step_of (entry_of (get_or bs (o - (at + 1)) no_block))) (labelled (o - (at + 1)) low) has))
+      subst (Agrees marks new) e (step_label (get_or marks (first + (o - (at + 1))) 0) (get_or new (first + (o - (at + 1))) 0)
+      (step_of (entry_of (get_or bs (o - (at + 1)) no_block))) (labelled (o - (at + 1)) low) has))
       (cases_eq o at))
       (cases_lt o at)
 
   pub chunk_labelled : FitsSummary bs → LabelledTo c used segment new next
   chunk_labelled fits = record {
     named =
-        chunk_taken c used segment at new long few lt so_far bytes there bs is room fits (before (2 + 64 * segment + at) (omega (arith, is_first)) ∙ empty) first next is_first is_next steps;
+        chunk_taken c used segment at new long few lt so_far bytes there bs is room fits
+        (before (2 + 64 * segment + at) (omega (arith, is_first)) ∙ empty) first next is_first is_next steps;
     agree = agree_next;
   }
 
 -- at the end
-pub row_labelled : (c : Content) (used segment : ℕ) (labels : List ℕ) → 2 + 64 * segment + used ≤ length c → used ≤ 64 → LabelledTo c used segment labels used → ((i : ℕ) → 2 + 64 * segment + used ≤ i → get_or labels i 0 ≡ 0)
+pub row_labelled : (c : Content) (used segment : ℕ) (labels : List ℕ) → 2 + 64 * segment + used ≤ length c → used ≤ 64
+    → LabelledTo c used segment labels used → ((i : ℕ) → 2 + 64 * segment + used ≤ i → get_or labels i 0 ≡ 0)
     → HasLabels (row_by c used segment) labels segment
 row_labelled c used segment labels long few to empty = record {
-  named = all_named c used segment labels long few to.named (2 + 64 * segment + used) (2 + 64 * segment + 64) refl refl (λ i le lt. empty i le);
+  named = all_named c used segment labels long few to.named (2 + 64 * segment + used) (2 + 64 * segment + 64) refl refl
+      (λ i le lt. empty i le);
   all = λ marks all o small. ⊎_elim
       (λ (before : o < used). to.agree marks all o before)
       (λ (later : used ≤ o).
       let own = named_as c used segment labels marks used to.named (λ x lower. all x (omega (arith, lower, few))) in
-      inl (all_clear c used segment marks long few own (2 + 64 * segment + used) (2 + 64 * segment + 64) refl refl all (2 + 64 * segment + o) (omega (arith, later)) (omega (arith, small))))
+      inl (all_clear c used segment marks long few own (2 + 64 * segment + used) (2 + 64 * segment + 64) refl refl all
+      (2 + 64 * segment + o) (omega (arith, later)) (omega (arith, small))))
       (cases_lt o used);
 }
 
 -- labels of a segment stay where those of others are put in
-pub labels_stay : (row : Option Row) (old new : List ℕ) (s : ℕ) → ((o : ℕ) → o < 64 → get_or new (2 + 64 * s + o) 0 ≡ get_or old (2 + 64 * s + o) 0) → HasLabels row old s → HasLabels row new s
+pub labels_stay : (row : Option Row) (old new : List ℕ) (s : ℕ)
+    → ((o : ℕ) → o < 64 → get_or new (2 + 64 * s + o) 0 ≡ get_or old (2 + 64 * s + o) 0) → HasLabels row old s → HasLabels row new s
 labels_stay row old new s same has = record {
   named = λ o small p is. has.named o small p (sym (same o small) ∙ is);
   all = λ marks each o small. ⊎_elim
@@ -308,17 +339,20 @@ module _ (v : View) (labels marks : List ℕ) (has : HasAllLabels v labels) (w :
       let e : 2 + 64 * ((i - 2) / 64) + (i - 2) % 64 ≡ i = omega (arith, le) in
       let inside : (i - 2) / 64 < v.checkpoint.segments = omega (arith, n, lt, le) in
       let small : (i - 2) % 64 < 64 = omega arith in
-      subst (Agrees marks labels) e ((has.each ((i - 2) / 64) inside).all marks (λ o few. (named_by_marks v marks w bounded).0 named ((i - 2) / 64) o inside few) ((i - 2) % 64) small))
+      subst (Agrees marks labels) e ((has.each ((i - 2) / 64) inside).all marks
+      (λ o few. (named_by_marks v marks w bounded).0 named ((i - 2) / 64) o inside few) ((i - 2) % 64) small))
       (cases_lt i 2)
 
 -- ---- the labels of a chunk put into a table
 pub puts_none : (names : List BlockNameValue) (labels : List ℕ) (at : ℕ) → PutsLabels names labels labels at 0
 puts_none names labels at = record { own = λ i lt. absurd (omega (arith, lt)); before = λ j lt. refl; after = λ j le. refl; size = refl }
 
-pub puts_more : (names : List BlockNameValue) (old mid : List ℕ) (at n x : ℕ) → at + n < length mid → x ≡ suc (step_of (entry_of (get_or names n no_block))) → PutsLabels names old mid at n → PutsLabels names old (set mid (at + n) x) at (n + 1)
+pub puts_more : (names : List BlockNameValue) (old mid : List ℕ) (at n x : ℕ) → at + n < length mid → x ≡ suc
+    (step_of (entry_of (get_or names n no_block))) → PutsLabels names old mid at n → PutsLabels names old (set mid (at + n) x) at (n + 1)
 puts_more names old mid at n x inside is was = record {
   own = λ i lt. ⊎_elim
-      (λ (here : i ≡ n). ap (λ (a : ℕ). get_or (set mid (at + n) x) (at + a) 0) here ∙ get_or-set_same mid (at + n) x 0 inside ∙ is ∙ ap (λ (a : ℕ). suc (step_of (entry_of (get_or names a no_block)))) (sym here))
+      (λ (here : i ≡ n). ap (λ (a : ℕ). get_or (set mid (at + n) x) (at + a) 0) here ∙ get_or-set_same mid (at + n) x 0 inside ∙ is
+      ∙ ap (λ (a : ℕ). suc (step_of (entry_of (get_or names a no_block)))) (sym here))
       (λ (ne : i ≡ n → ⊥). get_or-set_other mid (at + n) (at + i) x 0 (λ h. ne (omega (arith, h))) ∙ was.own i (omega (arith, lt, ne)))
       (cases_eq i n);
   before = λ j lt. get_or-set_other mid (at + n) j x 0 (λ h. omega (arith, h, lt)) ∙ was.before j lt;

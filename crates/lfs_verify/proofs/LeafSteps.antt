@@ -19,7 +19,8 @@ module _ (c : Content) (k : CheckpointValue) (n : ℕ) (low : n < 4096) where
   leaf_none : address c k (Double n) ≡ 0 → (q : ℕ) → address c k (Leaf n (suc q)) ≡ 0
   leaf_none none q = address_linked c k (Leaf n (suc q)) ∙ ap (λ (x : ℕ). word (block c x) q) none ∙ word_none q
 
-  none_there : address c k (Double n) ≡ 0 → (e : Entry) → InBounds e → 12336 + 128 * n ≤ step_of e → step_of e < 12336 + 128 * (n + 1) → Reached (view c k) e → ⊥
+  none_there : address c k (Double n) ≡ 0 → (e : Entry) → InBounds e → 12336 + 128 * n ≤ step_of e → step_of e < 12336 + 128 * (n + 1)
+      → Reached (view c k) e → ⊥
   none_there none (Usage j) b le lt reached = absurd (omega arith)
   none_there none (Map j) b le lt reached = absurd (omega arith)
   none_there none (Inode j) b le lt reached = absurd (omega arith)
@@ -31,12 +32,14 @@ module _ (c : Content) (k : CheckpointValue) (n : ℕ) (low : n < 4096) where
   none_there none (Data m i) b le lt reached = absurd (omega arith)
 
   -- no double root, no leaves
-  pub no_leaves : (m : List ℕ) → address c k (Double n) ≡ 0 → Walked (view c k) m (12336 + 128 * n) → Walked (view c k) m (12336 + 128 * (n + 1))
+  pub no_leaves : (m : List ℕ) → address c k (Double n) ≡ 0 → Walked (view c k) m (12336 + 128 * n)
+      → Walked (view c k) m (12336 + 128 * (n + 1))
   no_leaves m none w = skip_to (view c k) m (12336 + 128 * n) (12336 + 128 * (n + 1)) w (omega arith) (none_there none)
 
   module _ (at : ℕ) (out : List ℕ) (is : at ≡ address c k (Inode n)) (read : block c at ≡ out) (p : ℕ) (val : p ≡ word out 121) where
     pub double_is : p ≡ address c k (Double n)
-    double_is = val ∙ ap (λ (b : List ℕ). word b 121) (sym read) ∙ ap (λ (x : ℕ). word (block c x) 121) is ∙ sym (address_linked c k (Double n))
+    double_is = val ∙ ap (λ (b : List ℕ). word b 121) (sym read) ∙ ap (λ (x : ℕ). word (block c x) 121) is
+        ∙ sym (address_linked c k (Double n))
 
   -- a double root that was reached is marked, and so has a sector
   pub double_inside : (m : List ℕ) (p : ℕ) → p ≡ address c k (Double n) → 0 < p → Walked (view c k) m (12336 + 128 * n) → p < length m
@@ -44,12 +47,14 @@ module _ (c : Content) (k : CheckpointValue) (n : ℕ) (low : n < 4096) where
       let reached : Reached (view c k) (Double n) = omega arith in
       let x = inside_marks m (address c k (Double n)) _ (w.marked (Double n) (omega arith) low reached) in omega arith
 
-  pub double_readable : (m : List ℕ) (p : ℕ) → p ≡ address c k (Double n) → 0 < p → Walked (view c k) m (12336 + 128 * n) → block c p ≡ [] → ⊥
+  pub double_readable : (m : List ℕ) (p : ℕ) → p ≡ address c k (Double n) → 0 < p → Walked (view c k) m (12336 + 128 * n) → block c p ≡ []
+      → ⊥
   double_readable m p is some w none =
       let reached : Reached (view c k) (Double n) = omega arith in
       no_word (block c (address c k (Double n))) (ap (block c) (sym is) ∙ none) (w.good (Double n) (omega arith) low reached)
 
-  module _ (out : List ℕ) (read : block c (address c k (Double n)) ≡ out) (q : ℕ) (few : q < 128) (m m1 : List ℕ) (p : ℕ) (val : p ≡ word out q) (x : Bool)
+  module _ (out : List ℕ) (read : block c (address c k (Double n)) ≡ out) (q : ℕ) (few : q < 128) (m m1 : List ℕ) (p : ℕ)
+      (val : p ≡ word out q) (x : Bool)
       (t : TakesAddress SomeWord c m m1 p (12336 + 128 * n + q) x) (w : Walked (view c k) m (12336 + 128 * n + q)) where
     leaf_at : p ≡ address c k (Leaf n (suc q))
     leaf_at = val ∙ ap (λ (b : List ℕ). word b q) (sym read) ∙ sym (address_linked c k (Leaf n (suc q)))

@@ -18,21 +18,16 @@ use Rattle.lfs_verify.specs.Take.{Looks}
 use Rattle.lfs_verify.specs.Faults.{LacksBlock, LacksTables}
 use Rattle.lfs_verify.specs.Loading.{IsMapUpTo, SaysMap}
 
-pub map_start : (map : MapValue) → IsEmptyMap map → IsMapUpTo 0 map
-map_start map is = record { hidden = is.hidden; none = λ i le. is.blocks i; past = λ n le. is.addresses n }
-
 pub says_no_map : (c : Content) (k : CheckpointValue) (map : MapValue) → SaysMap c k 0 map
 says_no_map c k map = record { addresses = λ i l lt low. absurd (omega (arith, lt)); blocks = λ i lt. absurd (omega (arith, lt)) }
 
 -- a block that isn't stored
 module _ (j : ℕ) (map : MapValue) (is : IsMapUpTo j map) where
-  pub map_skipped : IsMapUpTo (j + 1) map
-  map_skipped = record { hidden = is.hidden; none = λ i le. is.none i (omega (arith, le)); past = λ n le. is.past n (omega (arith, le)) }
-
   pub says_skipped : (c : Content) (k : CheckpointValue) → get_or k.map j 0 ≡ 0 → SaysMap c k j map → SaysMap c k (j + 1) map
   says_skipped c k none says = record {
     addresses = λ i l lt low. ⊎_elim
-        (λ (here : i ≡ j). is.past (128 * i + l) (omega (arith, here)) ∙ sym (ap (λ (a : ℕ). word (block c a) l) (ap (λ (x : ℕ). get_or k.map x 0) here ∙ none) ∙ word_nil l))
+        (λ (here : i ≡ j). is.past (128 * i + l) (omega (arith, here))
+        ∙ sym (ap (λ (a : ℕ). word (block c a) l) (ap (λ (x : ℕ). get_or k.map x 0) here ∙ none) ∙ word_nil l))
         (λ (ne : i ≡ j → ⊥). says.addresses i l (omega (arith, lt, ne)) low)
         (cases_eq i j);
     blocks = λ i lt. ⊎_elim
@@ -42,7 +37,8 @@ module _ (j : ℕ) (map : MapValue) (is : IsMapUpTo j map) where
   }
 
 -- one that is
-module _ (j at : ℕ) (map mid new : MapValue) (addresses : List ℕ) (is : IsMapUpTo j map) (loaded : IsLoaded map mid j addresses) (set : IsSet (block_in mid) (block_in new) j at)
+module _ (j at : ℕ) (map mid new : MapValue) (addresses : List ℕ) (is : IsMapUpTo j map) (loaded : IsLoaded map mid j addresses)
+    (set : IsSet (block_in mid) (block_in new) j at)
     (same : new.addresses ≡ mid.addresses) (kept : new.hidden ≡ mid.hidden) where
   address_same : (n : ℕ) → address_in new n ≡ address_in mid n
   address_same n = ap (λ (l : List ℕ). get_or l n 0) same
@@ -57,14 +53,17 @@ module _ (j at : ℕ) (map mid new : MapValue) (addresses : List ℕ) (is : IsMa
     past = λ n le. address_same n ∙ loaded.past n (omega (arith, le)) ∙ is.past n (omega (arith, le));
   }
 
-  pub says_map_more : (c : Content) (k : CheckpointValue) (bytes : List ℕ) → block c at ≡ bytes → get_or k.map j 0 ≡ at → FitsPointers addresses → bytes ≡ pointer_sector addresses
+  pub says_map_more : (c : Content) (k : CheckpointValue) (bytes : List ℕ) → block c at ≡ bytes → get_or k.map j 0 ≡ at
+      → FitsPointers addresses → bytes ≡ pointer_sector addresses
       → SaysMap c k j map → SaysMap c k (j + 1) new
   says_map_more c k bytes there points fits spelt says = record {
     addresses = λ i l lt low. ⊎_elim
         (λ (here : i ≡ j).
         subst (λ (x : ℕ). address_in new (128 * x + l) ≡ word (map_block c k x) l) (sym here)
-        (address_same (128 * j + l) ∙ loaded.own l low ∙ sym (pointers_are bytes addresses fits spelt l low) ∙ ap (λ (b : List ℕ). word b l) (sym (ap (block c) points ∙ there))))
-        (λ (ne : i ≡ j → ⊥). address_same (128 * i + l) ∙ loaded.before (128 * i + l) (omega (arith, lt, ne, low)) ∙ says.addresses i l (omega (arith, lt, ne)) low)
+        (address_same (128 * j + l) ∙ loaded.own l low ∙ sym (pointers_are bytes addresses fits spelt l low)
+        ∙ ap (λ (b : List ℕ). word b l) (sym (ap (block c) points ∙ there))))
+        (λ (ne : i ≡ j → ⊥). address_same (128 * i + l) ∙ loaded.before (128 * i + l) (omega (arith, lt, ne, low))
+        ∙ says.addresses i l (omega (arith, lt, ne)) low)
         (cases_eq i j);
     blocks = λ i lt. ⊎_elim
         (λ (here : i ≡ j). subst (λ (x : ℕ). block_in new x ≡ get_or k.map x 0) (sym here) (set.own ∙ sym points))
@@ -82,13 +81,16 @@ module _ (c : Content) (k : CheckpointValue) (m : LogMap) (st : HoldsAt c k m) (
   unfolding address
   map_long all = long c k m (are_sized c all) st (Map j) some
 
-pub map_fault : (d d' : DeviceState) (k : CheckpointValue) (j at : ℕ) → AllByRecursion IsSector d.content → get_or k.map j 0 ≡ at → (at ≡ 0 → ⊥) → LacksBlock d d' k.segments at → LacksTables d d' k
+pub map_fault : (d d' : DeviceState) (k : CheckpointValue) (j at : ℕ) → AllByRecursion IsSector d.content → get_or k.map j 0 ≡ at
+    → (at ≡ 0 → ⊥) → LacksBlock d d' k.segments at → LacksTables d d' k
 map_fault d d' k j at all points some lacks m keeps st =
     let stored : 0 < get_or k.map j 0 = omega (arith, points, some) in
     let range = map_range d.content k m st j stored in
     lacks keeps (subst (λ (a : ℕ). 2 ≤ a) points range.0) (subst (λ (a : ℕ). a < 2 + 64 * k.segments) points range.1)
     (subst (λ (a : ℕ). length (block d.content a) ≡ 512) points (map_long d.content k m st j stored all))
 
-pub says_map_then : (a b : DeviceState) (k : CheckpointValue) (j l : ℕ) (t u : MapValue) → Looks a b → SaysMap a.content k j t → (SaysMap b.content k j t → SaysMap b.content k l u) → SaysMap a.content k l u
+pub says_map_then : (a b : DeviceState) (k : CheckpointValue) (j l : ℕ) (t u : MapValue) → Looks a b → SaysMap a.content k j t
+    → (SaysMap b.content k j t → SaysMap b.content k l u) → SaysMap a.content k l u
 says_map_then a b k j l t u looks says more =
-    subst (λ (x : Content). SaysMap x k l u) looks.untouched.content (more (subst (λ (x : Content). SaysMap x k j t) (sym looks.untouched.content) says))
+    subst (λ (x : Content). SaysMap x k l u) looks.untouched.content
+    (more (subst (λ (x : Content). SaysMap x k j t) (sym looks.untouched.content) says))

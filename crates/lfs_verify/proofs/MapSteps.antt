@@ -1,5 +1,6 @@
 -- The blocks of the inode map, and the table of inode addresses.
-use Rattle.std.proofs.Common.{◌≡◌, ◌<◌, ◌≤◌, ◌↔◌, ⊎_elim, inr, ◌+◌, ◌-◌, ◌*◌, ◌/◌, ◌%◌, ℕ, suc, true, false, List, [], length, get_or, set, refl, sym, ◌∙◌, ap, ap₂, subst, arith}
+use Rattle.std.proofs.Common.{◌≡◌, ◌<◌, ◌≤◌, ◌↔◌, ⊎_elim, inr, ◌+◌, ◌-◌, ◌*◌, ◌/◌, ◌%◌, ℕ, suc, true, false, List, [], length, get_or, set}
+use Rattle.std.proofs.Common.{refl, sym, ◌∙◌, ap, ap₂, subst, arith}
 use Rattle.std.proofs.lemmas.Bool.{cases_eq, cases_lt}
 use Rattle.std.proofs.lemmas.List.{get_or-set_same, get_or-set_other, length-set}
 use Rattle.lfs_model.specs.Checkpoint.{CheckpointValue}
@@ -18,10 +19,12 @@ use Rattle.lfs_verify.proofs.Words.{word_none}
 pub copies_none : (bytes old : List ℕ) (at : ℕ) → Copies bytes old old at 0
 copies_none bytes old at = record { own = λ i lt. absurd (omega (arith, lt)); before = λ j lt. refl; after = λ j le. refl; size = refl }
 
-pub copies_more : (bytes old mid : List ℕ) (at n x : ℕ) → at + n < length mid → x ≡ word bytes n → Copies bytes old mid at n → Copies bytes old (set mid (at + n) x) at (n + 1)
+pub copies_more : (bytes old mid : List ℕ) (at n x : ℕ) → at + n < length mid → x ≡ word bytes n → Copies bytes old mid at n
+    → Copies bytes old (set mid (at + n) x) at (n + 1)
 copies_more bytes old mid at n x inside is was = record {
   own = λ i lt. ⊎_elim
-      (λ (here : i ≡ n). ap (λ (a : ℕ). get_or (set mid (at + n) x) (at + a) 0) here ∙ get_or-set_same mid (at + n) x 0 inside ∙ is ∙ ap (word bytes) (sym here))
+      (λ (here : i ≡ n). ap (λ (a : ℕ). get_or (set mid (at + n) x) (at + a) 0) here ∙ get_or-set_same mid (at + n) x 0 inside ∙ is
+      ∙ ap (word bytes) (sym here))
       (λ (ne : i ≡ n → ⊥). get_or-set_other mid (at + n) (at + i) x 0 (λ h. ne (omega (arith, h))) ∙ was.own i (omega (arith, lt, ne)))
       (cases_eq i n);
   before = λ j lt. get_or-set_other mid (at + n) j x 0 (λ h. omega (arith, h, lt)) ∙ was.before j lt;
@@ -30,7 +33,8 @@ copies_more bytes old mid at n x inside is was = record {
 }
 
 -- which block of the map an inode's address stands in
-entry_at : (c : Content) (k : CheckpointValue) (j i : ℕ) → i < 128 → address c k (Inode (128 * j + i)) ≡ word (block c (address c k (Map j))) i
+entry_at : (c : Content) (k : CheckpointValue) (j i : ℕ) → i < 128
+    → address c k (Inode (128 * j + i)) ≡ word (block c (address c k (Map j))) i
 entry_at c k j i lt =
     let a : (128 * j + i) / 128 ≡ j = omega arith in
     let b : (128 * j + i) % 128 ≡ i = omega arith in
@@ -41,7 +45,8 @@ module _ (c : Content) (k : CheckpointValue) (j : ℕ) (low : j < 32) (p : ℕ) 
   map_at = val ∙ sym (address_linked c k (Map j))
 
   -- the numbers of this block are those of the table, if it holds them
-  lists_with : (old new : List ℕ) → ((n : ℕ) → n < 128 * j → get_or new n 0 ≡ get_or old n 0) → ((i : ℕ) → i < 128 → get_or new (128 * j + i) 0 ≡ word (block c p) i)
+  lists_with : (old new : List ℕ) → ((n : ℕ) → n < 128 * j → get_or new n 0 ≡ get_or old n 0)
+      → ((i : ℕ) → i < 128 → get_or new (128 * j + i) 0 ≡ word (block c p) i)
       → ListsUpTo (view c k) old j → ListsUpTo (view c k) new (j + 1)
   lists_with old new before own was n lt = ⊎_elim
       (λ (below : n < 128 * j). before n below ∙ was n below)
@@ -56,25 +61,32 @@ module _ (c : Content) (k : CheckpointValue) (j : ℕ) (low : j < 32) (p : ℕ) 
   map_passed none m w = subst (Walked (view c k) m) (omega arith) (skip (view c k) m (16 + j) w (Map j) refl low (sym map_at ∙ none))
 
   pub lists_passed : p ≡ 0 → (map : List ℕ) → IsEmptyFrom map j → ListsUpTo (view c k) map j → ListsUpTo (view c k) map (j + 1)
-  lists_passed none map empty was = lists_with map map (λ n lt. refl) (λ i lt. empty (128 * j + i) (omega arith) ∙ sym (ap (λ (a : ℕ). word (block c a) i) none ∙ word_none i)) was
+  lists_passed none map empty was = lists_with map map (λ n lt. refl)
+      (λ i lt. empty (128 * j + i) (omega arith) ∙ sym (ap (λ (a : ℕ). word (block c a) i) none ∙ word_none i)) was
 
-  pub lists_taken : (old new out : List ℕ) → block c p ≡ out → Copies out old new (128 * j) 128 → ListsUpTo (view c k) old j → ListsUpTo (view c k) new (j + 1)
-  lists_taken old new out read copies was = lists_with old new copies.before (λ i lt. copies.own i lt ∙ ap (λ (b : List ℕ). word b i) (sym read)) was
+  pub lists_taken : (old new out : List ℕ) → block c p ≡ out → Copies out old new (128 * j) 128 → ListsUpTo (view c k) old j
+      → ListsUpTo (view c k) new (j + 1)
+  lists_taken old new out read copies was =
+      lists_with old new copies.before (λ i lt. copies.own i lt ∙ ap (λ (b : List ℕ). word b i) (sym read)) was
 
   there : SomeWord (block c p) ↔ SomeWord (block c (address c k (Map j)))
   there = (subst SomeWord (ap (block c) map_at), subst SomeWord (sym (ap (block c) map_at)))
 
   -- a block that can't be taken
-  pub map_refused : (p ≡ 0 → ⊥) → (m m1 : List ℕ) → (IsUnmarked m p → SomeWord (block c p) → ⊥) → Walked (view c k) m (16 + j) → Maps (view c k) → ⊥
-  map_refused some m m1 not w maps = refused (view c k) m m1 (16 + j) w (Map j) refl low p map_at c SomeWord there false refl (omega arith, not) maps.fresh (maps.nonempty j)
+  pub map_refused : (p ≡ 0 → ⊥) → (m m1 : List ℕ) → (IsUnmarked m p → SomeWord (block c p) → ⊥) → Walked (view c k) m (16 + j)
+      → Maps (view c k) → ⊥
+  map_refused some m m1 not w maps = refused (view c k) m m1 (16 + j) w (Map j) refl low p map_at c SomeWord there false refl
+      (omega arith, not) maps.fresh (maps.nonempty j)
 
   pub map_unread : (p ≡ 0 → ⊥) → (m m1 : List ℕ) → block c p ≡ [] → Walked (view c k) m (16 + j) → Maps (view c k) → ⊥
   map_unread some m m1 none = map_refused some m m1 (λ o is. no_word (block c p) none is)
 
-  pub map_empty : (p ≡ 0 → ⊥) → (m m1 out : List ℕ) → block c p ≡ out → (SomeWord out → ⊥) → Walked (view c k) m (16 + j) → Maps (view c k) → ⊥
+  pub map_empty : (p ≡ 0 → ⊥) → (m m1 out : List ℕ) → block c p ≡ out → (SomeWord out → ⊥) → Walked (view c k) m (16 + j) → Maps (view c k)
+      → ⊥
   map_empty some m m1 out read not = map_refused some m m1 (λ o is. not (subst SomeWord read is))
 
-  pub map_taken : (m m1 out : List ℕ) → IsUnmarked m p → block c p ≡ out → SomeWord out → m1 ≡ set m p (suc (16 + j)) → Walked (view c k) m (16 + j) → Walked (view c k) m1 (16 + (j + 1))
+  pub map_taken : (m m1 out : List ℕ) → IsUnmarked m p → block c p ≡ out → SomeWord out → m1 ≡ set m p (suc (16 + j))
+      → Walked (view c k) m (16 + j) → Walked (view c k) m1 (16 + (j + 1))
   map_taken m m1 out o read is marked w =
       subst (Walked (view c k) m1) (omega arith)
       (took (view c k) m m1 (16 + j) w (Map j) refl low p map_at c SomeWord there true refl (inr (o, subst SomeWord (sym read) is, marked)))

@@ -1,5 +1,6 @@
 -- The totals of a log map, by the marks of a walk over it.
-use Rattle.std.proofs.Common.{◌≡◌, ◌<◌, ◌≤◌, ◌↔◌, ◌+◌, ◌-◌, ◌*◌, ℕ, zero, suc, Bool, true, false, List, length, Option, Some, None, get_or, refl, sym, ◌∙◌, ap, subst, arith}
+use Rattle.std.proofs.Common.{◌≡◌, ◌<◌, ◌≤◌, ◌↔◌, ◌+◌, ◌-◌, ◌*◌, ℕ, zero, suc, Bool, true, false, List, length, Option, Some, None, get_or}
+use Rattle.std.proofs.Common.{refl, sym, ◌∙◌, ap, subst, arith}
 use Rattle.std.proofs.lemmas.Bool.{false_from_ne_true, lt-ltb, ltb-true}
 use Rattle.std.proofs.lemmas.List.Sums.{length-filter}
 use Rattle.std.specs.List.{range_with_len}
@@ -17,7 +18,8 @@ use Rattle.lfs_model.proofs.Decodes.{formed, only, stored}
 use Rattle.lfs_model.proofs.ObjectPointers.{leaf_tests, pointer_count}
 use Rattle.lfs_verify.specs.Totals.{above_count, CountsByMarks}
 use Rattle.lfs_verify.specs.Walk.{Walked, InBounds, step_of}
-use Rattle.lfs_verify.proofs.Occurrences.{above, above_is, above_next, above_none, above_range, above_ranges, count_off, occurrences, occurs_never, occurs_once, sum_both}
+use Rattle.lfs_verify.proofs.Occurrences.{above, above_is, above_next, above_none, above_range, above_ranges, count_off, occurrences}
+use Rattle.lfs_verify.proofs.Occurrences.{occurs_never, occurs_once, sum_both}
 use Rattle.lfs_verify.proofs.Steps.{same_step, inside_marks, within_7, stage_low}
 
 -- ---- files of a log map, as counts
@@ -54,13 +56,16 @@ module _ (m : LogMap) (is : IsLogMap m) where
   no_data n none i has = let within = is.within n i has in let both : None ≡ Some within.0 = sym none ∙ within.1 in absurd (cc)
 
   no_leaf : (n q : ℕ) → m.header n ≡ None → has_leaf m n q ≡ false
-  no_leaf n q none = false_from_ne_true (has_leaf m n q) (λ on. let has = ((leaf_tests m n).0 q).0 on in no_data n none (112 + 128 * q + has.0) has.2)
+  no_leaf n q none =
+      false_from_ne_true (has_leaf m n q) (λ on. let has = ((leaf_tests m n).0 q).0 on in no_data n none (112 + 128 * q + has.0) has.2)
 
   no_double : (n : ℕ) → m.header n ≡ None → has_double m n ≡ false
-  no_double n none = false_from_ne_true (has_double m n) (λ on. let has = (leaf_tests m n).1.0 on in no_data n none (112 + 128 * suc has.0 + has.2.0) has.2.2)
+  no_double n none = false_from_ne_true (has_double m n)
+      (λ on. let has = (leaf_tests m n).1.0 on in no_data n none (112 + 128 * suc has.0 + has.2.0) has.2.2)
 
   no_blocks : (n : ℕ) → m.header n ≡ None → data_of_file m n ≡ 0
-  no_blocks n none = stored_count m n 16624 ∙ count_off (is_stored m n) 16624 (λ i lt. false_from_ne_true (is_stored m n i) (λ on. no_data n none i ((stored_test m n i).0 on)))
+  no_blocks n none = stored_count m n 16624
+      ∙ count_off (is_stored m n) 16624 (λ i lt. false_from_ne_true (is_stored m n i) (λ on. no_data n none i ((stored_test m n i).0 on)))
 
   no_roots : (n : ℕ) → m.header n ≡ None → roots_of m n ≡ 0
   no_roots n none = let a = ap one_if (no_leaf n 0 none) in let b = ap one_if (no_double n none) in omega (arith, a, b)
@@ -85,7 +90,8 @@ module _ (m : LogMap) (is : IsLogMap m) where
       let gone : meta_of_file m n ≡ 0 = ap (λ (o : Option Header). elim o [ None ↦ 0 | Some h ↦ 1 + pointers (stored_blocks m n) ]) at in
       omega (arith, gone, no_inode n at, no_roots n at, no_leaves n at)
   meta_parts n (Some h) at =
-      let there : meta_of_file m n ≡ 1 + pointers (stored_blocks m n) = ap (λ (o : Option Header). elim o [ None ↦ 0 | Some h ↦ 1 + pointers (stored_blocks m n) ]) at in
+      let there : meta_of_file m n ≡ 1 + pointers (stored_blocks m n) =
+      ap (λ (o : Option Header). elim o [ None ↦ 0 | Some h ↦ 1 + pointers (stored_blocks m n) ]) at in
       let one : inodes_of m n ≡ 1 = ap (λ (o : Option Header). one_if (elim o [ None ↦ false | Some h ↦ true ])) at in
       omega (arith, there, one, pointer_count m n)
 
@@ -95,7 +101,8 @@ module _ (m : LogMap) (is : IsLogMap m) where
       let all = sum_both (inodes_of m) (λ n. roots_of m n + leaves_of m n) (meta_of_file m) k (λ n. meta_parts n (m.header n) refl) in
       omega (arith, below, all)
 
-module _ (c : Content) (k : CheckpointValue) (sized : IsSized c) (m : LogMap) (st : HoldsAt c k m) (marks : List ℕ) (w : Walked (view c k) marks 68628528) where
+module _ (c : Content) (k : CheckpointValue) (sized : IsSized c) (m : LogMap) (st : HoldsAt c k m) (marks : List ℕ)
+    (w : Walked (view c k) marks 68628528) where
   map_is : IsLogMap m
   map_is = formed c k m sized st
 
@@ -115,14 +122,16 @@ module _ (c : Content) (k : CheckpointValue) (sized : IsSized c) (m : LogMap) (s
       let h = w.held at (step_of e) there in
       lacks (only c k m sized st e (subst (λ (x : Entry). 0 < address c k x) (same_step h.0 e h.3 b h.1) h.4)))
 
-  counted : (e : Entry) → InBounds e → (test : Bool) → (test ≡ true) ↔ Has m k.segments e → occurrences marks (suc (step_of e)) ≡ one_if test
+  counted : (e : Entry) → InBounds e → (test : Bool) → (test ≡ true) ↔ Has m k.segments e
+      → occurrences marks (suc (step_of e)) ≡ one_if test
   counted e b true is = once e b (is.0 refl)
   counted e b false is = never e b (λ has. let on : false ≡ true = is.1 has in absurd (cc))
 
   -- the marks of one file
   inode_marks : (n : ℕ) → n ≤ 4095 → above marks (48 + n) ≡ above marks (48 + suc n) + inodes_of m n
   inode_marks n le =
-      let own : occurrences marks (suc (48 + n)) ≡ inodes_of m n = counted (Inode n) (omega (arith, le)) (has_inode m n) (inode_test m n (m.header n) refl) in
+      let own : occurrences marks (suc (48 + n)) ≡ inodes_of m n =
+      counted (Inode n) (omega (arith, le)) (has_inode m n) (inode_test m n (m.header n) refl) in
       let next = above_next marks (48 + n) in
       let same : suc (48 + n) ≡ 48 + suc n = omega arith in
       let e = ap (above marks) same in
@@ -130,8 +139,10 @@ module _ (c : Content) (k : CheckpointValue) (sized : IsSized c) (m : LogMap) (s
 
   root_marks : (n : ℕ) → n ≤ 4095 → above marks (4144 + 2 * n) ≡ above marks (4144 + 2 * suc n) + roots_of m n
   root_marks n le =
-      let single : occurrences marks (suc (4144 + 2 * n)) ≡ one_if (has_leaf m n 0) = counted (Leaf n zero) (omega (arith, le)) (has_leaf m n 0) ((leaf_tests m n).0 0) in
-      let double : occurrences marks (suc (4145 + 2 * n)) ≡ one_if (has_double m n) = counted (Double n) (omega (arith, le)) (has_double m n) (leaf_tests m n).1 in
+      let single : occurrences marks (suc (4144 + 2 * n)) ≡ one_if (has_leaf m n 0) =
+      counted (Leaf n zero) (omega (arith, le)) (has_leaf m n 0) ((leaf_tests m n).0 0) in
+      let double : occurrences marks (suc (4145 + 2 * n)) ≡ one_if (has_double m n) =
+      counted (Double n) (omega (arith, le)) (has_double m n) (leaf_tests m n).1 in
       let next = above_next marks (4144 + 2 * n) in
       let middle : suc (4144 + 2 * n) ≡ 4145 + 2 * n = omega arith in
       let e = ap (above marks) middle in
@@ -142,14 +153,16 @@ module _ (c : Content) (k : CheckpointValue) (sized : IsSized c) (m : LogMap) (s
 
   leaf_marks : (n : ℕ) → n ≤ 4095 → above marks (12336 + 128 * n) ≡ above marks (12336 + 128 * suc n) + leaves_of m n
   leaf_marks n le =
-      let all = above_range marks (λ q. has_leaf m n (suc q)) (12336 + 128 * n) 128 (λ q lt. counted (Leaf n (suc q)) (omega (arith, le), lt) (has_leaf m n (suc q)) ((leaf_tests m n).0 (suc q))) in
+      let all = above_range marks (λ q. has_leaf m n (suc q)) (12336 + 128 * n) 128
+      (λ q lt. counted (Leaf n (suc q)) (omega (arith, le), lt) (has_leaf m n (suc q)) ((leaf_tests m n).0 (suc q))) in
       let same : 12336 + 128 * n + 128 ≡ 12336 + 128 * suc n = omega arith in
       let e = ap (above marks) same in
       omega (arith, all, e)
 
   data_marks : (n : ℕ) → n ≤ 4095 → above marks (536624 + 16624 * n) ≡ above marks (536624 + 16624 * suc n) + data_of_file m n
   data_marks n le =
-      let all = above_range marks (is_stored m n) (536624 + 16624 * n) 16624 (λ i lt. counted (Data n i) (omega (arith, le), lt) (is_stored m n i) (stored_test m n i)) in
+      let all = above_range marks (is_stored m n) (536624 + 16624 * n) 16624
+      (λ i lt. counted (Data n i) (omega (arith, le), lt) (is_stored m n i) (stored_test m n i)) in
       let same : 536624 + 16624 * n + 16624 ≡ 536624 + 16624 * suc n = omega arith in
       let e = ap (above marks) same in
       omega (arith, all, e, stored_count m n 16624)
@@ -181,5 +194,7 @@ module _ (c : Content) (k : CheckpointValue) (sized : IsSized c) (m : LogMap) (s
     above = omega (arith, is, whole, all_meta);
   }
 
-pub counts_by_marks : (marks : List ℕ) (blocks all : ℕ) → blocks ≡ above_count marks 536624 (length marks) → all ≡ above_count marks 48 (length marks) → CountsByMarks marks blocks (all - blocks)
-counts_by_marks marks blocks all is whole c k sized m st w = totals_by_marks c k sized m st marks w blocks all (is ∙ above_is marks 536624) (whole ∙ above_is marks 48)
+pub counts_by_marks : (marks : List ℕ) (blocks all : ℕ) → blocks ≡ above_count marks 536624 (length marks)
+    → all ≡ above_count marks 48 (length marks) → CountsByMarks marks blocks (all - blocks)
+counts_by_marks marks blocks all is whole c k sized m st w =
+    totals_by_marks c k sized m st marks w blocks all (is ∙ above_is marks 536624) (whole ∙ above_is marks 48)

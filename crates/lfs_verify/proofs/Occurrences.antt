@@ -1,5 +1,6 @@
 -- How often a number stands in a list, and how many numbers of a list are above one.
-use Rattle.std.proofs.Common.{◌≡◌, ◌<◌, ◌≤◌, ◌⊎◌, ⊎_elim, ◌+◌, ◌==◌, ℕ, zero, suc, Bool, true, false, nat_lt, List, length, get_or, refl, sym, ◌∙◌, ap, arith, inl, inr, eq-eqb, eqb-true}
+use Rattle.std.proofs.Common.{◌≡◌, ◌<◌, ◌≤◌, ◌⊎◌, ⊎_elim, ◌+◌, ◌==◌, ℕ, zero, suc, Bool, true, false, nat_lt, List, length, get_or, refl}
+use Rattle.std.proofs.Common.{sym, ◌∙◌, ap, arith, inl, inr, eq-eqb, eqb-true}
 use Rattle.std.proofs.lemmas.Bool.{cases_eq, cases_lt, false_from_ne_true, lt-ltb, ltb-true}
 use Rattle.lfs_model.specs.Objects.{one_if}
 use Rattle.lfs_model.specs.Stands.{count_up}
@@ -21,7 +22,8 @@ count_single p zero o lt on only = absurd (omega (arith, lt))
 count_single p (suc n) o lt on only = ⊎_elim
     (λ (here : o ≡ n).
     let one = ap one_if (ap p (sym here) ∙ on) in
-    let rest = count_off p n (λ x low. false_from_ne_true (p x) (λ there. let same = only x (omega (arith, low)) there in absurd (omega (arith, same, here, low)))) in
+    let rest = count_off p n (λ x low.
+    false_from_ne_true (p x) (λ there. let same = only x (omega (arith, low)) there in absurd (omega (arith, same, here, low)))) in
     omega (arith, one, rest, count_up_more p n))
     (λ (before : o ≡ n → ⊥).
     let none = ap one_if (false_from_ne_true (p n) (λ there. let same = only n (omega arith) there in before (sym same))) in
@@ -30,7 +32,8 @@ count_single p (suc n) o lt on only = ⊎_elim
     (cases_eq o n)
 
 -- a test that splits in two
-count_parts : (p q r : ℕ → Bool) (n : ℕ) → ((x : ℕ) → one_if (p x) ≡ one_if (q x) + one_if (r x)) → count_up p n ≡ count_up q n + count_up r n
+count_parts : (p q r : ℕ → Bool) (n : ℕ) → ((x : ℕ) → one_if (p x) ≡ one_if (q x) + one_if (r x))
+    → count_up p n ≡ count_up q n + count_up r n
 count_parts p q r zero each = omega (arith, count_up_none p, count_up_none q, count_up_none r)
 count_parts p q r (suc n) each =
     let rest = count_parts p q r n each in
@@ -70,7 +73,8 @@ pub above_off : (xs : List ℕ) (h n m : ℕ) → m ≡ n + 1 → get_or xs n 0 
 above_off xs h n m is off =
     let next : m ≡ suc n = omega (arith, is) in
     let e = ap (above_count xs h) next in
-    let none = ap one_if (false_from_ne_true (is_above xs h n) (λ on. let lt = ltb-true h (get_or xs n 0) on in absurd (omega (arith, lt, off)))) in
+    let none = ap one_if
+    (false_from_ne_true (is_above xs h n) (λ on. let lt = ltb-true h (get_or xs n 0) on in absurd (omega (arith, lt, off)))) in
     omega (arith, e, none, above_step xs h n)
 
 -- fewer numbers are above a greater one
@@ -105,11 +109,13 @@ next_above h x = ⊎_elim
 
     below : x ≤ h → one_if (nat_lt h x) ≡ one_if (nat_lt (suc h) x) + one_if (x == suc h)
     below le = parts (nat_lt h x) (nat_lt (suc h) x) (x == suc h) 0 0 0
-        (ap one_if (not_lt h x le)) (ap one_if (not_lt (suc h) x (omega (arith, le)))) (ap one_if (not_eq x (suc h) (λ same. omega (arith, same, le)))) refl
+        (ap one_if (not_lt h x le)) (ap one_if (not_lt (suc h) x (omega (arith, le))))
+        (ap one_if (not_eq x (suc h) (λ same. omega (arith, same, le)))) refl
 
     at : x ≡ suc h → one_if (nat_lt h x) ≡ one_if (nat_lt (suc h) x) + one_if (x == suc h)
     at same = parts (nat_lt h x) (nat_lt (suc h) x) (x == suc h) 1 0 1
-        (ap one_if (lt-ltb h x (omega (arith, same)))) (ap one_if (not_lt (suc h) x (omega (arith, same)))) (ap one_if (eq-eqb x (suc h) same)) refl
+        (ap one_if (lt-ltb h x (omega (arith, same)))) (ap one_if (not_lt (suc h) x (omega (arith, same))))
+        (ap one_if (eq-eqb x (suc h) same)) refl
 
     le_or : (a b : ℕ) → (a ≤ b) ⊎ (b < a)
     le_or a b = ⊎_elim (λ (lt : a < suc b). inl (omega (arith, lt))) (λ (le : suc b ≤ a). inr (omega (arith, le))) (cases_lt a (suc b))
@@ -126,18 +132,22 @@ above_next xs h = count_parts (is_above xs h) (is_above xs (suc h)) (is_at xs (s
 
 pub above_none : (xs : List ℕ) (h : ℕ) → ((a : ℕ) → get_or xs a 0 ≤ h) → above xs h ≡ 0
 unfolding above above_count
-above_none xs h low = count_off (is_above xs h) (length xs) (λ a lt. false_from_ne_true (is_above xs h a) (λ on. let past = ltb-true h (get_or xs a 0) on in let le = low a in absurd (omega (arith, past, le))))
+above_none xs h low = count_off (is_above xs h) (length xs) (λ a lt. false_from_ne_true (is_above xs h a)
+    (λ on. let past = ltb-true h (get_or xs a 0) on in let le = low a in absurd (omega (arith, past, le))))
 
 pub occurs_once : (xs : List ℕ) (y a : ℕ) → a < length xs → get_or xs a 0 ≡ y → ((b : ℕ) → get_or xs b 0 ≡ y → b ≡ a) → occurrences xs y ≡ 1
 unfolding occurrences
-occurs_once xs y a lt here only = count_single (is_at xs y) (length xs) a lt (eq-eqb (get_or xs a 0) y here) (λ b low on. only b (eqb-true (get_or xs b 0) y on))
+occurs_once xs y a lt here only =
+    count_single (is_at xs y) (length xs) a lt (eq-eqb (get_or xs a 0) y here) (λ b low on. only b (eqb-true (get_or xs b 0) y on))
 
 pub occurs_never : (xs : List ℕ) (y : ℕ) → ((a : ℕ) → get_or xs a 0 ≡ y → ⊥) → occurrences xs y ≡ 0
 unfolding occurrences
-occurs_never xs y none = count_off (is_at xs y) (length xs) (λ a lt. false_from_ne_true (is_at xs y a) (λ on. none a (eqb-true (get_or xs a 0) y on)))
+occurs_never xs y none =
+    count_off (is_at xs y) (length xs) (λ a lt. false_from_ne_true (is_at xs y a) (λ on. none a (eqb-true (get_or xs a 0) y on)))
 
 -- ---- numbers of a range that each occur once or never
-pub above_range : (xs : List ℕ) (test : ℕ → Bool) (from n : ℕ) → ((i : ℕ) → i < n → occurrences xs (suc (from + i)) ≡ one_if (test i)) → above xs from ≡ above xs (from + n) + count_up test n
+pub above_range : (xs : List ℕ) (test : ℕ → Bool) (from n : ℕ) → ((i : ℕ) → i < n → occurrences xs (suc (from + i)) ≡ one_if (test i))
+    → above xs from ≡ above xs (from + n) + count_up test n
 above_range xs test from zero each =
     let same : from ≡ from + 0 = omega arith in
     let e = ap (above xs) same in
@@ -164,7 +174,8 @@ sum_both f g h (suc k) each =
     omega (arith, rest, each (suc k), sum_last f k, sum_last g k, sum_last h k)
 
 -- ranges one behind the other, the first of which is empty
-pub above_ranges : (xs : List ℕ) (start : ℕ → ℕ) (f : ℕ → ℕ) (k : ℕ) → f 0 ≡ 0 → ((n : ℕ) → n ≤ k → above xs (start n) ≡ above xs (start (suc n)) + f n) → above xs (start 0) ≡ above xs (start (suc k)) + sum_upto f k
+pub above_ranges : (xs : List ℕ) (start : ℕ → ℕ) (f : ℕ → ℕ) (k : ℕ) → f 0 ≡ 0
+    → ((n : ℕ) → n ≤ k → above xs (start n) ≡ above xs (start (suc n)) + f n) → above xs (start 0) ≡ above xs (start (suc k)) + sum_upto f k
 above_ranges xs start f zero none each =
     let first = each 0 (omega arith) in
     omega (arith, first, none, sum_first f)

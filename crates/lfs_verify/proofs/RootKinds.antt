@@ -32,13 +32,16 @@ module _ (c : Content) (k : CheckpointValue) (map : List ℕ) (lists : Lists (vi
   pub rootless : (p : ℕ) → p ≡ get_or map 1 0 → block c p ≡ [] → Inodes (view c k) → ⊥
   rootless p is none inodes = no_directory (block c (address c k (Inode 1))) (ap (block c) (sym (root_at p is)) ∙ none) inodes.root
 
-  pub other_kind : (p : ℕ) → p ≡ get_or map 1 0 → (p ≡ 0 → ⊥) → (out : List ℕ) → block c p ≡ out → (IsDirectoryInode out → ⊥) → Inodes (view c k) → ⊥
+  pub other_kind : (p : ℕ) → p ≡ get_or map 1 0 → (p ≡ 0 → ⊥) → (out : List ℕ) → block c p ≡ out → (IsDirectoryInode out → ⊥)
+      → Inodes (view c k) → ⊥
   other_kind p is some out read not inodes =
       let at = root_at p is in
       let here : block c (address c k (Inode 1)) ≡ out = ap (block c) (sym at) ∙ read in
       let reached : Reached (view c k) (Inode 1) = omega arith in
-      not (subst IsDirectoryInode here (directory_from (layout_version k) 1 (block c (address c k (Inode 1))) (inodes.formed 1 reached) inodes.root))
+      not (subst IsDirectoryInode here
+      (directory_from (layout_version k) 1 (block c (address c k (Inode 1))) (inodes.formed 1 reached) inodes.root))
 
-  pub root_kind : (p : ℕ) → p ≡ get_or map 1 0 → (out : List ℕ) → block c p ≡ out → IsDirectoryInode out → (header (block c (address c k (Inode 1)))).kind ≡ Directory
+  pub root_kind : (p : ℕ) → p ≡ get_or map 1 0 → (out : List ℕ) → block c p ≡ out → IsDirectoryInode out
+      → (header (block c (address c k (Inode 1)))).kind ≡ Directory
   root_kind p is out read directory =
       kind_from (block c (address c k (Inode 1))) (subst IsDirectoryInode (sym read ∙ ap (block c) (root_at p is)) directory)

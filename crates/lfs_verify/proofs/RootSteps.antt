@@ -25,10 +25,12 @@ module _ (c : Content) (k : CheckpointValue) (n : ℕ) (low : n < 4096) where
   root_none m none w =
       let first = skip (view c k) m (4144 + 2 * n) w (Leaf n 0) refl low (address_linked c k (Leaf n 0) ∙ nothing 120 none) in
       let e : suc (4144 + 2 * n) ≡ 4145 + 2 * n = omega arith in
-      let second = skip (view c k) m (4145 + 2 * n) (subst (Walked (view c k) m) e first) (Double n) refl low (address_linked c k (Double n) ∙ nothing 121 none) in
+      let second = skip (view c k) m (4145 + 2 * n) (subst (Walked (view c k) m) e first) (Double n) refl low
+      (address_linked c k (Double n) ∙ nothing 121 none) in
       subst (Walked (view c k) m) (omega arith) second
 
-  module _ (at : ℕ) (out : List ℕ) (is : at ≡ address c k (Inode n)) (read : block c at ≡ out) (m m1 : List ℕ) (p : ℕ) (val : p ≡ word out 120) (x : Bool)
+  module _ (at : ℕ) (out : List ℕ) (is : at ≡ address c k (Inode n)) (read : block c at ≡ out) (m m1 : List ℕ) (p : ℕ)
+      (val : p ≡ word out 120) (x : Bool)
       (t : TakesAddress SomeWord c m m1 p (4144 + 2 * n) x) (w : Walked (view c k) m (4144 + 2 * n)) where
     single_at : p ≡ address c k (Leaf n 0)
     single_at = points c (address c k (Inode n)) at 120 out p is read val ∙ sym (address_linked c k (Leaf n 0))
@@ -47,7 +49,8 @@ module _ (c : Content) (k : CheckpointValue) (n : ℕ) (low : n < 4096) where
         (took (view c k) m m1 (4144 + 2 * n) w (Leaf n 0) refl low p single_at c SomeWord
         (subst SomeWord (ap (block c) single_at), subst SomeWord (sym (ap (block c) single_at))) x holds t)
 
-    module _ (holds : x ≡ true) (m2 : List ℕ) (q : ℕ) (val2 : q ≡ word out 121) (y : Bool) (t2 : TakesAddress SomeWord c m1 m2 q (4145 + 2 * n) y) where
+    module _ (holds : x ≡ true) (m2 : List ℕ) (q : ℕ) (val2 : q ≡ word out 121) (y : Bool)
+        (t2 : TakesAddress SomeWord c m1 m2 q (4145 + 2 * n) y) where
       double_at : q ≡ address c k (Double n)
       double_at = points c (address c k (Inode n)) at 121 out q is read val2 ∙ sym (address_linked c k (Double n))
 

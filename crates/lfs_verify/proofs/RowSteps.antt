@@ -1,5 +1,6 @@
 -- A row of chunks, read one chunk at a time.
-use Rattle.std.proofs.Common.{◌≡◌, ◌<◌, ◌≤◌, ◌↔◌, ⊎_elim, ◌+◌, ◌-◌, ◌*◌, ℕ, suc, List, [], ◌∷◌, length, get_or, take, drop, map, Option, Some, None, refl, sym, ◌∙◌, ap, subst, arith, length-take, length-drop, get_or-take, get_or-drop}
+use Rattle.std.proofs.Common.{◌≡◌, ◌<◌, ◌≤◌, ◌↔◌, ⊎_elim, ◌+◌, ◌-◌, ◌*◌, ℕ, suc, List, [], ◌∷◌, length, get_or, take, drop, map, Option}
+use Rattle.std.proofs.Common.{Some, None, refl, sym, ◌∙◌, ap, subst, arith, length-take, length-drop, get_or-take, get_or-drop}
 use Rattle.std.proofs.Math.Seq.{drop-cons}
 use Rattle.std.proofs.lemmas.Bool.{cases_eq, cases_lt}
 use Rattle.std.proofs.lemmas.List.{drop_all, drop-drop, length-map}
@@ -44,7 +45,8 @@ too_few (e ∷ es) (s ∷ ss) lt h = too_few es ss (omega arith) ((has_after (So
 front_is : (s : Cell) (ss : Sectors) (es : List Entry) → entries_in (bytes_of s) ≡ Some es → chunks [] (s ∷ ss) ≡ after None (chunks es ss)
 front_is s ss es is = ap (λ (o : Option (List Entry)). opened o (λ es. chunks es ss)) is
 
-front : (s : Cell) (ss : Sectors) (es : List Entry) → entries_in (bytes_of s) ≡ Some es → HasRow (chunks [] (s ∷ ss)) ↔ HasRow (chunks es ss)
+front : (s : Cell) (ss : Sectors) (es : List Entry) → entries_in (bytes_of s) ≡ Some es
+    → HasRow (chunks [] (s ∷ ss)) ↔ HasRow (chunks es ss)
 front s ss es is =
     let e = front_is s ss es is in
     let a = has_after None (chunks es ss) in
@@ -101,13 +103,17 @@ module _ (c : Content) (used segment at : ℕ) (long : 2 + 64 * segment + used �
 
     pub rest_is : drop (length names.0) behind ≡ drop (at + 1 + n) (part c used segment)
     unfolding behind
-    rest_is = drop-drop (length names.0) (suc at) (part c used segment) ∙ ap (λ (x : ℕ). drop x (part c used segment)) (let y = names.2 in omega arith)
+    rest_is = drop-drop (length names.0) (suc at) (part c used segment)
+        ∙ ap (λ (x : ℕ). drop x (part c used segment)) (let y = names.2 in omega arith)
 
     pub next_chunk : at + n < used → HasRow (from c used segment at) ↔ HasRow (from c used segment (at + 1 + n))
     unfolding from
     next_chunk few =
-        let f = wait names.0 behind (enough_behind few) in
-        (λ h. subst (λ (x : Sectors). HasRow (chunks [] x)) rest_is (f.0 (first.0 h)), λ h. first.1 (f.1 (subst (λ (x : Sectors). HasRow (chunks [] x)) (sym rest_is) h)))
+        let f = wait names.0 behind (enough_behind few) in (
+          λ h. subst (λ (x : Sectors). HasRow (chunks [] x)) rest_is (f.0 (first.0 h)),
+          λ h.
+              first.1 (f.1 (subst (λ (x : Sectors). HasRow (chunks [] x)) (sym rest_is) h)),
+        )
 
 -- at the end
 pub end_is : (c : Content) (used segment : ℕ) → 2 + 64 * segment + used ≤ length c → from c used segment used ≡ Some []
@@ -124,7 +130,8 @@ pub from_start : (c : Content) (used segment : ℕ) → from c used segment 0 �
 unfolding from part row_by
 from_start c used segment = refl
 
-pub long_enough : (d d' : DeviceState) (c : Content) (used segment : ℕ) → IsLawful d → ReadsContent d d' c → 66 + 64 * segment ≤ d.size → used ≤ 64 → 2 + 64 * segment + used ≤ length c
+pub long_enough : (d d' : DeviceState) (c : Content) (used segment : ℕ) → IsLawful d → ReadsContent d d' c → 66 + 64 * segment ≤ d.size
+    → used ≤ 64 → 2 + 64 * segment + used ≤ length c
 long_enough d d' c used segment lawful reads inside few = let e = ap length reads.content in let s = lawful.size in omega arith
 
 pub no_entries : entries_in [] ≡ None
@@ -132,7 +139,8 @@ unfolding entries_in summary_in read16 fields.part run
 no_entries = refl
 
 -- what a summary names, as entries
-pub entries_some : (bytes : List ℕ) (names : List BlockNameValue) → Some names ≡ summary_in bytes → entries_in bytes ≡ Some (map entry_of names)
+pub entries_some : (bytes : List ℕ) (names : List BlockNameValue) → Some names ≡ summary_in bytes
+    → entries_in bytes ≡ Some (map entry_of names)
 unfolding entries_in
 entries_some bytes names is = ap (option_map (map entry_of)) (sym is)
 
@@ -140,7 +148,8 @@ pub entries_none : (bytes : List ℕ) → None ≡ summary_in bytes → entries_
 unfolding entries_in
 entries_none bytes is = ap (option_map (map entry_of)) (sym is)
 
-pub names_of : (bytes : List ℕ) (names : List BlockNameValue) (n : ℕ) → Some names ≡ summary_in bytes → n ≡ length names → IsSummaryOf bytes n
+pub names_of : (bytes : List ℕ) (names : List BlockNameValue) (n : ℕ) → Some names ≡ summary_in bytes → n ≡ length names
+    → IsSummaryOf bytes n
 names_of bytes names n is long = (map entry_of names, entries_some bytes names is, length-map names entry_of ∙ sym long)
 
 -- a segment's row, by its table
@@ -149,7 +158,8 @@ unfolding address
 row_is c k s = refl
 
 -- whole rows in the table are whole rows in the volume
-pub rows_of : (c : Content) (k : CheckpointValue) (used : List ℕ) → IsUsedTable (view c k) used → ((s : ℕ) → s < length used → HasRow (row_by c (get_or used s 0) s)) → IsRows (view c k)
+pub rows_of : (c : Content) (k : CheckpointValue) (used : List ℕ) → IsUsedTable (view c k) used
+    → ((s : ℕ) → s < length used → HasRow (row_by c (get_or used s 0) s)) → IsRows (view c k)
 rows_of c k used table rows s some = ⊎_elim
     (λ (lt : s < k.segments).
     let h = rows s (let n = table.size in omega arith) in
@@ -162,7 +172,8 @@ pub no_sectors : (c : Content) (s u : ℕ) → u ≡ 0 → HasRow (row_by c u s)
 unfolding row_by
 no_sectors c s u none = ([], ap (λ (u : ℕ). row_by c u s) none)
 
-pub no_rows : (c : Content) (k : CheckpointValue) (used : List ℕ) → IsUsedTable (view c k) used → (s : ℕ) → s < length used → (HasRow (row_by c (get_or used s 0) s) → ⊥) → IsRows (view c k) → ⊥
+pub no_rows : (c : Content) (k : CheckpointValue) (used : List ℕ) → IsUsedTable (view c k) used → (s : ℕ) → s < length used
+    → (HasRow (row_by c (get_or used s 0) s) → ⊥) → IsRows (view c k) → ⊥
 no_rows c k used table s lt none rows = ⊎_elim
     (λ (clean : get_or used s 0 ≡ 0). none (no_sectors c s (get_or used s 0) clean))
     (λ (some : get_or used s 0 ≡ 0 → ⊥).

@@ -1,5 +1,6 @@
 -- What the marks say at the end of the walk: labels and counts.
-use Rattle.std.proofs.Common.{◌≡◌, ◌<◌, ◌≤◌, ◌↔◌, ◌+◌, ◌-◌, ◌*◌, ◌/◌, ◌%◌, ℕ, zero, suc, Bool, true, false, nat_lt, List, length, get_or, cond, Some, refl, sym, ◌∙◌, ap, ap₂, arith}
+use Rattle.std.proofs.Common.{◌≡◌, ◌<◌, ◌≤◌, ◌↔◌, ◌+◌, ◌-◌, ◌*◌, ◌/◌, ◌%◌, ℕ, zero, suc, Bool, true, false, nat_lt, List, length, get_or}
+use Rattle.std.proofs.Common.{cond, Some, refl, sym, ◌∙◌, ap, ap₂, arith}
 use Rattle.std.proofs.lemmas.Bool.{ltb-true, lt-ltb}
 use Rattle.lfs_model.specs.Entry.{Entry}
 use Rattle.lfs_model.specs.Reach.{View, place_in}
@@ -21,12 +22,14 @@ marked_more marks s n m is =
     ap (λ (x : ℕ). marked_count marks s x) e ∙ count_up_more (is_marked marks s) n
 
 -- one more sector: marked, and not
-pub marked_on : (marks : List ℕ) (s n m : ℕ) → m ≡ n + 1 → 0 < get_or marks (2 + 64 * s + n) 0 → marked_count marks s m ≡ marked_count marks s n + 1
+pub marked_on : (marks : List ℕ) (s n m : ℕ) → m ≡ n + 1 → 0 < get_or marks (2 + 64 * s + n) 0
+    → marked_count marks s m ≡ marked_count marks s n + 1
 marked_on marks s n m is some =
     let z = ap {B = ℕ} (λ (b : Bool). cond b 1 0) (lt-ltb 0 (get_or marks (2 + 64 * s + n) 0) some) in
     let h = marked_more marks s n m is in omega (arith, h, z)
 
-pub marked_off : (marks : List ℕ) (s n m : ℕ) → m ≡ n + 1 → get_or marks (2 + 64 * s + n) 0 ≡ 0 → marked_count marks s m ≡ marked_count marks s n
+pub marked_off : (marks : List ℕ) (s n m : ℕ) → m ≡ n + 1 → get_or marks (2 + 64 * s + n) 0 ≡ 0
+    → marked_count marks s m ≡ marked_count marks s n
 marked_off marks s n m is none =
     let z : cond (is_marked marks s n) 1 0 ≡ 0 = ap {B = ℕ} (λ (x : ℕ). cond (nat_lt 0 x) 1 0) none in
     let h = marked_more marks s n m is in omega (arith, h, z)
@@ -41,7 +44,8 @@ module _ (v : View) (marks : List ℕ) (w : Walked v marks 68628528) (bounded : 
   at_end e b = within_7 e b (stage_low e)
 
   -- sectors named one by one: all entries are
-  named_at : AreSectorsNamed v marks → (e : Entry) → Reached v e → (s o : ℕ) → v.address e ≡ 2 + 64 * s + o → o < 64 → place_in (v.row s) o ≡ Some e
+  named_at : AreSectorsNamed v marks → (e : Entry) → Reached v e → (s o : ℕ) → v.address e ≡ 2 + 64 * s + o → o < 64
+      → place_in (v.row s) o ≡ Some e
   named_at each e reached s o whole small =
       let b = bounded e reached in
       let m = w.marked e (at_end e b) b reached in
@@ -99,7 +103,8 @@ module _ (v : View) (marks : List ℕ) (w : Walked v marks 68628528) (bounded : 
       let inside : s < v.checkpoint.segments = let n = table.size in omega arith in
       let holds = counted s inside in
       table.each s inside ∙ holds.count
-      ∙ count_up_same holds.is_held (is_marked marks s) 64 (λ o low. same_tests (holds.is_held o) (is_marked marks s o) (IsHeld v (2 + 64 * s + o)) (holds.exact o low) (marked_held s o))
+      ∙ count_up_same holds.is_held (is_marked marks s) 64
+      (λ o low. same_tests (holds.is_held o) (is_marked marks s o) (IsHeld v (2 + 64 * s + o)) (holds.exact o low) (marked_held s o))
 
 pub named_by_marks : NamedByMarks
 named_by_marks v marks w bounded = (λ named s o lt low. named_each v marks w bounded named s o low, named_of v marks w bounded)

@@ -1,5 +1,6 @@
 -- The order of the walk.
-use Rattle.std.proofs.Common.{◌≡◌, ◌<◌, ◌≤◌, ◌⊎◌, ⊎_elim, inl, inr, ◌+◌, ◌*◌, ℕ, zero, suc, List, length, get_or, set, refl, sym, ◌∙◌, ap, ap₂, subst, arith}
+use Rattle.std.proofs.Common.{◌≡◌, ◌<◌, ◌≤◌, ◌⊎◌, ⊎_elim, inl, inr, ◌+◌, ◌*◌, ℕ, zero, suc, List, length, get_or, set, refl, sym, ◌∙◌, ap}
+use Rattle.std.proofs.Common.{ap₂, subst, arith}
 use Rattle.std.proofs.lemmas.List.{get_or-set_same, get_or-set_other, length-set, get_or_past}
 use Rattle.std.proofs.lemmas.Bool.{cases_eq, cases_lt}
 use Rattle.lfs_model.specs.declared.Kind.TheVariants.{Directory}
@@ -50,7 +51,8 @@ same_step (Leaf n (suc q)) (Map l) b c h = absurd (omega arith)
 same_step (Leaf n (suc q)) (Inode m) b c h = absurd (omega arith)
 same_step (Leaf n (suc q)) (Double m) b c h = absurd (omega arith)
 same_step (Leaf n (suc q)) (Leaf m zero) b c h = absurd (omega arith)
-same_step (Leaf n (suc q)) (Leaf m (suc p)) b c h = let x : n ≡ m = omega arith in let y : q ≡ p = omega arith in ap₂ (λ (x y : ℕ). Leaf x (suc y)) x y
+same_step (Leaf n (suc q)) (Leaf m (suc p)) b c h = let x : n ≡ m = omega arith in let y : q ≡ p = omega arith in
+    ap₂ (λ (x y : ℕ). Leaf x (suc y)) x y
 same_step (Leaf n (suc q)) (Data m k) b c h = absurd (omega arith)
 same_step (Data n i) (Usage l) b c h = absurd (omega arith)
 same_step (Data n i) (Map l) b c h = absurd (omega arith)
@@ -169,16 +171,20 @@ within_7 (Data n i) b h = omega arith
 
 module _ (v : View) (marks : List ℕ) (r : ℕ) (w : Walked v marks r) (e : Entry) (here : step_of e ≡ r) (b : InBounds e) where
   earlier : (f : Entry) → InBounds f → step_of f < suc r → (f ≡ e) ⊎ (step_of f < r)
-  earlier f c lt = ⊎_elim (λ (same : step_of f ≡ r). inl (same_step f e c b (same ∙ sym here))) (λ (other : step_of f ≡ r → ⊥). inr (omega arith)) (cases_eq (step_of f) r)
+  earlier f c lt = ⊎_elim (λ (same : step_of f ≡ r). inl (same_step f e c b (same ∙ sym here)))
+      (λ (other : step_of f ≡ r → ⊥). inr (omega arith)) (cases_eq (step_of f) r)
 
   -- an entry without an address is passed by
   pub skip : v.address e ≡ 0 → Walked v marks (suc r)
   skip none = record {
     size = w.size;
     held = λ a p is. let h = w.held a p is in (h.0, h.1, omega (arith, h.2), h.3, h.4, h.5);
-    marked = λ f lt c reached. ⊎_elim (λ (x : f ≡ e). let y = ap v.address x in absurd (omega (arith, y, reached))) (λ (x : step_of f < r). w.marked f x c reached) (earlier f c lt);
-    low = λ f lt c reached. ⊎_elim (λ (x : f ≡ e). let y = ap v.address x in absurd (omega (arith, y, reached))) (λ (x : step_of f < r). w.low f x c reached) (earlier f c lt);
-    good = λ f lt c reached. ⊎_elim (λ (x : f ≡ e). let y = ap v.address x in absurd (omega (arith, y, reached))) (λ (x : step_of f < r). w.good f x c reached) (earlier f c lt);
+    marked = λ f lt c reached. ⊎_elim (λ (x : f ≡ e). let y = ap v.address x in absurd (omega (arith, y, reached)))
+        (λ (x : step_of f < r). w.marked f x c reached) (earlier f c lt);
+    low = λ f lt c reached. ⊎_elim (λ (x : f ≡ e). let y = ap v.address x in absurd (omega (arith, y, reached)))
+        (λ (x : step_of f < r). w.low f x c reached) (earlier f c lt);
+    good = λ f lt c reached. ⊎_elim (λ (x : f ≡ e). let y = ap v.address x in absurd (omega (arith, y, reached)))
+        (λ (x : step_of f < r). w.good f x c reached) (earlier f c lt);
   }
 
   -- an entry whose address is open, and whose block is good, is taken
@@ -192,12 +198,15 @@ module _ (v : View) (marks : List ℕ) (r : ℕ) (w : Walked v marks r) (e : Ent
         held = λ x p m. ⊎_elim
             (λ (same : x ≡ a). let q : suc p ≡ suc r = sym m ∙ ap (λ (y : ℕ). get_or (set marks a (suc r)) y 0) same ∙ there in
             let n = o.low in (e, omega arith, omega arith, b, omega arith, sym same))
-            (λ (other : x ≡ a → ⊥). let h = w.held x p (sym (get_or-set_other marks a x (suc r) 0 other) ∙ m) in (h.0, h.1, omega (arith, h.2), h.3, h.4, h.5))
+            (λ (other : x ≡ a → ⊥). let h = w.held x p (sym (get_or-set_other marks a x (suc r) 0 other) ∙ m) in
+            (h.0, h.1, omega (arith, h.2), h.3, h.4, h.5))
             (cases_eq x a);
         marked = λ f lt c reached. ⊎_elim
-            (λ (x : f ≡ e). ap (λ (y : Entry). get_or (set marks a (suc r)) (v.address y) 0) x ∙ there ∙ ap suc (sym here ∙ ap step_of (sym x)))
+            (λ (x : f ≡ e). ap (λ (y : Entry). get_or (set marks a (suc r)) (v.address y) 0) x ∙ there
+            ∙ ap suc (sym here ∙ ap step_of (sym x)))
             (λ (x : step_of f < r). let m = w.marked f x c reached in
-            get_or-set_other marks a (v.address f) (suc r) 0 (λ same. let z = ap (λ (y : ℕ). get_or marks y 0) same in let u = o.unmarked in omega arith) ∙ m)
+            get_or-set_other marks a (v.address f) (suc r) 0
+            (λ same. let z = ap (λ (y : ℕ). get_or marks y 0) same in let u = o.unmarked in omega arith) ∙ m)
             (earlier f c lt);
         low = λ f lt c reached. ⊎_elim
             (λ (x : f ≡ e). let y = ap v.address x in let n = o.low in omega arith)
@@ -220,12 +229,18 @@ module _ (v : View) (marks : List ℕ) (r : ℕ) (w : Walked v marks r) (e : Ent
   pub is_open : Fresh v (stage_of e) → Reached v e → IsUnmarked marks (v.address e)
   is_open fresh reached =
       let f = fresh e refl reached in
-      record { low = f.0; within = let x = f.1 in let y = w.size in omega arith; unmarked = unmarked_from fresh reached (get_or marks (v.address e) 0) refl }
+      record {
+        low = f.0;
+        within = let x = f.1 in let y = w.size in omega arith;
+        unmarked = unmarked_from fresh reached (get_or marks (v.address e) 0) refl;
+      }
 
 pub inside_marks : (marks : List ℕ) (a p : ℕ) → get_or marks a 0 ≡ suc p → a < length marks
-inside_marks marks a p is = ⊎_elim (λ (lt : a < length marks). lt) (λ (le : length marks ≤ a). let z = get_or_past marks a 0 le in absurd (omega arith)) (cases_lt a (length marks))
+inside_marks marks a p is = ⊎_elim (λ (lt : a < length marks). lt)
+    (λ (le : length marks ≤ a). let z = get_or_past marks a 0 le in absurd (omega arith)) (cases_lt a (length marks))
 
-pub fresh_of : (v : View) (marks : List ℕ) (r : ℕ) → Walked v marks r → IsBounded v → (k : ℕ) → ((f : Entry) → InBounds f → stage_of f ≤ k → step_of f < r) → Fresh v k
+pub fresh_of : (v : View) (marks : List ℕ) (r : ℕ) → Walked v marks r → IsBounded v → (k : ℕ)
+    → ((f : Entry) → InBounds f → stage_of f ≤ k → step_of f < r) → Fresh v k
 fresh_of v marks r w bounded k before = λ e is reached.
     let b = bounded e reached in
     let lt : step_of e < r = before e b (omega arith) in
@@ -240,9 +255,11 @@ fresh_of v marks r w bounded k before = λ e is reached.
     )
 
 -- an entry of which none is reached is passed by
-pub skip_to : (v : View) (marks : List ℕ) (r s : ℕ) → Walked v marks r → r ≤ s → ((e : Entry) → InBounds e → r ≤ step_of e → step_of e < s → Reached v e → ⊥) → Walked v marks s
+pub skip_to : (v : View) (marks : List ℕ) (r s : ℕ) → Walked v marks r → r ≤ s
+    → ((e : Entry) → InBounds e → r ≤ step_of e → step_of e < s → Reached v e → ⊥) → Walked v marks s
 skip_to v marks r s w le none =
-    let now : (f : Entry) → InBounds f → step_of f < s → Reached v f → step_of f < r = λ f c lt reached. ⊎_elim (λ (x : step_of f < r). x) (λ (x : r ≤ step_of f). absurd (none f c x lt reached)) (cases_lt (step_of f) r) in
+    let now : (f : Entry) → InBounds f → step_of f < s → Reached v f → step_of f < r = λ f c lt reached.
+    ⊎_elim (λ (x : step_of f < r). x) (λ (x : r ≤ step_of f). absurd (none f c x lt reached)) (cases_lt (step_of f) r) in
     record {
       size = w.size;
       held = λ a p is. let h = w.held a p is in (h.0, h.1, omega (arith, h.2), h.3, h.4, h.5);
@@ -266,7 +283,8 @@ leaves_of v marks w bounded = record {
 
 pub blocks_of : (v : View) (marks : List ℕ) → Walked v marks 68628528 → IsBounded v → Blocks v
 blocks_of v marks w bounded =
-    let good : (n i : ℕ) → Reached v (Data n i) → IsData v n i = λ n i reached. let b = bounded (Data n i) reached in w.good (Data n i) (omega arith) b reached in
+    let good : (n i : ℕ) → Reached v (Data n i) → IsData v n i = λ n i reached. let b = bounded (Data n i) reached in
+    w.good (Data n i) (omega arith) b reached in
     record {
       fresh = fresh_of v marks 68628528 w bounded 7 within_7;
       nonzero = λ n i reached. (good n i reached).nonzero;
@@ -299,7 +317,8 @@ stage_low (Leaf n (suc q)) = omega arith
 stage_low (Data n i) = omega arith
 
 -- nothing is marked before the first step
-pub walked_start : (v : View) (marks : List ℕ) → length marks ≡ 2 + 64 * v.checkpoint.segments → ((a : ℕ) → get_or marks a 0 ≡ 0) → Walked v marks 0
+pub walked_start : (v : View) (marks : List ℕ) → length marks ≡ 2 + 64 * v.checkpoint.segments → ((a : ℕ) → get_or marks a 0 ≡ 0)
+    → Walked v marks 0
 walked_start v marks long clear = record {
   size = long;
   held = λ a p is. let z = clear a in absurd (omega arith);

@@ -1,5 +1,6 @@
 -- One address of the walk.
-use Rattle.std.proofs.Common.{◌≡◌, ◌<◌, ◌↔◌, ⊎_elim, ℕ, zero, suc, Bool, true, false, cond, List, [], length, set, refl, sym, ◌∙◌, ap, subst, arith}
+use Rattle.std.proofs.Common.{◌≡◌, ◌<◌, ◌↔◌, ⊎_elim, ℕ, zero, suc, Bool, true, false, cond, List, [], length, set, refl, sym, ◌∙◌, ap}
+use Rattle.std.proofs.Common.{subst, arith}
 use Rattle.lfs_model.specs.Entry.{Entry, IsInode, word}
 use Rattle.lfs_model.specs.Inode.{inode_in, inode_of, inode_sector, may_be_inode}
 use Rattle.lfs_model.specs.Content.{Content, block, bytes_of}
@@ -33,8 +34,10 @@ no_inode version n bytes none is =
     let z = ap length (sym none ∙ spelt) in absurd (cc)
 
 -- what a read says of the block
-pub read_at : (d d' : DeviceState) (c : Content) (at : ℕ) (o : Cell) → 0 < at → ReadsContent d d' c → (d'.keeps_model → cell_at d.content at ≡ o) → block c at ≡ bytes_of o
-read_at d d' c at o lt reads is = block_at c at lt ∙ ap (λ (x : Content). bytes_of (cell_at x at)) (sym reads.content) ∙ ap bytes_of (is reads.keeps)
+pub read_at : (d d' : DeviceState) (c : Content) (at : ℕ) (o : Cell) → 0 < at → ReadsContent d d' c
+    → (d'.keeps_model → cell_at d.content at ≡ o) → block c at ≡ bytes_of o
+read_at d d' c at o lt reads is = block_at c at lt ∙ ap (λ (x : Content). bytes_of (cell_at x at)) (sym reads.content)
+    ∙ ap bytes_of (is reads.keeps)
 
 -- a run that reads a content begins with one that reads it, and goes on with one
 pub reads_first : (a b c : DeviceState) (content : Content) → ReadsContent a c content → Looks b c → ReadsContent a b content
@@ -53,7 +56,10 @@ looks_none d lawful = record {
 pub looks_then : (a b c : DeviceState) → Looks a b → Looks b c → Looks a c
 looks_then a b c one two = record {
   carries = carries_then a b c one.carries two.carries;
-  untouched = record { content = two.untouched.content ∙ one.untouched.content; crash = λ x left. one.untouched.crash x (two.untouched.crash x left) };
+  untouched = record {
+    content = two.untouched.content ∙ one.untouched.content;
+    crash = λ x left. one.untouched.crash x (two.untouched.crash x left);
+  };
   any_moment = joined a b c a.may_leave b.may_leave a.may_leave one.any_moment two.any_moment (λ x left. left) one.untouched.crash;
 }
 
@@ -61,7 +67,8 @@ module _ (v : View) (marks new : List ℕ) (r : ℕ) (w : Walked v marks r) (e :
     (at : ℕ) (is : at ≡ v.address e) (c : Content) (P : List ℕ → Type 0) (good : P (block c at) ↔ IsGood v e) where
   took_true : TakesAddress P c marks new at r true → Walked v new (suc r)
   took_true t = ⊎_elim
-      (λ (none : (at ≡ 0) × (new ≡ marks)). subst (λ (m : List ℕ). Walked v m (suc r)) (sym none.1) (skip v marks r w e here b (sym is ∙ none.0)))
+      (λ (none : (at ≡ 0) × (new ≡ marks)).
+      subst (λ (m : List ℕ). Walked v m (suc r)) (sym none.1) (skip v marks r w e here b (sym is ∙ none.0)))
       (λ (one : IsUnmarked marks at × P (block c at) × (new ≡ set marks at (suc r))).
       subst (λ (m : List ℕ). Walked v m (suc r)) (ap (λ (a : ℕ). set marks a (suc r)) (sym is) ∙ sym one.2)
       (take_one v marks r w e here b (subst (IsUnmarked marks) is one.0) (good.0 one.1)))
@@ -78,8 +85,11 @@ module _ (v : View) (marks new : List ℕ) (r : ℕ) (w : Walked v marks r) (e :
   pub refused : (x : Bool) → x ≡ false → TakesAddress P c marks new at r x → Fresh v (stage_of e) → (Reached v e → IsGood v e) → ⊥
   refused x is t = refused_false (subst (TakesAddress P c marks new at r) is t)
 
-pub goes_true : (v : View) (old new : List ℕ) (r s : ℕ) (stage : Type 0) (x : Bool) → x ≡ true → Advances v old new r s stage x → Walked v old r → Walked v new s
-goes_true v old new r s stage x is = subst (λ (y : Bool). Advances v old new r s stage y → Walked v old r → Walked v new s) (sym is) (λ h. h)
+pub goes_true : (v : View) (old new : List ℕ) (r s : ℕ) (stage : Type 0) (x : Bool) → x ≡ true → Advances v old new r s stage x
+    → Walked v old r → Walked v new s
+goes_true v old new r s stage x is =
+    subst (λ (y : Bool). Advances v old new r s stage y → Walked v old r → Walked v new s) (sym is) (λ h. h)
 
-pub goes_false : (v : View) (old new : List ℕ) (r s : ℕ) (stage : Type 0) (x : Bool) → x ≡ false → Advances v old new r s stage x → Walked v old r → stage → ⊥
+pub goes_false : (v : View) (old new : List ℕ) (r s : ℕ) (stage : Type 0) (x : Bool) → x ≡ false → Advances v old new r s stage x
+    → Walked v old r → stage → ⊥
 goes_false v old new r s stage x is = subst (λ (y : Bool). Advances v old new r s stage y → Walked v old r → stage → ⊥) (sym is) (λ h. h)

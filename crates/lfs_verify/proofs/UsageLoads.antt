@@ -1,5 +1,6 @@
 -- What a mount takes in of the usage table.
-use Rattle.std.proofs.Common.{replicate, ◌≡◌, ◌<◌, ◌≤◌, ⊎_elim, ◌+◌, ◌*◌, ◌-◌, ◌/◌, ◌%◌, ℕ, zero, suc, Bool, false, List, length, get_or, Some, None, refl, sym, ◌∙◌, ap, ap₂, subst, arith, length-set, get_or-set_other, get_or-set_same}
+use Rattle.std.proofs.Common.{replicate, ◌≡◌, ◌<◌, ◌≤◌, ⊎_elim, ◌+◌, ◌*◌, ◌-◌, ◌/◌, ◌%◌, ℕ, zero, suc, Bool, false, List, length, get_or}
+use Rattle.std.proofs.Common.{Some, None, refl, sym, ◌∙◌, ap, ap₂, subst, arith, length-set, get_or-set_other, get_or-set_same}
 use Rattle.std.specs.Prelude.{slice_set}
 use Rattle.std.proofs.lemmas.Bool.{cases_eq, cases_lt}
 use Rattle.lfs_model.specs.Checkpoint.{CheckpointValue}
@@ -54,7 +55,8 @@ taken_none t uses j = record {
 
 pub taken_more : (old mid new : UsageTable) (uses : List SegmentUse) (j n : ℕ) → IsTakenIn old mid uses j n
     → (64 * j + n < length mid.segments → new.segments ≡ slice_set mid.segments (64 * j + n) (loaded (get_or uses n no_use)))
-    → (length mid.segments ≤ 64 * j + n → new.segments ≡ mid.segments) → new.blocks ≡ mid.blocks → new.last ≡ mid.last → IsTakenIn old new uses j (n + 1)
+    → (length mid.segments ≤ 64 * j + n → new.segments ≡ mid.segments) → new.blocks ≡ mid.blocks → new.last ≡ mid.last
+    → IsTakenIn old new uses j (n + 1)
 taken_more old mid new uses j n before own past blocks last = ⊎_elim inside outside (cases_lt (64 * j + n) (length mid.segments))
   where
     same_size : length mid.segments ≡ length old.segments
@@ -68,7 +70,8 @@ taken_more old mid new uses j n before own past blocks last = ⊎_elim inside ou
         λ s ne. ap (λ (l : List SegmentNumbers). get_or l s no_segment) is ∙ get_or-set_other mid.segments (64 * j + n) s x no_segment ne in
         record {
           own = λ i low within. ⊎_elim
-              (λ (here : i ≡ n). ap₂ (λ (l : List SegmentNumbers) (a : ℕ). get_or l (64 * j + a) no_segment) is here ∙ get_or-set_same mid.segments (64 * j + n) x no_segment lt ∙ sym (ap (λ (a : ℕ). loaded (get_or uses a no_use)) here))
+              (λ (here : i ≡ n). ap₂ (λ (l : List SegmentNumbers) (a : ℕ). get_or l (64 * j + a) no_segment) is here
+              ∙ get_or-set_same mid.segments (64 * j + n) x no_segment lt ∙ sym (ap (λ (a : ℕ). loaded (get_or uses a no_use)) here))
               (λ (ne : i ≡ n → ⊥). other (64 * j + i) (λ h. ne (omega (arith, h))) ∙ before.own i (omega (arith, low, ne)) within)
               (cases_eq i n);
           before = λ s low. other s (λ h. omega (arith, h, low)) ∙ before.before s low;
@@ -81,9 +84,11 @@ taken_more old mid new uses j n before own past blocks last = ⊎_elim inside ou
     outside : length mid.segments ≤ 64 * j + n → IsTakenIn old new uses j (n + 1)
     outside le =
         let is = past le in
-        let same : (s : ℕ) → get_or new.segments s no_segment ≡ get_or mid.segments s no_segment = λ s. ap (λ (l : List SegmentNumbers). get_or l s no_segment) is in
+        let same : (s : ℕ) → get_or new.segments s no_segment ≡ get_or mid.segments s no_segment =
+        λ s. ap (λ (l : List SegmentNumbers). get_or l s no_segment) is in
         record {
-          own = λ i low within. same (64 * j + i) ∙ before.own i (let z = same_size in ⊎_elim (λ (here : i ≡ n). absurd (omega (arith, z, le, within, here))) (λ (ne : i ≡ n → ⊥). omega (arith, low, ne)) (cases_eq i n)) within;
+          own = λ i low within. same (64 * j + i) ∙ before.own i (let z = same_size in ⊎_elim (λ (here : i ≡ n).
+              absurd (omega (arith, z, le, within, here))) (λ (ne : i ≡ n → ⊥). omega (arith, low, ne)) (cases_eq i n)) within;
           before = λ s low. same s ∙ before.before s low;
           after = λ s high. same s ∙ before.after s (omega (arith, high));
           size = ap length is ∙ same_size;
@@ -95,7 +100,8 @@ abbrev on_device : ℕ → ℕ → ℕ → SegmentNumbers
 on_device used live age = record { used = used; live = live; held = 0; age = age; kept = used }
 
 -- a usage block is taken in, and stands at this address
-module _ (old mid new : UsageTable) (uses : List SegmentUse) (j segments at : ℕ) (stale : Bool) (is : IsUsageUpTo j segments old) (taken : IsTakenIn old mid uses j 64) (puts : PutsPlace mid new j at stale) where
+module _ (old mid new : UsageTable) (uses : List SegmentUse) (j segments at : ℕ) (stale : Bool) (is : IsUsageUpTo j segments old)
+    (taken : IsTakenIn old mid uses j 64) (puts : PutsPlace mid new j at stale) where
   same_numbers : (s : ℕ) → get_or new.segments s no_segment ≡ get_or mid.segments s no_segment
   same_numbers s = ap (λ (l : List SegmentNumbers). get_or l s no_segment) puts.segments
 
@@ -115,14 +121,16 @@ module _ (old mid new : UsageTable) (uses : List SegmentUse) (j segments at : �
   whole_entry : (i : ℕ) → i < 64 → IsWhole (get_or mid.segments (64 * j + i) no_segment)
   whole_entry i low = ⊎_elim
       (λ (within : 64 * j + i < length old.segments). subst IsWhole (sym (taken.own i low within)) refl)
-      (λ (past : length old.segments ≤ 64 * j + i). subst IsWhole (sym (get_or_past mid.segments (64 * j + i) no_segment (let size = taken.size in omega (arith, size, past)))) refl)
+      (λ (past : length old.segments ≤ 64 * j + i).
+      subst IsWhole (sym (get_or_past mid.segments (64 * j + i) no_segment (let size = taken.size in omega (arith, size, past)))) refl)
       (cases_lt (64 * j + i) (length old.segments))
 
   whole_mid : (s : ℕ) → IsWhole (get_or mid.segments s no_segment)
   whole_mid s = ⊎_elim
       (λ (low : s < 64 * j). subst IsWhole (sym (taken.before s low)) (is.untaken s))
       (λ (high : 64 * j ≤ s). ⊎_elim
-      (λ (own : s < 64 * j + 64). let here : 64 * j + (s - 64 * j) ≡ s = omega (arith, high) in subst (λ (l : ℕ). IsWhole (get_or mid.segments l no_segment)) here (whole_entry (s - 64 * j) (omega (arith, high, own))))
+      (λ (own : s < 64 * j + 64). let here : 64 * j + (s - 64 * j) ≡ s = omega (arith, high) in
+      subst (λ (l : ℕ). IsWhole (get_or mid.segments l no_segment)) here (whole_entry (s - 64 * j) (omega (arith, high, own))))
       (λ (after : 64 * j + 64 ≤ s). subst IsWhole (sym (taken.after s after)) (is.untaken s))
       (cases_lt s (64 * j + 64)))
       (cases_lt s (64 * j))
@@ -143,7 +151,8 @@ module _ (old mid new : UsageTable) (uses : List SegmentUse) (j segments at : �
     untaken = more_untaken;
   }
 
-  module _ (c : Content) (k : CheckpointValue) (says : SaysUsage c k j old) (bytes : List ℕ) (count : ℕ) (there : block c at ≡ bytes) (points : get_or k.usage j 0 ≡ at)
+  module _ (c : Content) (k : CheckpointValue) (says : SaysUsage c k j old) (bytes : List ℕ) (count : ℕ) (there : block c at ≡ bytes)
+      (points : get_or k.usage j 0 ≡ at)
       (all : AllByRecursion IsSector c) (long : length bytes ≡ 512) (spelt : usage_in count bytes ≡ Some uses)
       (fresh : stale ≡ false → (i : ℕ) → i < 64 → (get_or uses i no_use).live ≡ 0 → (get_or uses i no_use).age ≡ 0) where
     are_bytes : IsBytes bytes
@@ -162,11 +171,14 @@ module _ (old mid new : UsageTable) (uses : List SegmentUse) (j segments at : �
     numbers_are : (i : ℕ) → i < 64 → loaded (get_or uses i no_use) ≡ numbers_in c k (64 * j + i)
     numbers_are i lt =
         let w = uses_are bytes count uses are_bytes long spelt i lt in
-        at_block (λ a b. loaded (get_or uses i no_use) ≡ on_device (half ((view c k).block (Usage a)) (4 * b)) (half ((view c k).block (Usage a)) (4 * b + 1)) (word ((view c k).block (Usage a)) (2 * b + 1))) i lt
-        (built _ _ _ _ _ _ (sym w.used ∙ ap (λ (s : List ℕ). half s (4 * i)) (sym block_is)) (sym w.live ∙ ap (λ (s : List ℕ). half s (4 * i + 1)) (sym block_is)) (sym w.age ∙ ap (λ (s : List ℕ). word s (2 * i + 1)) (sym block_is)))
+        at_block (λ a b. loaded (get_or uses i no_use) ≡ on_device (half ((view c k).block (Usage a)) (4 * b))
+        (half ((view c k).block (Usage a)) (4 * b + 1)) (word ((view c k).block (Usage a)) (2 * b + 1))) i lt
+        (built _ _ _ _ _ _ (sym w.used ∙ ap (λ (s : List ℕ). half s (4 * i)) (sym block_is)) (sym w.live
+        ∙ ap (λ (s : List ℕ). half s (4 * i + 1)) (sym block_is)) (sym w.age ∙ ap (λ (s : List ℕ). word s (2 * i + 1)) (sym block_is)))
       where
         built : (u l a u' l' a' : ℕ) → u ≡ u' → l ≡ l' → a ≡ a' → on_device u l a ≡ on_device u' l' a'
-        built u l a u' l' a' e f g = ap (λ (x : ℕ). on_device x l a) e ∙ ap (λ (x : ℕ). on_device u' x a) f ∙ ap (λ (x : ℕ). on_device u' l' x) g
+        built u l a u' l' a' e f g = ap (λ (x : ℕ). on_device x l a) e ∙ ap (λ (x : ℕ). on_device u' x a) f
+            ∙ ap (λ (x : ℕ). on_device u' l' x) g
 
     no_dead_age : stale ≡ false → HasNoDeadAge c k j
     no_dead_age off i lt none =
@@ -192,7 +204,8 @@ module _ (old mid new : UsageTable) (uses : List SegmentUse) (j segments at : �
           (λ (ne : i ≡ j → ⊥). same_address i ne ∙ says.address i (omega (arith, lt, ne)))
           (cases_eq i j);
       stale = λ i lt off. ⊎_elim
-          (λ (here : i ≡ j). subst (λ (a : ℕ). HasNoDeadAge c k a) (sym here) (no_dead_age (sym puts.stale.own ∙ ap (stale_of new) (sym here) ∙ off)))
+          (λ (here : i ≡ j).
+          subst (λ (a : ℕ). HasNoDeadAge c k a) (sym here) (no_dead_age (sym puts.stale.own ∙ ap (stale_of new) (sym here) ∙ off)))
           (λ (ne : i ≡ j → ⊥). says.stale i (omega (arith, lt, ne)) (sym (same_stale i ne) ∙ off))
           (cases_eq i j);
     }
@@ -211,18 +224,23 @@ module _ (c : Content) (k : CheckpointValue) (m : LogMap) (st : HoldsAt c k m) (
   unfolding address
   usage_long = st.stages.usages.readable j reached
 
-  pub usage_spelt : (bytes : List ℕ) → block c (get_or k.usage j 0) ≡ bytes → IsBytes bytes → length bytes ≡ 512 → usage_in (k.segments - 64 * j) bytes ≡ Some (usage_of bytes)
+  pub usage_spelt : (bytes : List ℕ) → block c (get_or k.usage j 0) ≡ bytes → IsBytes bytes → length bytes ≡ 512
+      → usage_in (k.segments - 64 * j) bytes ≡ Some (usage_of bytes)
   unfolding address
-  usage_spelt bytes is are long = usage_block_some bytes (k.segments - 64 * j) are long (subst (IsUsageBlock (k.segments - 64 * j)) is (usage_block_of (view c k) st.stages.usages j))
+  usage_spelt bytes is are long = usage_block_some bytes (k.segments - 64 * j) are long
+      (subst (IsUsageBlock (k.segments - 64 * j)) is (usage_block_of (view c k) st.stages.usages j))
 
-pub usage_fault : (d d' : DeviceState) (k : CheckpointValue) (j at : ℕ) → j < (k.segments + 63) / 64 → get_or k.usage j 0 ≡ at → LacksBlock d d' k.segments at → LacksTables d d' k
+pub usage_fault : (d d' : DeviceState) (k : CheckpointValue) (j at : ℕ) → j < (k.segments + 63) / 64 → get_or k.usage j 0 ≡ at
+    → LacksBlock d d' k.segments at → LacksTables d d' k
 usage_fault d d' k j at low points lacks m keeps st =
     let range = usage_range d.content k m st j low in
     lacks keeps (subst (λ (a : ℕ). 2 ≤ a) points range.0) (subst (λ (a : ℕ). a < 2 + 64 * k.segments) points range.1)
     (subst (λ (a : ℕ). length (block d.content a) ≡ 512) points (usage_long d.content k m st j low))
 
-pub usage_undecoded : (d d' : DeviceState) (k : CheckpointValue) (j at : ℕ) (bytes : List ℕ) → j < (k.segments + 63) / 64 → get_or k.usage j 0 ≡ at
-    → (d'.keeps_model → block d.content at ≡ bytes) → AllByRecursion IsSector d.content → (d'.keeps_model → length bytes ≡ 512) → (count : ℕ) → count ≡ k.segments - 64 * j → usage_in count bytes ≡ None → LacksTables d d' k
+pub usage_undecoded : (d d' : DeviceState) (k : CheckpointValue) (j at : ℕ) (bytes : List ℕ) → j < (k.segments + 63) / 64
+    → get_or k.usage j 0 ≡ at
+    → (d'.keeps_model → block d.content at ≡ bytes) → AllByRecursion IsSector d.content → (d'.keeps_model → length bytes ≡ 512)
+    → (count : ℕ) → count ≡ k.segments - 64 * j → usage_in count bytes ≡ None → LacksTables d d' k
 usage_undecoded d d' k j at bytes low points there all long count is none m keeps st =
     let are = subst IsBytes (there keeps) (block_bytes d.content all at) in
     let some = usage_spelt d.content k m st j low bytes (ap (block d.content) points ∙ there keeps) are (long keeps) in
@@ -230,23 +248,6 @@ usage_undecoded d d' k j at bytes low points there all long count is none m keep
     cc
 
 -- ---- block after block
-all_alike : {X : Type 0} (n : ℕ) (x : X) (i : ℕ) → get_or (replicate n x) i x ≡ x
-all_alike {X} n x i = ⊎_elim
-    (λ (low : i < n). get_or-replicate n i x x low)
-    (λ (high : n ≤ i). get_or_past (replicate n x) i x (let long = length-replicate n x in omega (arith, long, high)))
-    (cases_lt i n)
-
-pub usage_start : (segments : ℕ) (t : UsageTable) → t.segments ≡ replicate segments no_segment → t.blocks ≡ replicate 16 no_place → t.last ≡ None → IsUsageUpTo 0 segments t
-usage_start segments t numbers places last = record {
-  size = ap length numbers ∙ length-replicate segments no_segment;
-  own = λ i lt. absurd (omega (arith, lt));
-  none = λ i le. ap (λ (l : List PlaceInSegment). (get_or l i no_place).address) places ∙ ap (λ (p : PlaceInSegment). p.address) (all_alike 16 no_place i);
-  past = λ s le. ap (λ (l : List SegmentNumbers). get_or l s no_segment) numbers ∙ all_alike segments no_segment s;
-  last = last;
-  untaken = λ s. (let is : get_or t.segments s no_segment ≡ no_segment = ap (λ (l : List SegmentNumbers). get_or l s no_segment) numbers ∙ all_alike segments no_segment s in
-      ap (λ (n : SegmentNumbers). n.kept) is ∙ sym (ap (λ (n : SegmentNumbers). n.used) is));
-}
-
 pub says_nothing : (c : Content) (k : CheckpointValue) (t : UsageTable) → SaysUsage c k 0 t
 says_nothing c k t = record {
   numbers = λ s lt inside. absurd (omega (arith, lt));
@@ -260,6 +261,8 @@ fault_then a b c k looks f =
     (λ rose. let before = looks.carries.failures in omega (arith, rose, before))
     (λ lacks m keeps st. lacks m keeps (subst (λ (x : Content). HoldsAt x k m) (sym looks.untouched.content) st)) f
 
-pub says_then : (a b : DeviceState) (k : CheckpointValue) (j l : ℕ) (t u : UsageTable) → Looks a b → SaysUsage a.content k j t → (SaysUsage b.content k j t → SaysUsage b.content k l u) → SaysUsage a.content k l u
+pub says_then : (a b : DeviceState) (k : CheckpointValue) (j l : ℕ) (t u : UsageTable) → Looks a b → SaysUsage a.content k j t
+    → (SaysUsage b.content k j t → SaysUsage b.content k l u) → SaysUsage a.content k l u
 says_then a b k j l t u looks says more =
-    subst (λ (x : Content). SaysUsage x k l u) looks.untouched.content (more (subst (λ (x : Content). SaysUsage x k j t) (sym looks.untouched.content) says))
+    subst (λ (x : Content). SaysUsage x k l u) looks.untouched.content
+    (more (subst (λ (x : Content). SaysUsage x k j t) (sym looks.untouched.content) says))

@@ -1,5 +1,6 @@
 -- The usage blocks, and the tables of what they say.
-use Rattle.std.proofs.Common.{◌≡◌, ◌<◌, ◌≤◌, ◌↔◌, ◌⊎◌, ⊎_elim, inr, ◌+◌, ◌-◌, ◌*◌, ◌/◌, ◌%◌, ℕ, zero, suc, true, false, List, [], length, get_or, set, Some, None, refl, sym, ◌∙◌, ap, subst, arith}
+use Rattle.std.proofs.Common.{◌≡◌, ◌<◌, ◌≤◌, ◌↔◌, ◌⊎◌, ⊎_elim, inr, ◌+◌, ◌-◌, ◌*◌, ◌/◌, ◌%◌, ℕ, zero, suc, true, false, List, [], length}
+use Rattle.std.proofs.Common.{get_or, set, Some, None, refl, sym, ◌∙◌, ap, subst, arith}
 use Rattle.std.specs.List.{AllByRecursion}
 use Rattle.std.proofs.lemmas.Bool.{cases_eq, cases_lt}
 use Rattle.std.proofs.lemmas.List.{get_or-set_same, get_or-set_other, length-set}
@@ -31,7 +32,8 @@ block_bytes c all (suc at) = go (cell_at c (suc at)) (sector_at c (suc at) all)
     go None is = λ i. omega arith
     go (Some bytes) is = is.each
 
-pub read_bytes : (d d' : DeviceState) (c : Content) (at : ℕ) (out : List ℕ) → AllByRecursion IsSector d.content → ReadsContent d d' c → block c at ≡ out → IsBytes out
+pub read_bytes : (d d' : DeviceState) (c : Content) (at : ℕ) (out : List ℕ) → AllByRecursion IsSector d.content → ReadsContent d d' c
+    → block c at ≡ out → IsBytes out
 read_bytes d d' c at out all reads is = subst IsBytes (ap (λ (x : Content). block x at) reads.content ∙ is) (block_bytes d.content all at)
 
 pub uses_none : (uses : List SegmentUse) (used live : List ℕ) (at : ℕ) → CopiesUses uses used live used live at 0
@@ -45,15 +47,19 @@ uses_none uses used live at = record {
 }
 
 -- one number more at a place
-put : (mid : List ℕ) (at n x : ℕ) (f : ℕ → ℕ) (size : ℕ) → at + n < length mid → x ≡ f n → ((i : ℕ) → i < n → at + i < size → get_or mid (at + i) 0 ≡ f i)
+put : (mid : List ℕ) (at n x : ℕ) (f : ℕ → ℕ) (size : ℕ) → at + n < length mid → x ≡ f n
+    → ((i : ℕ) → i < n → at + i < size → get_or mid (at + i) 0 ≡ f i)
     → (i : ℕ) → i < n + 1 → at + i < size → get_or (set mid (at + n) x) (at + i) 0 ≡ f i
 put mid at n x f size inside is was i lt within = ⊎_elim
-    (λ (here : i ≡ n). ap (λ (a : ℕ). get_or (set mid (at + n) x) (at + a) 0) here ∙ get_or-set_same mid (at + n) x 0 inside ∙ is ∙ ap f (sym here))
+    (λ (here : i ≡ n). ap (λ (a : ℕ). get_or (set mid (at + n) x) (at + a) 0) here ∙ get_or-set_same mid (at + n) x 0 inside ∙ is
+    ∙ ap f (sym here))
     (λ (ne : i ≡ n → ⊥). get_or-set_other mid (at + n) (at + i) x 0 (λ h. ne (omega (arith, h))) ∙ was i (omega (arith, lt, ne)) within)
     (cases_eq i n)
 
-module _ (uses : List SegmentUse) (used live used_then live_then : List ℕ) (at n : ℕ) (was : CopiesUses uses used live used_then live_then at n) where
-  pub uses_more : (x y : ℕ) → at + n < length used_then → at + n < length live_then → x ≡ (get_or uses n no_use).used → y ≡ (get_or uses n no_use).live
+module _ (uses : List SegmentUse) (used live used_then live_then : List ℕ) (at n : ℕ)
+    (was : CopiesUses uses used live used_then live_then at n) where
+  pub uses_more : (x y : ℕ) → at + n < length used_then → at + n < length live_then → x ≡ (get_or uses n no_use).used
+      → y ≡ (get_or uses n no_use).live
       → CopiesUses uses used live (set used_then (at + n) x) (set live_then (at + n) y) at (n + 1)
   uses_more x y inside inside_live is is_live = record {
     used_own = put used_then at n x (λ i. (get_or uses i no_use).used) (length used) inside is was.used_own;
@@ -68,7 +74,8 @@ module _ (uses : List SegmentUse) (used live used_then live_then : List ℕ) (at
   uses_past le =
       let size = was.used_size in
       let low : (i : ℕ) → i < n + 1 → at + i < length used → i < n = λ i lt within.
-      ⊎_elim (λ (here : i ≡ n). absurd (omega (arith, here, within, le, size))) (λ (ne : i ≡ n → ⊥). omega (arith, lt, ne)) (cases_eq i n) in
+      ⊎_elim (λ (here : i ≡ n). absurd (omega (arith, here, within, le, size))) (λ (ne : i ≡ n → ⊥). omega (arith, lt, ne))
+      (cases_eq i n) in
       record {
         used_own = λ i lt within. was.used_own i (low i lt within) within;
         live_own = λ i lt within. was.live_own i (low i lt within) within;
@@ -79,9 +86,11 @@ module _ (uses : List SegmentUse) (used live used_then live_then : List ℕ) (at
       }
 
 -- the same for tables that are equal
-pub uses_same : (uses : List SegmentUse) (used live a b a' b' : List ℕ) (at n : ℕ) → a ≡ a' → b ≡ b' → CopiesUses uses used live a' b' at n → CopiesUses uses used live a b at n
+pub uses_same : (uses : List SegmentUse) (used live a b a' b' : List ℕ) (at n : ℕ) → a ≡ a' → b ≡ b' → CopiesUses uses used live a' b' at n
+    → CopiesUses uses used live a b at n
 uses_same uses used live a b a' b' at n p q is =
-    subst (λ (x : List ℕ). CopiesUses uses used live x b at n) (sym p) (subst (λ (x : List ℕ). CopiesUses uses used live a' x at n) (sym q) is)
+    subst (λ (x : List ℕ). CopiesUses uses used live x b at n) (sym p)
+    (subst (λ (x : List ℕ). CopiesUses uses used live a' x at n) (sym q) is)
 
 -- a readable block, and what it says of the segments
 abbrev Says : ℕ → List ℕ → Type 0
@@ -134,7 +143,8 @@ module _ (c : Content) (k : CheckpointValue) (j : ℕ) where
     },
   )
 
-module _ (c : Content) (k : CheckpointValue) (j : ℕ) (low : j < 16) (n : ℕ) (count : n ≡ k.segments) (p : ℕ) (val : p ≡ get_or k.usage j 0) where
+module _ (c : Content) (k : CheckpointValue) (j : ℕ) (low : j < 16) (n : ℕ) (count : n ≡ k.segments) (p : ℕ)
+    (val : p ≡ get_or k.usage j 0) where
   usage_at : p ≡ address c k (Usage j)
   usage_at = val ∙ sym (address_linked c k (Usage j))
 
@@ -158,18 +168,22 @@ module _ (c : Content) (k : CheckpointValue) (j : ℕ) (low : j < 16) (n : ℕ) 
       let e = usage_at in omega arith
 
   there : Says (n - 64 * j) (block c p) → walk.IsUsageBlock (view c k) j
-  there says = block_good c k j (subst (λ (x : ℕ). Says (x - 64 * j) (block c (address c k (Usage j)))) count (subst (Says (n - 64 * j)) (ap (block c) usage_at) says))
+  there says = block_good c k j (subst (λ (x : ℕ). Says (x - 64 * j) (block c (address c k (Usage j)))) count
+      (subst (Says (n - 64 * j)) (ap (block c) usage_at) says))
 
   back : walk.IsUsageBlock (view c k) j → Says (n - 64 * j) (block c p)
-  back good = subst (Says (n - 64 * j)) (sym (ap (block c) usage_at)) (subst (λ (x : ℕ). Says (x - 64 * j) (block c (address c k (Usage j)))) (sym count) (good_block c k j good))
+  back good = subst (Says (n - 64 * j)) (sym (ap (block c) usage_at))
+      (subst (λ (x : ℕ). Says (x - 64 * j) (block c (address c k (Usage j)))) (sym count) (good_block c k j good))
 
   good_of : Usages (view c k) → Reached (view c k) (Usage j) → walk.IsUsageBlock (view c k) j
   good_of stage reached = block_good c k j (stage.readable j reached, usage_block_of (view c k) stage j)
 
   -- a block that can't be taken
-  pub usage_refused : (p ≡ 0 → ⊥) → (m m1 : List ℕ) → (IsUnmarked m p → Says (n - 64 * j) (block c p) → ⊥) → Walked (view c k) m j → Usages (view c k) → ⊥
+  pub usage_refused : (p ≡ 0 → ⊥) → (m m1 : List ℕ) → (IsUnmarked m p → Says (n - 64 * j) (block c p) → ⊥) → Walked (view c k) m j
+      → Usages (view c k) → ⊥
   usage_refused some m m1 not w stage =
-      refused (view c k) m m1 j w (Usage j) refl low p usage_at c (Says (n - 64 * j)) (there, back) false refl (omega arith, not) stage.fresh (good_of stage)
+      refused (view c k) m m1 j w (Usage j) refl low p usage_at c (Says (n - 64 * j)) (there, back) false refl
+      (omega arith, not) stage.fresh (good_of stage)
 
   pub usage_unread : (p ≡ 0 → ⊥) → (m m1 : List ℕ) → block c p ≡ [] → Walked (view c k) m j → Usages (view c k) → ⊥
   usage_unread some m m1 none = usage_refused some m m1 (λ o says. let e = sym (ap length none) ∙ says.0 in absurd (cc))
@@ -184,12 +198,14 @@ module _ (c : Content) (k : CheckpointValue) (j : ℕ) (low : j < 16) (n : ℕ) 
       usage_taken m m1 o marked w =
           let says : Says (n - 64 * j) out = (long, usage_block_found out (n - 64 * j) us bytes long (sym spelt)) in
           subst (Walked (view c k) m1) (omega arith)
-          (took (view c k) m m1 j w (Usage j) refl low p usage_at c (Says (n - 64 * j)) (there, back) true refl (inr (o, subst (Says (n - 64 * j)) (sym read) says, marked)))
+          (took (view c k) m m1 j w (Usage j) refl low p usage_at c (Says (n - 64 * j)) (there, back) true refl
+          (inr (o, subst (Says (n - 64 * j)) (sym read) says, marked)))
 
       here : block c (address c k (Usage j)) ≡ out
       here = sym (ap (block c) usage_at) ∙ read
 
-      pub says_taken : (used live used_then live_then : List ℕ) → length used ≡ k.segments → CopiesUses us used live used_then live_then (64 * j) 64
+      pub says_taken : (used live used_then live_then : List ℕ) → length used ≡ k.segments
+          → CopiesUses us used live used_then live_then (64 * j) 64
           → SaysUpTo (view c k) used live j → SaysUpTo (view c k) used_then live_then (j + 1)
       says_taken used live used_then live_then size copies was s lt within = ⊎_elim
           (λ (before : s < 64 * j). let w = was s before within in (copies.used_before s before ∙ w.0, copies.live_before s before ∙ w.1))
@@ -200,19 +216,24 @@ module _ (c : Content) (k : CheckpointValue) (j : ℕ) (low : j < 16) (n : ℕ) 
           let inside : 64 * j + i < length used = omega (arith, e, within, size) in
           let words = uses_are out (n - 64 * j) us bytes long (sym spelt) i few in
           subst (λ (x : ℕ). (get_or used_then x 0 ≡ used_in (view c k) x) × (get_or live_then x 0 ≡ live_in (view c k) x)) e (
-            at_block c k j (λ a b. get_or used_then (64 * j + i) 0 ≡ used_of c k j a b) i few (copies.used_own i few inside ∙ sym words.used ∙ ap (λ (b : List ℕ). half b (4 * i)) (sym here)),
-            at_block c k j (λ a b. get_or live_then (64 * j + i) 0 ≡ live_of c k j a b) i few (copies.live_own i few inside ∙ sym words.live ∙ ap (λ (b : List ℕ). half b (4 * i + 1)) (sym here)),
+            at_block c k j (λ a b. get_or used_then (64 * j + i) 0 ≡ used_of c k j a b) i few
+                (copies.used_own i few inside ∙ sym words.used ∙ ap (λ (b : List ℕ). half b (4 * i)) (sym here)),
+            at_block c k j (λ a b. get_or live_then (64 * j + i) 0 ≡ live_of c k j a b) i few
+                (copies.live_own i few inside ∙ sym words.live ∙ ap (λ (b : List ℕ). half b (4 * i + 1)) (sym here)),
           ))
           (cases_lt s (64 * j))
 
-pub is_extra : (j n p : ℕ) (k : CheckpointValue) → n ≡ k.segments → p ≡ get_or k.usage j 0 → n ≤ 64 * j → p ≡ 0 → (0 < get_or k.usage j 0) ↔ (j < (k.segments + 63) / 64)
+pub is_extra : (j n p : ℕ) (k : CheckpointValue) → n ≡ k.segments → p ≡ get_or k.usage j 0 → n ≤ 64 * j → p ≡ 0
+    → (0 < get_or k.usage j 0) ↔ (j < (k.segments + 63) / 64)
 is_extra j n p k count val past none = (λ some. absurd (omega (arith, some, val, none)), λ lt. absurd (omega (arith, lt, past, count)))
 
-pub is_needed : (j n p : ℕ) (k : CheckpointValue) → n ≡ k.segments → p ≡ get_or k.usage j 0 → 64 * j < n → (p ≡ 0 → ⊥) → (0 < get_or k.usage j 0) ↔ (j < (k.segments + 63) / 64)
+pub is_needed : (j n p : ℕ) (k : CheckpointValue) → n ≡ k.segments → p ≡ get_or k.usage j 0 → 64 * j < n → (p ≡ 0 → ⊥)
+    → (0 < get_or k.usage j 0) ↔ (j < (k.segments + 63) / 64)
 is_needed j n p k count val inside some = (λ x. omega arith, λ x. omega arith)
 
 -- all usage blocks
-pub usages_of : (c : Content) (k : CheckpointValue) → k.segments ≤ 1024 → ((j : ℕ) → j < 16 → (0 < get_or k.usage j 0) ↔ (j < (k.segments + 63) / 64))
+pub usages_of : (c : Content) (k : CheckpointValue) → k.segments ≤ 1024
+    → ((j : ℕ) → j < 16 → (0 < get_or k.usage j 0) ↔ (j < (k.segments + 63) / 64))
     → (marks : List ℕ) → Walked (view c k) marks 16 → IsBounded (view c k) → Usages (view c k)
 usages_of c k few is_there marks w bounded = usages c k reached all (fresh_of (view c k) marks 16 w bounded 1 within_1)
     (λ j some. (w.good (Usage j) (bounded (Usage j) some) (bounded (Usage j) some) some).readable)

@@ -1,5 +1,6 @@
 -- A device that is verified: its newest checkpoint, and what the walk from it says.
-use Rattle.std.proofs.Common.{subst, ⊎_elim, ◌≡◌, ◌<◌, ◌≤◌, ◌↔◌, ◌+◌, ◌*◌, ℕ, Bool, true, false, length, Some, None, inl, inr, refl, sym, ◌∙◌, ap, arith}
+use Rattle.std.proofs.Common.{subst, ⊎_elim, ◌≡◌, ◌<◌, ◌≤◌, ◌↔◌, ◌+◌, ◌*◌, ℕ, Bool, true, false, length, Some, None, inl, inr, refl, sym}
+use Rattle.std.proofs.Common.{◌∙◌, ap, arith}
 use Rattle.lfs_model.specs.Checkpoint.{CheckpointValue, FitsCheckpoint}
 use Rattle.lfs_model.specs.Content.{Content, newest}
 use Rattle.lfs_model.specs.Damage.{IsDamaged}
@@ -19,8 +20,10 @@ use Rattle.lfs_verify.specs.declared.verify.FoundLog.{FoundLog}
 use Rattle.lfs_verify.specs.Faults.{IsOpenFault, IsTableFault}
 use Rattle.lfs_verify.specs.Loading.{HasTables, HoldsTables, SaysTables}
 use Rattle.lfs_verify.specs.Totals.{CountsLog}
-use Rattle.lfs_verify.specs.Verified.{HoldsCounted, IsVerified, IsDamagedIn, IsFound, IsLogDamage, IsRefusedLog, IsRefusedWalk, IsWalkDamage, LacksLogMap, StandsWhereEnough, lacks_clean, stage_fails}
-use Rattle.lfs_verify.proofs.CodeSteps.{below_1, below_next, stage_1, stage_2, stage_3, stage_4, stage_5, stage_6, stage_7, stage_8, stage_9}
+use Rattle.lfs_verify.specs.Verified.{HoldsCounted, IsVerified, IsDamagedIn, IsFound, IsLogDamage, IsRefusedLog, IsRefusedWalk}
+use Rattle.lfs_verify.specs.Verified.{IsWalkDamage, LacksLogMap, StandsWhereEnough, lacks_clean, stage_fails}
+use Rattle.lfs_verify.proofs.CodeSteps.{below_1, below_next, stage_1, stage_2, stage_3, stage_4, stage_5, stage_6, stage_7, stage_8}
+use Rattle.lfs_verify.proofs.CodeSteps.{stage_9}
 
 some_is : (a b : CheckpointValue) → Some a ≡ Some b → a ≡ b
 some_is a b e = cc
@@ -42,10 +45,6 @@ module _ (d : DeviceState) (lawful : IsLawful d) where
   pub without_checkpoint : 4098 ≤ d.size → HasNoCheckpoint d.content → IsWithoutCheckpoint d.content
   without_checkpoint least none = ((let long = lawful.size in omega (arith, least, long)), no_newest none)
 
--- a call that syncs and reads
-pub looks_by : (old new : DeviceState) → Carries old new → IsUntouched old new → LeavesOnly old new old.may_leave → Looks old new
-looks_by old new carries untouched any_moment = record { carries = carries; untouched = untouched; any_moment = any_moment }
-
 -- ---- the walk
 -- where all of its stages hold, the content holds the log map that is read from it
 holds_by : (c : Content) (k : CheckpointValue) → 2 + 64 * k.segments ≤ length c → Stages (view c k) → HoldsAt c k (log_in (view c k))
@@ -53,9 +52,14 @@ holds_by c k size stages = record { size = size; stages = stages; header = λ n.
 
 -- what is missing to a log map
 pub stands_where_enough : StandsWhereEnough
-stands_where_enough c enough is holds = record { checkpoint = is.checkpoint; newest = is.newest; stands = record { holds = holds_by c is.checkpoint is.size is.stages; clean = is.clean.0 holds } }
+stands_where_enough c enough is holds = record {
+  checkpoint = is.checkpoint;
+  newest = is.newest;
+  stands = record { holds = holds_by c is.checkpoint is.size is.stages; clean = is.clean.0 holds };
+}
 
-module _ (old new : DeviceState) (lawful : IsLawful old) (k : CheckpointValue) (inside : 2 + 64 * k.segments ≤ old.size) (keeps : new.keeps_model) where
+module _ (old new : DeviceState) (lawful : IsLawful old) (k : CheckpointValue) (inside : 2 + 64 * k.segments ≤ old.size)
+    (keeps : new.keeps_model) where
   -- the content that the walk read
   pub read_content : ReadsContent old new old.content
   read_content = record { content = refl; keeps = keeps }
@@ -63,28 +67,34 @@ module _ (old new : DeviceState) (lawful : IsLawful old) (k : CheckpointValue) (
   long_enough : 2 + 64 * k.segments ≤ length old.content
   long_enough = let long = lawful.size in omega (arith, inside, long)
 
-  module _ (enough : Bool) (says : Stages (view old.content k) × HoldsBelow (view old.content k) 10 × ((enough ≡ true) ↔ EnoughClean (view old.content k))) where
-    pub holds_counted : (totals : BlockTotals) → CountsLog old.content k totals.data_blocks totals.meta_blocks → HoldsCounted old.content k enough totals
+  module _ (enough : Bool)
+      (says : Stages (view old.content k) × HoldsBelow (view old.content k) 10 × ((enough ≡ true) ↔ EnoughClean (view old.content k))) where
+    pub holds_counted : (totals : BlockTotals) → CountsLog old.content k totals.data_blocks totals.meta_blocks
+        → HoldsCounted old.content k enough totals
     holds_counted totals counts =
         let held = holds_by old.content k long_enough says.0 in
         record { holds = held; counted = counts (log_in (view old.content k)) held; clean = says.2 }
 
-  pub first_damage : newest old.content ≡ Some k → (code : ℕ) → code < 10 → IsDamaged (view old.content k) code → IsWalkDamage old.content code
+  pub first_damage : newest old.content ≡ Some k → (code : ℕ) → code < 10 → IsDamaged (view old.content k) code
+      → IsWalkDamage old.content code
   first_damage found code low damaged = (low, record { checkpoint = k; newest = found; size = long_enough; damaged = damaged })
 
 -- ---- a content that stands for a log map
 module _ (c : Content) (m : LogMap) (is : StandsLog c m) where
   -- all stages hold for the newest checkpoint
   stages_of : (k : CheckpointValue) → newest c ≡ Some k → Stages (view c k)
-  stages_of k found = subst (λ (x : CheckpointValue). Stages (view c x)) (some_is is.checkpoint k (sym is.newest ∙ found)) is.stands.holds.stages
+  stages_of k found =
+      subst (λ (x : CheckpointValue). Stages (view c x)) (some_is is.checkpoint k (sym is.newest ∙ found)) is.stands.holds.stages
 
   -- none of the first nine fails
   pub none_fails : (code : ℕ) → code < 10 → IsDamagedIn c code → ⊥
   none_fails code low fails = fails.damaged.1 (nine (view c fails.checkpoint) (stages_of fails.checkpoint fails.newest) code low)
     where
       nine : (v : View) → Stages v → HoldsBelow v 10
-      nine v s = below_next v 9 (below_next v 8 (below_next v 7 (below_next v 6 (below_next v 5 (below_next v 4 (below_next v 3 (below_next v 2 (below_next v 1 (below_1 v)
-          ((stage_1 v).1 s.usages)) ((stage_2 v).1 s.rows)) ((stage_3 v).1 s.maps)) ((stage_4 v).1 s.inodes)) (stage_5 v s.roots)) (stage_6 v s.leaves)) ((stage_7 v).1 s.blocks))
+      nine v s = below_next v 9 (below_next v 8
+          (below_next v 7 (below_next v 6 (below_next v 5 (below_next v 4 (below_next v 3 (below_next v 2 (below_next v 1 (below_1 v)
+          ((stage_1 v).1 s.usages)) ((stage_2 v).1 s.rows)) ((stage_3 v).1 s.maps)) ((stage_4 v).1 s.inodes)) (stage_5 v s.roots))
+          (stage_6 v s.leaves)) ((stage_7 v).1 s.blocks))
           ((stage_8 v).1 s.named)) ((stage_9 v).1 s.counted)
 
 pub stands_for_none : LacksLogMap
@@ -99,10 +109,12 @@ refused_behind a b c looks fault.NoMemory is = tt
 refused_behind a b c looks fault.Device is = let before = looks.carries.failures in omega (arith, is, before)
 refused_behind a b c looks fault.TooSmall is = λ keeps. subst IsTooSmall looks.untouched.content (is keeps)
 refused_behind a b c looks fault.NoCheckpoint is = λ keeps. subst IsWithoutCheckpoint looks.untouched.content (is keeps)
-refused_behind a b c looks (fault.Damaged code) is = λ keeps. subst (λ (x : Content). IsWalkDamage x code) looks.untouched.content (is keeps)
+refused_behind a b c looks (fault.Damaged code) is =
+    λ keeps. subst (λ (x : Content). IsWalkDamage x code) looks.untouched.content (is keeps)
 
 -- a table that can't be read is a call that failed, where the content holds a log map
-table_refused : (b c : DeviceState) (k : CheckpointValue) (m : LogMap) → (c.keeps_model → HoldsAt b.content k m) → (f : MountFault) → ((f ≡ fault.NoMemory → ⊥) → IsTableFault b c k f) → IsRefusedWalk b c f
+table_refused : (b c : DeviceState) (k : CheckpointValue) (m : LogMap) → (c.keeps_model → HoldsAt b.content k m) → (f : MountFault)
+    → ((f ≡ fault.NoMemory → ⊥) → IsTableFault b c k f) → IsRefusedWalk b c f
 table_refused b c k m stands fault.NoMemory told = tt
 table_refused b c k m stands fault.Device told = told (λ e. cc)
 table_refused b c k m stands fault.TooSmall told = λ keeps. absurd (told (λ e. cc) m keeps (stands keeps))
@@ -129,15 +141,18 @@ module _ (d : DeviceState) (lawful : IsLawful d) (m : LogMap) (is : StandsLog d.
   undamaged code (lacks_clean at few) = stands_for_none d.content few m is
 
 -- why a device isn't opened
-pub open_fault : (old new : DeviceState) → IsLawful old → (f : MountFault) → IsRefusedLog old new f → (f ≡ fault.NoMemory → ⊥) → IsOpenFault old new f
+pub open_fault : (old new : DeviceState) → IsLawful old → (f : MountFault) → IsRefusedLog old new f → (f ≡ fault.NoMemory → ⊥)
+    → IsOpenFault old new f
 open_fault old new lawful fault.NoMemory is other = absurd (other refl)
 open_fault old new lawful fault.Device is other = is
 open_fault old new lawful fault.TooSmall is other = λ m keeps stands. large old lawful m stands (is keeps)
-open_fault old new lawful fault.NoCheckpoint is other = λ m keeps stands. (let some = stands.newest in let none = (is keeps).1 in absurd (cc))
+open_fault old new lawful fault.NoCheckpoint is other =
+    λ m keeps stands. (let some = stands.newest in let none = (is keeps).1 in absurd (cc))
 open_fault old new lawful (fault.Damaged code) is other = λ m keeps stands. undamaged old lawful m stands code (is keeps)
 
 -- ---- the checkpoint, the walk and the tables, one after the other
-module _ (a b c d : DeviceState) (one : Looks a b) (two : Looks b c) (three : Looks c d) (k : CheckpointValue) (newest_at : b.keeps_model → newest a.content ≡ Some k) where
+module _ (a b c d : DeviceState) (one : Looks a b) (two : Looks b c) (three : Looks c d) (k : CheckpointValue)
+    (newest_at : b.keeps_model → newest a.content ≡ Some k) where
   newest_later : c.keeps_model → newest b.content ≡ Some k
   newest_later keeps = ap newest one.untouched.content ∙ newest_at (two.carries.kept_before keeps)
 
@@ -149,12 +164,15 @@ module _ (a b c d : DeviceState) (one : Looks a b) (two : Looks b c) (three : Lo
     content_same = two.untouched.content ∙ one.untouched.content
 
     holds_then : d.keeps_model → HoldsAt c.content k (log_in (view b.content k))
-    holds_then keeps = subst (λ (x : Content). HoldsAt x k (log_in (view b.content k))) (sym two.untouched.content) (holds (three.carries.kept_before keeps)).holds
+    holds_then keeps = subst (λ (x : Content). HoldsAt x k (log_in (view b.content k))) (sym two.untouched.content)
+        (holds (three.carries.kept_before keeps)).holds
 
     pub load_refused : (f : MountFault) → ((f ≡ fault.NoMemory → ⊥) → IsTableFault c d k f) → IsRefusedWalk a d f
-    load_refused f told = refused_behind a b d one f (refused_behind b c d two f (table_refused c d k (log_in (view b.content k)) holds_then f told))
+    load_refused f told =
+        refused_behind a b d one f (refused_behind b c d two f (table_refused c d k (log_in (view b.content k)) holds_then f told))
 
-    tables_held : FitsCheckpoint k → (t : Tables) → (d.keeps_model → SaysTables c.content k t) → (t.data_blocks ≡ totals.data_blocks) × (t.meta_blocks ≡ totals.meta_blocks)
+    tables_held : FitsCheckpoint k → (t : Tables) → (d.keeps_model → SaysTables c.content k t)
+        → (t.data_blocks ≡ totals.data_blocks) × (t.meta_blocks ≡ totals.meta_blocks)
         → d.keeps_model → HoldsTables a.content t
     tables_held fits t says same keeps =
         let was = three.carries.kept_before keeps in
@@ -169,16 +187,19 @@ module _ (a b c d : DeviceState) (one : Looks a b) (two : Looks b c) (three : Lo
           counted = record { stored = same.0 ∙ counted.stored; above = same.1 ∙ counted.above };
         }
 
-    pub log_found : FitsCheckpoint k → (t : Tables) → (d.keeps_model → SaysTables c.content k t) → (t.data_blocks ≡ totals.data_blocks) × (t.meta_blocks ≡ totals.meta_blocks)
+    pub log_found : FitsCheckpoint k → (t : Tables) → (d.keeps_model → SaysTables c.content k t)
+        → (t.data_blocks ≡ totals.data_blocks) × (t.meta_blocks ≡ totals.meta_blocks)
         → d.keeps_model → IsFound a.content (record { tables = t; enough_clean = enough })
     unfolding tables_held
     log_found fits t says same keeps = record {
       tables = tables_held fits t says same keeps;
-      clean = subst (λ (x : Content). (enough ≡ true) ↔ EnoughClean (view x k)) one.untouched.content (holds (three.carries.kept_before keeps)).clean;
+      clean = subst (λ (x : Content). (enough ≡ true) ↔ EnoughClean (view x k)) one.untouched.content
+          (holds (three.carries.kept_before keeps)).clean;
     }
 
     pub only_then : (b.keeps_model → Only a.content b) → d.keeps_model → Only a.content d
-    only_then durable keeps x left = durable (two.carries.kept_before (three.carries.kept_before keeps)) x (two.untouched.crash x (three.untouched.crash x left))
+    only_then durable keeps x left =
+        durable (two.carries.kept_before (three.carries.kept_before keeps)) x (two.untouched.crash x (three.untouched.crash x left))
 
 -- ---- the log that was found
 module _ (old new : DeviceState) (found : FoundLog) (holds : new.keeps_model → IsFound old.content found) where
@@ -186,10 +207,17 @@ module _ (old new : DeviceState) (found : FoundLog) (holds : new.keeps_model →
   few_clean off keeps =
       let log = holds keeps in
       lacks_clean refl (subst (IsVerified old.content) off
-      (record { checkpoint = log.tables.checkpoint; newest = log.tables.newest; size = log.tables.holds.size; stages = log.tables.holds.stages; clean = log.clean }))
+      (record {
+        checkpoint = log.tables.checkpoint;
+        newest = log.tables.newest;
+        size = log.tables.holds.size;
+        stages = log.tables.holds.stages;
+        clean = log.clean;
+      }))
 
   pub has_tables : found.enough_clean ≡ true → new.keeps_model → HasTables old.content found.tables
-  has_tables on keeps = let log = holds keeps in record { held = log.tables; stands = record { holds = log.tables.holds; clean = log.clean.0 on } }
+  has_tables on keeps = let log = holds keeps in
+      record { held = log.tables; stands = record { holds = log.tables.holds; clean = log.clean.0 on } }
 
 -- what refuses the walk refuses the log
 pub refused_log : (old new : DeviceState) (f : MountFault) → IsRefusedWalk old new f → IsRefusedLog old new f

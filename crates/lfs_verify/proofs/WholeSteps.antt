@@ -25,10 +25,7 @@ passed_start d d' lawful c reads k fits marks size empty =
     let all = subst (AllByRecursion IsSector) reads.content lawful.now in
     passed_none (view c k) marks (bounded_of c (are_sized c all) k fits.map_length fits.usage_length) size empty
 
-pub if_err : {X E : Type 0} (r : Result X E) (P Q : E → Type 0) → ((e : E) → P e → Q e) → IfErr r P → IfErr r Q
-if_err (Ok x) P Q f h = tt
-if_err (Err e) P Q f h = f e h
-
 -- what the walk says at its end
-pub walk_end : (v : View) (enough : Bool) → HoldsBelow v 10 × ((enough ≡ true) ↔ EnoughClean v) → Stages v × HoldsBelow v 10 × ((enough ≡ true) ↔ EnoughClean v)
+pub walk_end : (v : View) (enough : Bool) → HoldsBelow v 10 × ((enough ≡ true) ↔ EnoughClean v)
+    → Stages v × HoldsBelow v 10 × ((enough ≡ true) ↔ EnoughClean v)
 walk_end v enough both = (nine_stages v both.0, both.0, both.1)

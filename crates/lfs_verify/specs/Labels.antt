@@ -9,7 +9,8 @@ use Rattle.lfs_verify.specs.Walk.{InBounds, step_of}
 
 -- a sector that is marked has, in this row of its segment, the label of the entry that reached it
 abbrev pub IsNamedIn : Option Row → List ℕ → ℕ → ℕ → Type 0
-IsNamedIn row marks s o = (p : ℕ) → get_or marks (2 + 64 * s + o) 0 ≡ suc p → (e : Entry) × (place_in row o ≡ Some e) × (step_of e ≡ p) × InBounds e
+IsNamedIn row marks s o = (p : ℕ) → get_or marks (2 + 64 * s + o) 0 ≡ suc p → (e : Entry) × (place_in row o ≡ Some e) × (step_of e ≡ p)
+    × InBounds e
 
 -- and in the row that the segment has
 abbrev pub IsSectorNamed : View → List ℕ → ℕ → ℕ → Type 0

@@ -19,7 +19,8 @@ loaded u = record { used = u.used; live = u.live; held = 0; age = u.age; kept = 
 
 -- the entries of usage block j are taken in, up to the one at this place
 pub record IsTakenIn (old new : UsageTable) (uses : List SegmentUse) (j upto : ℕ) : Type 0 where
-  pub own : (i : ℕ) → i < upto → 64 * j + i < length old.segments → get_or new.segments (64 * j + i) no_segment ≡ loaded (get_or uses i no_use)
+  pub own : (i : ℕ) → i < upto → 64 * j + i < length old.segments
+      → get_or new.segments (64 * j + i) no_segment ≡ loaded (get_or uses i no_use)
   pub before : (s : ℕ) → s < 64 * j → get_or new.segments s no_segment ≡ get_or old.segments s no_segment
   pub after : (s : ℕ) → 64 * j + upto ≤ s → get_or new.segments s no_segment ≡ get_or old.segments s no_segment
   pub size : length new.segments ≡ length old.segments
@@ -28,7 +29,8 @@ pub record IsTakenIn (old new : UsageTable) (uses : List SegmentUse) (j upto : �
 
 -- what the content says of a segment
 abbrev pub numbers_in : Content → CheckpointValue → ℕ → SegmentNumbers
-numbers_in c k s = record { used = used_in (view c k) s; live = live_in (view c k) s; held = 0; age = age_in (view c k) s; kept = used_in (view c k) s }
+numbers_in c k s =
+    record { used = used_in (view c k) s; live = live_in (view c k) s; held = 0; age = age_in (view c k) s; kept = used_in (view c k) s }
 
 -- an entry of a segment where nothing lives has no age
 abbrev pub HasNoDeadAge : Content → CheckpointValue → ℕ → Type 0

@@ -16,7 +16,8 @@ pub record CopiesUses (uses : List SegmentUse) (used live used_then live_then : 
 
 -- the tables have what the first usage blocks say of their segments
 abbrev pub SaysUpTo : View → List ℕ → List ℕ → ℕ → Type 0
-SaysUpTo v used live blocks = (s : ℕ) → s < 64 * blocks → s < v.checkpoint.segments → (get_or used s 0 ≡ used_in v s) × (get_or live s 0 ≡ live_in v s)
+SaysUpTo v used live blocks = (s : ℕ) → s < 64 * blocks → s < v.checkpoint.segments
+    → (get_or used s 0 ≡ used_in v s) × (get_or live s 0 ≡ live_in v s)
 
 -- and what all say
 abbrev pub SaysAll : View → List ℕ → List ℕ → Type 0

@@ -38,7 +38,8 @@ StandsWhereEnough = (c : Content) (enough : Bool) (is : IsVerified c enough) →
 abbrev pub LacksLogMap : Type 0
 LacksLogMap = (c : Content) → IsVerified c false → (m : LogMap) → StandsLog c m → ⊥
 
--- The content holds by this checkpoint the log map that it leads to, and these are the totals of that map; and whether enough segments are clean.
+-- The content holds by this checkpoint the log map that it leads to, and
+-- these are the totals of that map; and whether enough segments are clean.
 pub record HoldsCounted (c : Content) (k : CheckpointValue) (enough : Bool) (totals : BlockTotals) : Type 0 where
   pub holds : HoldsAt c k (log_in (view c k))
   pub counted : IsCounted (log_in (view c k)) totals.data_blocks totals.meta_blocks
@@ -62,8 +63,8 @@ pub data IsLogDamage (c : Content) (code : ℕ) : Type 0 where
   stage_fails : IsWalkDamage c code → IsLogDamage c code
   lacks_clean : code ≡ 15 → IsVerified c false → IsLogDamage c code
 
--- Why a device is refused, by fault: a call of it failed, or, if it keeps the model, this is so of the content that was there. What damage is, the first
--- argument says.
+-- Why a device is refused, by fault: a call of it failed, or, if it keeps the model,
+-- this is so of the content that was there. What damage is, the first argument says.
 abbrev pub IsRefusedFor : (Content → ℕ → Type 0) → DeviceState → DeviceState → MountFault → Type 0
 IsRefusedFor damage old new NoMemory = Unit {0}
 IsRefusedFor damage old new Device = old.failures < new.failures

@@ -1,5 +1,6 @@
 -- Sectors that are given one after another.
-use Rattle.std.proofs.Common.{◌≡◌, ◌≢◌, ◌<◌, ◌≤◌, ◌+◌, ℕ, List, [], length, Some, None, refl, sym, ap, ◌∙◌, subst, arith, ⊎_elim, length-set, get_or-set_other, get_or-set_same, get_or}
+use Rattle.std.proofs.Common.{◌≡◌, ◌≢◌, ◌<◌, ◌≤◌, ◌+◌, ℕ, List, [], length, Some, None, refl, sym, ap, ◌∙◌, subst, arith, ⊎_elim}
+use Rattle.std.proofs.Common.{length-set, get_or-set_other, get_or-set_same, get_or}
 use Rattle.std.proofs.lemmas.Bool.{cases_lt}
 use Rattle.lfs_model.specs.Device.{Cell, SameOutside, cell_at, put}
 use Rattle.pansuyog.specs.Sources.{AreGiven}
@@ -10,17 +11,20 @@ given_none first sectors cells = record {
   given = λ i lt. absurd (omega (arith, lt));
 }
 
-module _ (first n : ℕ) (sectors : List (List ℕ)) (old mid new : List Cell) (bytes : List ℕ) (was : AreGiven first n sectors old mid) (is : new ≡ put mid (first + n) bytes) (within : first + n < length mid) (same : bytes ≡ get_or sectors n []) where
+module _ (first n : ℕ) (sectors : List (List ℕ)) (old mid new : List Cell) (bytes : List ℕ) (was : AreGiven first n sectors old mid)
+    (is : new ≡ put mid (first + n) bytes) (within : first + n < length mid) (same : bytes ≡ get_or sectors n []) where
   elsewhere : (k : ℕ) → k ≢ first + n → cell_at new k ≡ cell_at mid k
   elsewhere k other = ap (λ (c : List Cell). cell_at c k) is ∙ get_or-set_other mid (first + n) k (Some bytes) None other
 
   here : cell_at new (first + n) ≡ Some (get_or sectors n [])
-  here = ap (λ (c : List Cell). cell_at c (first + n)) is ∙ get_or-set_same mid (first + n) (Some bytes) None within ∙ ap (λ (b : List ℕ). Some b) same
+  here = ap (λ (c : List Cell). cell_at c (first + n)) is ∙ get_or-set_same mid (first + n) (Some bytes) None within
+      ∙ ap (λ (b : List ℕ). Some b) same
 
   each : (i : ℕ) → i < n + 1 → cell_at new (first + i) ≡ Some (get_or sectors i [])
   each i lt = ⊎_elim
       (λ before. elsewhere (first + i) (λ same'. omega (arith, before, same')) ∙ was.given i before)
-      (λ late. (let at : i ≡ n = omega (arith, lt, late) in subst (λ (k : ℕ). cell_at new (first + k) ≡ Some (get_or sectors k [])) (sym at) here))
+      (λ late. (let at : i ≡ n = omega (arith, lt, late) in
+      subst (λ (k : ℕ). cell_at new (first + k) ≡ Some (get_or sectors k [])) (sym at) here))
       (cases_lt i n)
 
   pub given_next : AreGiven first (n + 1) sectors old new

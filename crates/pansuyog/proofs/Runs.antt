@@ -1,5 +1,6 @@
 -- A run of writes grows.
-use Rattle.std.proofs.Common.{◌≡◌, ◌≢◌, ◌<◌, ◌≤◌, ◌+◌, ℕ, List, length, refl, sym, ap, ◌∙◌, subst, arith, ⊎_elim, length-set, get_or-set_other, get_or-set_same}
+use Rattle.std.proofs.Common.{◌≡◌, ◌≢◌, ◌<◌, ◌≤◌, ◌+◌, ℕ, List, length, refl, sym, ap, ◌∙◌, subst, arith, ⊎_elim, length-set}
+use Rattle.std.proofs.Common.{get_or-set_other, get_or-set_same}
 use Rattle.std.specs.Prelude.{slice_index_or, slice_set}
 use Rattle.std.proofs.lemmas.Bool.{cases_lt}
 use Rattle.lfs_model.specs.declared.Order.{Order}
@@ -8,28 +9,19 @@ use Rattle.lfs_queue.specs.Numbered.{HasNumber}
 use Rattle.pansuyog.specs.Orders.{AreRun}
 use Rattle.pansuyog.specs.declared.orders.Sector.{Sector}
 
-module _ (told : List Order) (number first n : ℕ) (old new : List Sector) (x : Sector) (is : new ≡ slice_set old n x) (within : n < length old) (has : HasNumber told (number + n) (Write (first + n) x.bytes)) where
+module _ (told : List Order) (number first n : ℕ) (old new : List Sector) (x : Sector) (is : new ≡ slice_set old n x)
+    (within : n < length old) (has : HasNumber told (number + n) (Write (first + n) x.bytes)) where
   here : (none : Sector) → slice_index_or new n none ≡ x
   here none = ap (λ (l : List Sector). slice_index_or l n none) is ∙ get_or-set_same old n x none within
 
-  longer : AreRun told number first n old → (i : ℕ) (none : Sector) → i < n + 1 → HasNumber told (number + i) (Write (first + i) (slice_index_or new i none).bytes)
+  longer : AreRun told number first n old → (i : ℕ) (none : Sector) → i < n + 1
+      → HasNumber told (number + i) (Write (first + i) (slice_index_or new i none).bytes)
   longer run i none lt = ⊎_elim
       (λ before. (let other : i ≢ n = λ same. omega (arith, before, same) in
-      let at : slice_index_or new i none ≡ slice_index_or old i none = ap (λ (l : List Sector). slice_index_or l i none) is ∙ get_or-set_other old n i x none other in
+      let at : slice_index_or new i none ≡ slice_index_or old i none = ap (λ (l : List Sector). slice_index_or l i none) is
+      ∙ get_or-set_other old n i x none other in
       subst (λ (s : Sector). HasNumber told (number + i) (Write (first + i) s.bytes)) (sym at) (run.each i none before)))
       (λ late. (let at : i ≡ n = omega (arith, lt, late) in
       subst (λ (k : ℕ). HasNumber told (number + k) (Write (first + k) (slice_index_or new k none).bytes)) (sym at)
       (subst (λ (s : Sector). HasNumber told (number + n) (Write (first + n) s.bytes)) (sym (here none)) has)))
       (cases_lt i n)
-
-  pub run_longer : AreRun told number first n old → AreRun told number first (n + 1) new
-  run_longer run = record {
-    room = (let same = ap (λ (l : List Sector). length l) is ∙ length-set old n x in omega (arith, within, same));
-    each = longer run;
-  }
-
--- the first of a run
-pub run_begins : (told : List Order) (number first : ℕ) (old new : List Sector) (x : Sector) → new ≡ slice_set old 0 x → 0 < length old → HasNumber told number (Write first x.bytes) → AreRun told number first 1 new
-run_begins told number first old new x is within has =
-    run_longer told number first 0 old new x is within (subst (λ (k : ℕ). HasNumber told k (Write (first + 0) x.bytes)) (sym (omega arith)) (subst (λ (k : ℕ). HasNumber told number (Write k x.bytes)) (sym (omega arith)) has))
-    (record { room = omega arith; each = λ i none lt. absurd (omega (arith, lt)) })

@@ -63,7 +63,8 @@ MountsOn device fs source code = ⊥
 
 -- A mount from what a volume holds: it was done or refused on a device that was taken, or none was taken.
 pub data MountsFrom (old new : Volume) (room : ℕ) (code : ℤ) : Type 0 where
-  is_tried : (device : QueueDevice) → old.fs ≡ None → IsTaken old.source room device → MountsOn device new.fs new.source code → new.listing ≡ old.listing → MountsFrom old new room code
+  is_tried : (device : QueueDevice) → old.fs ≡ None → IsTaken old.source room device → MountsOn device new.fs new.source code
+      → new.listing ≡ old.listing → MountsFrom old new room code
   is_not_tried : IsNotTaken old new code → MountsFrom old new room code
 
 -- What an empty volume of so many segments was to be made on, by what came of it.
@@ -93,7 +94,8 @@ MakesOn segments version device None (Device after) code = Makes segments versio
 MakesOn segments version device fs source code = ⊥
 
 pub data MakesFrom (old new : Volume) (room segments version : ℕ) (code : ℤ) : Type 0 where
-  was_tried : (device : QueueDevice) → old.fs ≡ None → IsTaken old.source room device → MakesOn segments version device new.fs new.source code → new.listing ≡ old.listing → MakesFrom old new room segments version code
+  was_tried : (device : QueueDevice) → old.fs ≡ None → IsTaken old.source room device
+      → MakesOn segments version device new.fs new.source code → new.listing ≡ old.listing → MakesFrom old new room segments version code
   was_not_tried : IsNotTaken old new code → MakesFrom old new room segments version code
 
 -- What an unmounting leaves: the device that was in the volume.

@@ -1,5 +1,6 @@
 -- What C is told of the orders of a device.
-use Rattle.std.specs.Prelude.{◌≡◌, ◌⊎◌, ◌<◌, ◌≤◌, ◌++◌, ◌+◌, ◌-◌, ◌^◌, ℕ, ℤ, pos, List, [], Option, Some, None, length, drop, slice_index_or}
+use Rattle.std.specs.Prelude.{◌≡◌, ◌⊎◌, ◌<◌, ◌≤◌, ◌++◌, ◌+◌, ◌-◌, ◌^◌, ℕ, ℤ, pos, List, [], Option, Some, None, length, drop}
+use Rattle.std.specs.Prelude.{slice_index_or}
 use Rattle.lfs_model.specs.declared.Order.{Order}
 use Rattle.lfs_model.specs.declared.Order.TheVariants.{Write, Sync}
 use Rattle.lfs_fs.specs.Seen.{seen}
@@ -46,8 +47,10 @@ TellsOrder (Write at bytes) code sector_before sector before after =
 
 -- C is told of the order that has a number among all that the device was told, or that none of this number waits.
 pub data TellsNumber (told carried : List Order) (number : ℕ) (code : ℤ) (sector_before sector : ℕ) (before after : List ℕ) : Type 0 where
-  is_told : (order : Order) → HasNumber told number order → TellsOrder order code sector_before sector before after → TellsNumber told carried number code sector_before sector before after
-  is_none : code ≡ no_order → (number < 2 ^ 64 - 1 → IsNoneWaiting carried told number) → sector ≡ sector_before → after ≡ before → TellsNumber told carried number code sector_before sector before after
+  is_told : (order : Order) → HasNumber told number order → TellsOrder order code sector_before sector before after
+      → TellsNumber told carried number code sector_before sector before after
+  is_none : code ≡ no_order → (number < 2 ^ 64 - 1 → IsNoneWaiting carried told number) → sector ≡ sector_before → after ≡ before
+      → TellsNumber told carried number code sector_before sector before after
 
 -- So many orders, from a number on, are writes to sectors that follow one another, and these are their bytes.
 pub record AreRun (told : List Order) (number first n : ℕ) (out : List Sector) : Type 0 where
@@ -56,10 +59,14 @@ pub record AreRun (told : List Order) (number first n : ℕ) (out : List Sector)
 
 -- C is told of the run of writes that begins with a number, of a sync of this number, or that there is none.
 pub data TellsRun (told carried : List Order) (number : ℕ) (code : ℤ) (first_before first : ℕ) (before after : List Sector) : Type 0 where
-  is_run : (n : ℕ) → 0 < n → code ≡ code_of_count n → AreRun told number first n after → TellsRun told carried number code first_before first before after
-  is_sync : HasNumber told number Sync → code ≡ pos 0 → first ≡ first_before → after ≡ before → TellsRun told carried number code first_before first before after
-  is_no_room : length before ≡ 0 → code ≡ inval → first ≡ first_before → after ≡ before → TellsRun told carried number code first_before first before after
-  is_no_run : code ≡ no_order → (number < 2 ^ 64 - 1 → IsNoneWaiting carried told number) → first ≡ first_before → after ≡ before → TellsRun told carried number code first_before first before after
+  is_run : (n : ℕ) → 0 < n → code ≡ code_of_count n → AreRun told number first n after
+      → TellsRun told carried number code first_before first before after
+  is_sync : HasNumber told number Sync → code ≡ pos 0 → first ≡ first_before → after ≡ before
+      → TellsRun told carried number code first_before first before after
+  is_no_room : length before ≡ 0 → code ≡ inval → first ≡ first_before → after ≡ before
+      → TellsRun told carried number code first_before first before after
+  is_no_run : code ≡ no_order → (number < 2 ^ 64 - 1 → IsNoneWaiting carried told number) → first ≡ first_before → after ≡ before
+      → TellsRun told carried number code first_before first before after
 
 -- All orders that waited were carried out: the volume sees nothing of it.
 abbrev pub CarriesOut : Option (Fs QueueDevice) → Option (Fs QueueDevice) → Source → Source → ℤ → Type 0

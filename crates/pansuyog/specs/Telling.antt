@@ -66,5 +66,6 @@ ServesListing old new call code =
 -- One of the names that are kept: C is told its length, and given it with what it names. Where there is none C is told 0.
 abbrev pub TellsEntry : Option Row → ℤ → Entry → Entry → List ℕ → List ℕ → Type 0
 TellsEntry (Some row) code before after name_before name_after =
-    (code ≡ code_of_count (length row.name.items)) × (after.number ≡ row.number) × (after.kind ≡ code_of_kind row.kind) × (name_after ≡ filled row.name.items name_before)
+    (code ≡ code_of_count (length row.name.items)) × (after.number ≡ row.number) × (after.kind ≡ code_of_kind row.kind)
+    × (name_after ≡ filled row.name.items name_before)
 TellsEntry None code before after name_before name_after = (code ≡ pos 0) × (after ≡ before) × (name_after ≡ name_before)

@@ -15,7 +15,8 @@ returns-in-Ok-clause-done g c =
 
 pub returns-in-Err-clause-lacks : goal.returns-in-Err-clause-lacks
 returns-in-Err-clause-lacks g c is =
-    unfit_lacks g.D.SectorDevice.state c.args.log.now c.pass.new.log (g.met.D.SectorDevice.lawful c.args.log.now.device) c.requires.running c.requires.nothing
+    unfit_lacks g.D.SectorDevice.state c.args.log.now c.pass.new.log (g.met.D.SectorDevice.lawful c.args.log.now.device) c.requires.running
+    c.requires.nothing
     (c.if-has_quarter.ensures.no (search rules)) (c.in-Err.ensures.full (search rules)) (c.in-Err.ensures.lacks (search rules))
 
 pub returns-in-Err-clause-failed : goal.returns-in-Err-clause-failed

@@ -19,4 +19,5 @@ returns-in-Err-default-clause-plays g c = inr (record {
 })
 
 pub end_plain-requires : goal.end_plain-requires
-end_plain-requires g c = record { plain = λ is. told_goes_on _ _ _ _ _ _ _ _ _ is (ok_of _ _ _ c.in-Ok-default.is-0 c.use_and_stop_told.ensures.ran) }
+end_plain-requires g c =
+    record { plain = λ is. told_goes_on _ _ _ _ _ _ _ _ _ is (ok_of _ _ _ c.in-Ok-default.is-0 c.use_and_stop_told.ensures.ran) }

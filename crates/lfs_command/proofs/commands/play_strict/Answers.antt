@@ -15,7 +15,8 @@ returns-in-Ok-default-clause-plays g c = inl (
 pub returns-in-Ok-default-clause-refused : goal.returns-in-Ok-default-clause-refused
 returns-in-Ok-default-clause-refused g c = λ refused. record {
   printed = _;
-  session = told_of _ _ _ _ _ _ _ _ _ _ _ (c.end_strict.ensures.refused refused) (ok_of _ _ _ c.in-Ok-default.is-0 c.use_volume_told.ensures.ran);
+  session = told_of _ _ _ _ _ _ _ _ _ _ _ (c.end_strict.ensures.refused refused)
+      (ok_of _ _ _ c.in-Ok-default.is-0 c.use_volume_told.ensures.ran);
   kept = c.end_strict.ensures.kept;
 }
 

@@ -20,7 +20,8 @@ pub loop-sector-preserved : goal.loop-sector-preserved
 loop-sector-preserved c =
     settling_next c.args.rows.now.items c.loop-sector.rows.items c.deref-sector-items.result.now
     (subst (λ (l : List ℕ). IsUnsyncedList l c.args.rows.now.items) (sym c.deref-sector-items.ensures.value) c.requires)
-    c.loop-sector.sector-index c.loop-sector.invariant c.loop-sector-test.true c.index_mut-row.result.now c.stands.result c.index_mut-row.ensures.value c.stands.ensures
+    c.loop-sector.sector-index c.loop-sector.invariant c.loop-sector-test.true c.index_mut-row.result.now c.stands.result
+    c.index_mut-row.ensures.value c.stands.ensures
 
 pub returns-clause-rows : goal.returns-clause-rows
 returns-clause-rows c =

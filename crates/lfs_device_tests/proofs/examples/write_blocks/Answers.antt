@@ -16,7 +16,8 @@ loop-i-preserved g c =
     let n = length c.args.blocks.now in
     let old = g.D.SectorDevice.state c.args.device.now in
     let so_far = c.loop-i.invariant in
-    let inside : c.args.first + c.loop-i.i < length old.content = omega (arith, c.requires, (g.met.D.SectorDevice.lawful c.args.device.now).size) in
+    let inside : c.args.first + c.loop-i.i < length old.content =
+    omega (arith, c.requires, (g.met.D.SectorDevice.lawful c.args.device.now).size) in
     let within : c.loop-i.i < n = omega arith in
     record {
       run =
@@ -25,7 +26,8 @@ loop-i-preserved g c =
           c.write.ensures.crash c.write.ensures.carries c.write.ensures.time;
       content = λ keeps.
           c.in_ok-write.ensures.written keeps
-          ∙ ap (λ (l : List Cell). put l (c.args.first + c.loop-i.i) (get_or c.args.blocks.now c.loop-i.i [])) (so_far.content (c.write.ensures.carries.kept_before keeps))
+          ∙ ap (λ (l : List Cell). put l (c.args.first + c.loop-i.i) (get_or c.args.blocks.now c.loop-i.i []))
+          (so_far.content (c.write.ensures.carries.kept_before keeps))
           ∙ pasted_more old.content c.args.first c.args.blocks.now c.loop-i.i [] inside within;
       failures = c.in_ok-write.ensures.no_failure ∙ so_far.failures;
     }

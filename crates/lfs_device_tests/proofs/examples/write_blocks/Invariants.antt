@@ -9,6 +9,7 @@ invariant-loop-i g l =
     let now = g.D.SectorDevice.state l.device in
     record {
       run : Run old now (ComesFrom old (SameOutside l.first (length l.blocks)));
-      content : now.keeps_model → now.content ≡ take l.first old.content ++ map Some (take l.i l.blocks) ++ drop (l.first + l.i) old.content;
+      content : now.keeps_model
+          → now.content ≡ take l.first old.content ++ map Some (take l.i l.blocks) ++ drop (l.first + l.i) old.content;
       failures : now.failures ≡ old.failures;
     }

@@ -16,7 +16,9 @@ loop-index-init g c =
     let up = blocks_up c.args.header.form c.slots_of-slots.result c.slots_in_block-whole.result whole in
     let times = ap (λ (i : ℕ). per_block c.args.header.form * i) e in (
       omega (arith, times, up, slots),
-      list_begins c.args.directory.value c.args.header (g.F.Files.state c.args.files.now) c.div_ceil-index.result c.new-entries.result.items c.new-entries.ensures.items (let past = blocks_past c.args.header.form c.div_ceil-index.result c.slots_of-slots.result c.slots_in_block-whole.result whole (omega (arith, e)) in omega (arith, past, slots)),
+      list_begins c.args.directory.value c.args.header (g.F.Files.state c.args.files.now) c.div_ceil-index.result c.new-entries.result.items
+          c.new-entries.ensures.items (let past = blocks_past c.args.header.form c.div_ceil-index.result c.slots_of-slots.result
+          c.slots_in_block-whole.result whole (omega (arith, e)) in omega (arith, past, slots)),
     )
 
 pub loop-index-preserved : goal.loop-index-preserved
@@ -27,10 +29,13 @@ loop-index-preserved g c =
     let slots = c.slots_of-slots.ensures in
     let whole = c.slots_in_block-whole.ensures.value in
     let first = ap (λ (w : ℕ). w * (c.loop-index.index - 1)) whole in
-    let low : per_block c.args.header.form * (c.loop-index.index - 1) < slot_count c.args.header = let one = block_before c.args.header.form c.loop-index.index t in omega (arith, u, one) in
-    let is : c.min-count.result ≡ min (slot_count c.args.header - per_block c.args.header.form * (c.loop-index.index - 1)) (per_block c.args.header.form) = omega (arith, m, first, whole, slots) in (
+    let low : per_block c.args.header.form * (c.loop-index.index - 1) < slot_count c.args.header =
+    let one = block_before c.args.header.form c.loop-index.index t in omega (arith, u, one) in
+    let is : c.min-count.result ≡ min (slot_count c.args.header - per_block c.args.header.form * (c.loop-index.index - 1))
+    (per_block c.args.header.form) = omega (arith, m, first, whole, slots) in (
       omega (arith, low),
-      list_goes_on c.args.directory.value c.args.header (g.F.Files.state c.args.files.now) (g.F.Files.state c.loop-index.files) (g.F.Files.state c.list_block.new.files)
+      list_goes_on c.args.directory.value c.args.header (g.F.Files.state c.args.files.now) (g.F.Files.state c.loop-index.files)
+          (g.F.Files.state c.list_block.new.files)
           c.loop-index.index (c.loop-index.index - 1) c.min-count.result c.loop-index.entries.items is low c.loop-index.invariant.1
           c.list_block.new.entries.items (g.met.F.Files.lawful c.args.files.now) t refl c.list_block.ensures.reads c.in-Ok.ensures.done,
     )
@@ -43,10 +48,14 @@ returns-in-Err-clause-failed g c other =
     let slots = c.slots_of-slots.ensures in
     let whole = c.slots_in_block-whole.ensures.value in
     let first = ap (λ (w : ℕ). w * (c.loop-index.index - 1)) whole in
-    let low : per_block c.args.header.form * (c.loop-index.index - 1) < slot_count c.args.header = let one = block_before c.args.header.form c.loop-index.index t in omega (arith, u, one) in
-    let is : c.min-count.result ≡ min (slot_count c.args.header - per_block c.args.header.form * (c.loop-index.index - 1)) (per_block c.args.header.form) = omega (arith, m, first, whole, slots) in
-    list_fails c.args.directory.value c.args.header (g.F.Files.state c.args.files.now) (g.F.Files.state c.loop-index.files) (g.F.Files.state c.list_block.new.files)
-    c.loop-index.index (c.loop-index.index - 1) c.min-count.result c.loop-index.entries.items is low c.loop-index.invariant.1 (c.in-Err.ensures.failed other)
+    let low : per_block c.args.header.form * (c.loop-index.index - 1) < slot_count c.args.header =
+    let one = block_before c.args.header.form c.loop-index.index t in omega (arith, u, one) in
+    let is : c.min-count.result ≡ min (slot_count c.args.header - per_block c.args.header.form * (c.loop-index.index - 1))
+    (per_block c.args.header.form) = omega (arith, m, first, whole, slots) in
+    list_fails c.args.directory.value c.args.header (g.F.Files.state c.args.files.now) (g.F.Files.state c.loop-index.files)
+    (g.F.Files.state c.list_block.new.files)
+    c.loop-index.index (c.loop-index.index - 1) c.min-count.result c.loop-index.entries.items is low c.loop-index.invariant.1
+    (c.in-Err.ensures.failed other)
 
 pub returns-in-Err-clause-malformed : goal.returns-in-Err-clause-malformed
 returns-in-Err-clause-malformed g c same =
@@ -56,9 +65,12 @@ returns-in-Err-clause-malformed g c same =
     let slots = c.slots_of-slots.ensures in
     let whole = c.slots_in_block-whole.ensures.value in
     let first = ap (λ (w : ℕ). w * (c.loop-index.index - 1)) whole in
-    let low : per_block c.args.header.form * (c.loop-index.index - 1) < slot_count c.args.header = let one = block_before c.args.header.form c.loop-index.index t in omega (arith, u, one) in
-    let is : c.min-count.result ≡ min (slot_count c.args.header - per_block c.args.header.form * (c.loop-index.index - 1)) (per_block c.args.header.form) = omega (arith, m, first, whole, slots) in
-    slot_lacks c.args.directory.value c.args.header (g.F.Files.state c.args.files.now) (g.F.Files.state c.loop-index.files) (g.F.Files.state c.list_block.new.files)
+    let low : per_block c.args.header.form * (c.loop-index.index - 1) < slot_count c.args.header =
+    let one = block_before c.args.header.form c.loop-index.index t in omega (arith, u, one) in
+    let is : c.min-count.result ≡ min (slot_count c.args.header - per_block c.args.header.form * (c.loop-index.index - 1))
+    (per_block c.args.header.form) = omega (arith, m, first, whole, slots) in
+    slot_lacks c.args.directory.value c.args.header (g.F.Files.state c.args.files.now) (g.F.Files.state c.loop-index.files)
+    (g.F.Files.state c.list_block.new.files)
     c.loop-index.index (c.loop-index.index - 1) c.min-count.result c.loop-index.entries.items is low c.loop-index.invariant.1
     (c.in-Err.ensures.malformed (other_result c.in-Err.fault ListFault.NoSlot same))
 
@@ -70,5 +82,6 @@ returns-in-Err-clause-device g c same =
 pub returns-in-Ok-put_in_order-clause-answer : goal.returns-in-Ok-put_in_order-clause-answer
 returns-in-Ok-put_in_order-clause-answer g c =
     let t = c.loop-index-test.false in
-    list_ends c.args.directory.value c.args.header (g.F.Files.state c.args.files.now) (g.F.Files.state c.loop-index.files) c.loop-index.index c.loop-index.entries.items c.put_in_order.new.entries.items
+    list_ends c.args.directory.value c.args.header (g.F.Files.state c.args.files.now)
+    (g.F.Files.state c.loop-index.files) c.loop-index.index c.loop-index.entries.items c.put_in_order.new.entries.items
     (omega (arith, t)) c.loop-index.invariant.1 c.in-Ok-put_in_order.ensures

@@ -17,34 +17,48 @@ returns-then-place-last-clause-done g c =
     let inside = c.requires.inside in
     let less = count_less c.args.header.form c.args.header.size in
     on_ok_weaker c.shrink.result
-    (λ shrinks. drops_last (g.F.Files.state c.args.files.now) (g.F.Files.state c.shrink.new.self) c.args.directory.value c.args.header c.args.place (omega (arith, at, inside, less))
-    (subst (λ (n : ℕ). Shrinks (g.F.Files.state c.args.files.now) (g.F.Files.state c.shrink.new.self) c.args.directory.value c.args.header (c.args.header.size - n)) value shrinks))
+    (λ shrinks. drops_last (g.F.Files.state c.args.files.now) (g.F.Files.state c.shrink.new.self) c.args.directory.value c.args.header
+    c.args.place (omega (arith, at, inside, less))
+    (subst (λ (n : ℕ). Shrinks (g.F.Files.state c.args.files.now) (g.F.Files.state c.shrink.new.self) c.args.directory.value c.args.header
+    (c.args.header.size - n)) value shrinks))
     c.shrink.ensures.done
 
 pub returns-in-Err-clause-redrafts : goal.returns-in-Err-clause-redrafts
-returns-in-Err-clause-redrafts g c = redrafts_read (g.F.Files.state c.args.files.now) (g.F.Files.state c.block.new.self) c.block.ensures.reads
+returns-in-Err-clause-redrafts g c =
+    redrafts_read (g.F.Files.state c.args.files.now) (g.F.Files.state c.block.new.self) c.block.ensures.reads
 
 pub returns-in-Err-shrink-clause-redrafts : goal.returns-in-Err-shrink-clause-redrafts
 returns-in-Err-shrink-clause-redrafts g c =
-    redrafts_more (g.F.Files.state c.args.files.now) (g.F.Files.state c.block.new.self) (g.F.Files.state c.shrink-2.new.self) (g.met.F.Files.lawful c.args.files.now) (redrafts_read (g.F.Files.state c.args.files.now) (g.F.Files.state c.block.new.self) c.block.ensures.reads) c.shrink-2.ensures.redrafts
+    redrafts_more (g.F.Files.state c.args.files.now) (g.F.Files.state c.block.new.self) (g.F.Files.state c.shrink-2.new.self)
+    (g.met.F.Files.lawful c.args.files.now) (redrafts_read (g.F.Files.state c.args.files.now)
+    (g.F.Files.state c.block.new.self) c.block.ensures.reads) c.shrink-2.ensures.redrafts
 
 pub returns-in-Err-write_at-clause-redrafts : goal.returns-in-Err-write_at-clause-redrafts
 returns-in-Err-write_at-clause-redrafts g c =
-    redrafts_more (g.F.Files.state c.args.files.now) (g.F.Files.state c.shrink-2.new.self) (g.F.Files.state c.write_at.new.self) (g.met.F.Files.lawful c.args.files.now)
-    (redrafts_more (g.F.Files.state c.args.files.now) (g.F.Files.state c.block.new.self) (g.F.Files.state c.shrink-2.new.self) (g.met.F.Files.lawful c.args.files.now) (redrafts_read (g.F.Files.state c.args.files.now) (g.F.Files.state c.block.new.self) c.block.ensures.reads) c.shrink-2.ensures.redrafts) c.write_at.ensures.redrafts
+    redrafts_more (g.F.Files.state c.args.files.now) (g.F.Files.state c.shrink-2.new.self) (g.F.Files.state c.write_at.new.self)
+    (g.met.F.Files.lawful c.args.files.now)
+    (redrafts_more (g.F.Files.state c.args.files.now) (g.F.Files.state c.block.new.self) (g.F.Files.state c.shrink-2.new.self)
+    (g.met.F.Files.lawful c.args.files.now) (redrafts_read (g.F.Files.state c.args.files.now)
+    (g.F.Files.state c.block.new.self) c.block.ensures.reads) c.shrink-2.ensures.redrafts) c.write_at.ensures.redrafts
 
 pub returns-clause-redrafts : goal.returns-clause-redrafts
 returns-clause-redrafts g c =
-    redrafts_more (g.F.Files.state c.args.files.now) (g.F.Files.state c.shrink-2.new.self) (g.F.Files.state c.write_at.new.self) (g.met.F.Files.lawful c.args.files.now)
-    (redrafts_more (g.F.Files.state c.args.files.now) (g.F.Files.state c.block.new.self) (g.F.Files.state c.shrink-2.new.self) (g.met.F.Files.lawful c.args.files.now) (redrafts_read (g.F.Files.state c.args.files.now) (g.F.Files.state c.block.new.self) c.block.ensures.reads) c.shrink-2.ensures.redrafts) c.write_at.ensures.redrafts
+    redrafts_more (g.F.Files.state c.args.files.now) (g.F.Files.state c.shrink-2.new.self) (g.F.Files.state c.write_at.new.self)
+    (g.met.F.Files.lawful c.args.files.now)
+    (redrafts_more (g.F.Files.state c.args.files.now) (g.F.Files.state c.block.new.self) (g.F.Files.state c.shrink-2.new.self)
+    (g.met.F.Files.lawful c.args.files.now) (redrafts_read (g.F.Files.state c.args.files.now)
+    (g.F.Files.state c.block.new.self) c.block.ensures.reads) c.shrink-2.ensures.redrafts) c.write_at.ensures.redrafts
 
 pub returns-in-Err-shrink-clause-failed : goal.returns-in-Err-shrink-clause-failed
-returns-in-Err-shrink-clause-failed g c other = fault_more (g.F.Files.state c.args.files.now) (g.F.Files.state c.block.new.self) (g.F.Files.state c.shrink-2.new.self) c.block.ensures.reads (c.in-Err-shrink.ensures.failed other)
+returns-in-Err-shrink-clause-failed g c other = fault_more (g.F.Files.state c.args.files.now) (g.F.Files.state c.block.new.self)
+    (g.F.Files.state c.shrink-2.new.self) c.block.ensures.reads (c.in-Err-shrink.ensures.failed other)
 
 pub returns-in-Err-write_at-clause-failed : goal.returns-in-Err-write_at-clause-failed
 returns-in-Err-write_at-clause-failed g c other =
-    fails_last (g.F.Files.state c.args.files.now) (g.F.Files.state c.block.new.self) (g.F.Files.state c.shrink-2.new.self) (g.F.Files.state c.write_at.new.self) c.args.directory.value c.args.header (c.args.header.size - c.slot_len-slot.result)
-    c.block.ensures.reads c.shrink-2.ensures.redrafts c.write_at.ensures.redrafts c.in-Ok-shrink.ensures.done (c.in-Err-write_at.ensures.failed other)
+    fails_last (g.F.Files.state c.args.files.now) (g.F.Files.state c.block.new.self) (g.F.Files.state c.shrink-2.new.self)
+    (g.F.Files.state c.write_at.new.self) c.args.directory.value c.args.header (c.args.header.size - c.slot_len-slot.result)
+    c.block.ensures.reads c.shrink-2.ensures.redrafts c.write_at.ensures.redrafts c.in-Ok-shrink.ensures.done
+    (c.in-Err-write_at.ensures.failed other)
 
 pub returns-clause-done : goal.returns-clause-done
 returns-clause-done g c =
@@ -53,22 +67,38 @@ returns-clause-done g c =
     let again = c.slots_in_block-2.ensures.value in
     let other = subst (λ (n : ℕ). c.args.place ≡ (c.args.header.size - n) / n → ⊥) value c.if-place-last.false in
     let inside = c.requires.inside in
-    let last : (c.args.header.size - slot_len c.args.header.form) / slot_len c.args.header.form ≡ slot_count c.args.header - 1 = count_less c.args.header.form c.args.header.size in
+    let last : (c.args.header.size - slot_len c.args.header.form) / slot_len c.args.header.form ≡ slot_count c.args.header - 1 =
+    count_less c.args.header.form c.args.header.size in
     let long = c.nth_slot-bytes.ensures.long in
-    let read = slot_read (g.F.Files.state c.args.files.now) (g.F.Files.state c.block.new.self) c.args.directory.value c.args.header ((c.args.header.size - slot_len c.args.header.form) / slot_len c.args.header.form) c.block.new.out c.nth_slot-bytes.result.now
-    (subst (λ (n : ℕ). c.nth_slot-bytes.result.now ≡ part (slot_len c.args.header.form * ((c.args.header.size - n) / n % per_block c.args.header.form)) (slot_len c.args.header.form) c.block.new.out) value
-    (subst (λ (p : ℕ). c.nth_slot-bytes.result.now ≡ part (slot_len c.args.header.form * ((c.args.header.size - c.slot_len-slot.result) / c.slot_len-slot.result % p)) (slot_len c.args.header.form) c.block.new.out) again c.nth_slot-bytes.ensures.bytes))
-    (subst (λ (n : ℕ). TellsBlock (g.F.Files.state c.args.files.now) (g.F.Files.state c.block.new.self) c.args.directory.value ((c.args.header.size - n) / n / per_block c.args.header.form) c.block.new.out) value
-    (subst (λ (p : ℕ). TellsBlock (g.F.Files.state c.args.files.now) (g.F.Files.state c.block.new.self) c.args.directory.value ((c.args.header.size - c.slot_len-slot.result) / c.slot_len-slot.result / p) c.block.new.out) per c.in-Ok.ensures.answer)) in
-    drops_other (g.F.Files.state c.args.files.now) (g.F.Files.state c.block.new.self) (g.F.Files.state c.shrink-2.new.self) (g.F.Files.state c.write_at.new.self) c.args.directory.value c.args.header c.args.place c.nth_slot-bytes.result.now
+    let read = slot_read (g.F.Files.state c.args.files.now) (g.F.Files.state c.block.new.self) c.args.directory.value c.args.header
+    ((c.args.header.size - slot_len c.args.header.form) / slot_len c.args.header.form) c.block.new.out c.nth_slot-bytes.result.now
+    (subst (λ (n : ℕ). c.nth_slot-bytes.result.now ≡ part (slot_len c.args.header.form
+    * ((c.args.header.size - n) / n % per_block c.args.header.form)) (slot_len c.args.header.form) c.block.new.out) value
+    (subst (λ (p : ℕ). c.nth_slot-bytes.result.now ≡ part (slot_len c.args.header.form * ((c.args.header.size - c.slot_len-slot.result)
+    / c.slot_len-slot.result % p)) (slot_len c.args.header.form) c.block.new.out) again c.nth_slot-bytes.ensures.bytes))
+    (subst (λ (n : ℕ). TellsBlock (g.F.Files.state c.args.files.now) (g.F.Files.state c.block.new.self) c.args.directory.value
+    ((c.args.header.size - n) / n / per_block c.args.header.form) c.block.new.out) value
+    (subst (λ (p : ℕ). TellsBlock (g.F.Files.state c.args.files.now) (g.F.Files.state c.block.new.self) c.args.directory.value
+    ((c.args.header.size - c.slot_len-slot.result) / c.slot_len-slot.result / p) c.block.new.out) per c.in-Ok.ensures.answer)) in
+    drops_other (g.F.Files.state c.args.files.now) (g.F.Files.state c.block.new.self) (g.F.Files.state c.shrink-2.new.self)
+    (g.F.Files.state c.write_at.new.self) c.args.directory.value c.args.header c.args.place c.nth_slot-bytes.result.now
     (omega (arith, other, inside, last)) long c.block.ensures.reads c.shrink-2.ensures.redrafts c.write_at.ensures.redrafts
-    (subst (λ (p : ℕ). ReadsSlot (g.F.Files.state c.args.files.now) (g.F.Files.state c.block.new.self) c.args.directory.value c.args.header p c.nth_slot-bytes.result.now) last read)
-    (subst (λ (n : ℕ). Shrinks (g.F.Files.state c.block.new.self) (g.F.Files.state c.shrink-2.new.self) c.args.directory.value c.args.header (c.args.header.size - n)) value c.in-Ok-shrink.ensures.done)
-    (subst (λ (n : ℕ). Writes (g.F.Files.state c.shrink-2.new.self) (g.F.Files.state c.write_at.new.self) c.args.directory.value record { kind = c.args.header.kind; form = c.args.header.form; links = c.args.header.links; size = c.args.header.size - n } (n * c.args.place) c.nth_slot-bytes.result.now) value c.in-Ok-write_at.ensures.done)
+    (subst (λ (p : ℕ). ReadsSlot (g.F.Files.state c.args.files.now) (g.F.Files.state c.block.new.self) c.args.directory.value c.args.header
+    p c.nth_slot-bytes.result.now) last read)
+    (subst (λ (n : ℕ). Shrinks (g.F.Files.state c.block.new.self) (g.F.Files.state c.shrink-2.new.self) c.args.directory.value c.args.header
+    (c.args.header.size - n)) value c.in-Ok-shrink.ensures.done)
+    (subst (λ (n : ℕ). Writes (g.F.Files.state c.shrink-2.new.self) (g.F.Files.state c.write_at.new.self) c.args.directory.value
+    record {
+      kind = c.args.header.kind;
+      form = c.args.header.form;
+      links = c.args.header.links;
+      size = c.args.header.size - n;
+    } (n * c.args.place) c.nth_slot-bytes.result.now) value c.in-Ok-write_at.ensures.done)
 
 pub returns-then-place-last-clause-counted : goal.returns-then-place-last-clause-counted
 returns-then-place-last-clause-counted g c =
-    on_ok_weaker c.shrink.result (counts_last (g.F.Files.state c.args.files.now) (g.F.Files.state c.shrink.new.self) c.args.directory.value c.args.header) c.shrink.ensures.counted
+    on_ok_weaker c.shrink.result (counts_last (g.F.Files.state c.args.files.now) (g.F.Files.state c.shrink.new.self) c.args.directory.value
+    c.args.header) c.shrink.ensures.counted
 
 pub returns-clause-counted : goal.returns-clause-counted
 returns-clause-counted g c =
@@ -77,16 +107,27 @@ returns-clause-counted g c =
     let again = c.slots_in_block-2.ensures.value in
     let other = subst (λ (n : ℕ). c.args.place ≡ (c.args.header.size - n) / n → ⊥) value c.if-place-last.false in
     let inside = c.requires.inside in
-    let last : (c.args.header.size - slot_len c.args.header.form) / slot_len c.args.header.form ≡ slot_count c.args.header - 1 = count_less c.args.header.form c.args.header.size in
+    let last : (c.args.header.size - slot_len c.args.header.form) / slot_len c.args.header.form ≡ slot_count c.args.header - 1 =
+    count_less c.args.header.form c.args.header.size in
     let long = c.nth_slot-bytes.ensures.long in
-    let read = slot_read (g.F.Files.state c.args.files.now) (g.F.Files.state c.block.new.self) c.args.directory.value c.args.header ((c.args.header.size - slot_len c.args.header.form) / slot_len c.args.header.form) c.block.new.out c.nth_slot-bytes.result.now
-    (subst (λ (n : ℕ). c.nth_slot-bytes.result.now ≡ part (slot_len c.args.header.form * ((c.args.header.size - n) / n % per_block c.args.header.form)) (slot_len c.args.header.form) c.block.new.out) value
-    (subst (λ (p : ℕ). c.nth_slot-bytes.result.now ≡ part (slot_len c.args.header.form * ((c.args.header.size - c.slot_len-slot.result) / c.slot_len-slot.result % p)) (slot_len c.args.header.form) c.block.new.out) again c.nth_slot-bytes.ensures.bytes))
-    (subst (λ (n : ℕ). TellsBlock (g.F.Files.state c.args.files.now) (g.F.Files.state c.block.new.self) c.args.directory.value ((c.args.header.size - n) / n / per_block c.args.header.form) c.block.new.out) value
-    (subst (λ (p : ℕ). TellsBlock (g.F.Files.state c.args.files.now) (g.F.Files.state c.block.new.self) c.args.directory.value ((c.args.header.size - c.slot_len-slot.result) / c.slot_len-slot.result / p) c.block.new.out) per c.in-Ok.ensures.answer)) in
-    counts_other (g.F.Files.state c.args.files.now) (g.F.Files.state c.block.new.self) (g.F.Files.state c.shrink-2.new.self) (g.F.Files.state c.write_at.new.self) c.args.directory.value c.args.header c.args.place c.nth_slot-bytes.result.now
+    let read = slot_read (g.F.Files.state c.args.files.now) (g.F.Files.state c.block.new.self) c.args.directory.value c.args.header
+    ((c.args.header.size - slot_len c.args.header.form) / slot_len c.args.header.form) c.block.new.out c.nth_slot-bytes.result.now
+    (subst (λ (n : ℕ). c.nth_slot-bytes.result.now ≡ part (slot_len c.args.header.form
+    * ((c.args.header.size - n) / n % per_block c.args.header.form)) (slot_len c.args.header.form) c.block.new.out) value
+    (subst (λ (p : ℕ). c.nth_slot-bytes.result.now ≡ part (slot_len c.args.header.form * ((c.args.header.size - c.slot_len-slot.result)
+    / c.slot_len-slot.result % p)) (slot_len c.args.header.form) c.block.new.out) again c.nth_slot-bytes.ensures.bytes))
+    (subst (λ (n : ℕ). TellsBlock (g.F.Files.state c.args.files.now) (g.F.Files.state c.block.new.self) c.args.directory.value
+    ((c.args.header.size - n) / n / per_block c.args.header.form) c.block.new.out) value
+    (subst (λ (p : ℕ). TellsBlock (g.F.Files.state c.args.files.now) (g.F.Files.state c.block.new.self) c.args.directory.value
+    ((c.args.header.size - c.slot_len-slot.result) / c.slot_len-slot.result / p) c.block.new.out) per c.in-Ok.ensures.answer)) in
+    counts_other (g.F.Files.state c.args.files.now) (g.F.Files.state c.block.new.self) (g.F.Files.state c.shrink-2.new.self)
+    (g.F.Files.state c.write_at.new.self) c.args.directory.value c.args.header c.args.place c.nth_slot-bytes.result.now
     (omega (arith, other, inside, last)) long c.block.ensures.reads c.shrink-2.ensures.redrafts c.write_at.ensures.redrafts
-    (subst (λ (p : ℕ). ReadsSlot (g.F.Files.state c.args.files.now) (g.F.Files.state c.block.new.self) c.args.directory.value c.args.header p c.nth_slot-bytes.result.now) last read)
-    (subst (λ (n : ℕ). Shrinks (g.F.Files.state c.block.new.self) (g.F.Files.state c.shrink-2.new.self) c.args.directory.value c.args.header (c.args.header.size - n)) value c.in-Ok-shrink.ensures.done)
-    (subst (λ (n : ℕ). Writes (g.F.Files.state c.shrink-2.new.self) (g.F.Files.state c.write_at.new.self) c.args.directory.value record { kind = c.args.header.kind; form = c.args.header.form; links = c.args.header.links; size = c.args.header.size - n } (n * c.args.place) c.nth_slot-bytes.result.now) value c.in-Ok-write_at.ensures.done) c.requires.size
+    (subst (λ (p : ℕ). ReadsSlot (g.F.Files.state c.args.files.now) (g.F.Files.state c.block.new.self) c.args.directory.value c.args.header
+    p c.nth_slot-bytes.result.now) last read)
+    (subst (λ (n : ℕ). Shrinks (g.F.Files.state c.block.new.self) (g.F.Files.state c.shrink-2.new.self) c.args.directory.value c.args.header
+    (c.args.header.size - n)) value c.in-Ok-shrink.ensures.done)
+    (subst (λ (n : ℕ). Writes (g.F.Files.state c.shrink-2.new.self) (g.F.Files.state c.write_at.new.self) c.args.directory.value
+    record { kind = c.args.header.kind; form = c.args.header.form; links = c.args.header.links; size = c.args.header.size - n }
+    (n * c.args.place) c.nth_slot-bytes.result.now) value c.in-Ok-write_at.ensures.done) c.requires.size
     c.in-Ok-shrink.ensures.counted c.in-Ok-write_at.ensures.counted

@@ -4,37 +4,46 @@ use Rattle.lfs_dirs.proofs.Takings.{counts_behind, takes}
 use Rattle.lfs_dirs.proofs.taking.take.Goals as goal
 
 pub returns-in-Ok-None-clause-redrafts : goal.returns-in-Ok-None-clause-redrafts
-returns-in-Ok-None-clause-redrafts g c = redrafts_read (g.F.Files.state c.args.files.now) (g.F.Files.state c.search_from.new.files) c.search_from.ensures.reads
+returns-in-Ok-None-clause-redrafts g c =
+    redrafts_read (g.F.Files.state c.args.files.now) (g.F.Files.state c.search_from.new.files) c.search_from.ensures.reads
 
 pub returns-in-Err-clause-redrafts : goal.returns-in-Err-clause-redrafts
-returns-in-Err-clause-redrafts g c = redrafts_read (g.F.Files.state c.args.files.now) (g.F.Files.state c.search_from.new.files) c.search_from.ensures.reads
+returns-in-Err-clause-redrafts g c =
+    redrafts_read (g.F.Files.state c.args.files.now) (g.F.Files.state c.search_from.new.files) c.search_from.ensures.reads
 
 pub returns-in-Err-drop_slot-clause-redrafts : goal.returns-in-Err-drop_slot-clause-redrafts
 returns-in-Err-drop_slot-clause-redrafts g c =
-    redrafts_more (g.F.Files.state c.args.files.now) (g.F.Files.state c.search_from.new.files) (g.F.Files.state c.drop_slot.new.files) (g.met.F.Files.lawful c.args.files.now)
-    (redrafts_read (g.F.Files.state c.args.files.now) (g.F.Files.state c.search_from.new.files) c.search_from.ensures.reads) c.drop_slot.ensures.redrafts
+    redrafts_more (g.F.Files.state c.args.files.now) (g.F.Files.state c.search_from.new.files) (g.F.Files.state c.drop_slot.new.files)
+    (g.met.F.Files.lawful c.args.files.now)
+    (redrafts_read (g.F.Files.state c.args.files.now) (g.F.Files.state c.search_from.new.files) c.search_from.ensures.reads)
+    c.drop_slot.ensures.redrafts
 
 pub returns-clause-redrafts : goal.returns-clause-redrafts
 returns-clause-redrafts g c =
-    redrafts_more (g.F.Files.state c.args.files.now) (g.F.Files.state c.search_from.new.files) (g.F.Files.state c.drop_slot.new.files) (g.met.F.Files.lawful c.args.files.now)
-    (redrafts_read (g.F.Files.state c.args.files.now) (g.F.Files.state c.search_from.new.files) c.search_from.ensures.reads) c.drop_slot.ensures.redrafts
+    redrafts_more (g.F.Files.state c.args.files.now) (g.F.Files.state c.search_from.new.files) (g.F.Files.state c.drop_slot.new.files)
+    (g.met.F.Files.lawful c.args.files.now)
+    (redrafts_read (g.F.Files.state c.args.files.now) (g.F.Files.state c.search_from.new.files) c.search_from.ensures.reads)
+    c.drop_slot.ensures.redrafts
 
 pub returns-in-Ok-None-clause-none : goal.returns-in-Ok-None-clause-none
 returns-in-Ok-None-clause-none g c is = rw c.in-Ok-None.field-0-is at c.in-Ok-None.ensures.none
 
 pub returns-in-Err-drop_slot-clause-failed : goal.returns-in-Err-drop_slot-clause-failed
 returns-in-Err-drop_slot-clause-failed g c other =
-    fails_behind (g.F.Files.state c.args.files.now) (g.F.Files.state c.search_from.new.files) (g.F.Files.state c.drop_slot.new.files) c.args.directory.value c.args.header
+    fails_behind (g.F.Files.state c.args.files.now) (g.F.Files.state c.search_from.new.files)
+    (g.F.Files.state c.drop_slot.new.files) c.args.directory.value c.args.header
     c.search_from.ensures.reads (c.in-Err-drop_slot.ensures.failed other)
 
 pub returns-clause-done : goal.returns-clause-done
 returns-clause-done g c is =
-    takes (g.F.Files.state c.args.files.now) (g.F.Files.state c.search_from.new.files) (g.F.Files.state c.drop_slot.new.files) c.args.directory.value c.args.header c.args.name.now c.in-Ok-Some.found
+    takes (g.F.Files.state c.args.files.now) (g.F.Files.state c.search_from.new.files)
+    (g.F.Files.state c.drop_slot.new.files) c.args.directory.value c.args.header c.args.name.now c.in-Ok-Some.found
     c.search_from.ensures.reads c.drop_slot.ensures.redrafts
     (rw c.in-Ok-Some.field-0-is at c.in-Ok-Some.ensures.found)
     c.in-Ok.ensures.done
 
 pub returns-clause-counted : goal.returns-clause-counted
 returns-clause-counted g c is =
-    counts_behind (g.F.Files.state c.args.files.now) (g.F.Files.state c.search_from.new.files) (g.F.Files.state c.drop_slot.new.files) c.args.directory.value c.args.header
+    counts_behind (g.F.Files.state c.args.files.now) (g.F.Files.state c.search_from.new.files)
+    (g.F.Files.state c.drop_slot.new.files) c.args.directory.value c.args.header
     c.search_from.ensures.reads c.in-Ok.ensures.counted

@@ -6,7 +6,8 @@ use Rattle.lfs_dirs.proofs.Widths.{blocks_low, blocks_past}
 use Rattle.lfs_dirs.proofs.widening.wide_slots.Goals as goal
 
 pub loop-index-init : goal.loop-index-init
-loop-index-init g c = widening_begins c.args.directory.value c.args.header (g.F.Files.state c.args.files.now) c.new-slots.result.items c.new-slots.ensures.items
+loop-index-init g c = widening_begins c.args.directory.value c.args.header (g.F.Files.state c.args.files.now) c.new-slots.result.items
+    c.new-slots.ensures.items
 
 pub loop-index-preserved : goal.loop-index-preserved
 loop-index-preserved g c =
@@ -14,8 +15,10 @@ loop-index-preserved g c =
     let e = c.div_ceil-index-end.ensures in
     let all = c.slots_of-all.ensures in
     let low : per_block c.args.header.form * c.loop-index.index < slot_count c.args.header =
-    (let less = blocks_low c.args.header.form c.loop-index.index c.slots_of-all.result c.slots_in_block-whole.result c.slots_in_block-whole.ensures.value (omega (arith, t, e)) in omega (arith, less, all)) in
-    widening_goes_on c.args.directory.value c.args.header (g.F.Files.state c.args.files.now) (g.F.Files.state c.loop-index.files) (g.F.Files.state c.widen_nth.new.files)
+    (let less = blocks_low c.args.header.form c.loop-index.index c.slots_of-all.result c.slots_in_block-whole.result
+    c.slots_in_block-whole.ensures.value (omega (arith, t, e)) in omega (arith, less, all)) in
+    widening_goes_on c.args.directory.value c.args.header (g.F.Files.state c.args.files.now) (g.F.Files.state c.loop-index.files)
+    (g.F.Files.state c.widen_nth.new.files)
     c.loop-index.index (count_in_nth c.args.header c.loop-index.index) c.loop-index.slots.items refl low c.loop-index.invariant
     c.widen_nth.new.slots.items (g.met.F.Files.lawful c.args.files.now) c.widen_nth.ensures.reads c.in-Ok.ensures.long c.in-Ok.ensures.done
 
@@ -25,27 +28,39 @@ returns-in-Err-clause-failed g c other =
     let e = c.div_ceil-index-end.ensures in
     let all = c.slots_of-all.ensures in
     let low : per_block c.args.header.form * c.loop-index.index < slot_count c.args.header =
-    (let less = blocks_low c.args.header.form c.loop-index.index c.slots_of-all.result c.slots_in_block-whole.result c.slots_in_block-whole.ensures.value (omega (arith, t, e)) in omega (arith, less, all)) in
-    widening_fails c.args.directory.value c.args.header (g.F.Files.state c.args.files.now) (g.F.Files.state c.loop-index.files) (g.F.Files.state c.widen_nth.new.files)
-    c.loop-index.index (count_in_nth c.args.header c.loop-index.index) c.loop-index.slots.items refl low c.loop-index.invariant (c.in-Err.ensures.failed other)
+    (let less = blocks_low c.args.header.form c.loop-index.index c.slots_of-all.result c.slots_in_block-whole.result
+    c.slots_in_block-whole.ensures.value (omega (arith, t, e)) in omega (arith, less, all)) in
+    widening_fails c.args.directory.value c.args.header (g.F.Files.state c.args.files.now) (g.F.Files.state c.loop-index.files)
+    (g.F.Files.state c.widen_nth.new.files)
+    c.loop-index.index (count_in_nth c.args.header c.loop-index.index) c.loop-index.slots.items refl low c.loop-index.invariant
+    (c.in-Err.ensures.failed other)
 
 pub returns-clause-answer : goal.returns-clause-answer
 returns-clause-answer g c =
     let t = c.loop-index-test.false in
     let e = c.div_ceil-index-end.ensures in
-    widening_ends c.args.directory.value c.args.header (g.F.Files.state c.args.files.now) (g.F.Files.state c.loop-index.files) c.loop-index.index c.loop-index.slots.items
-    (let past = blocks_past c.args.header.form c.loop-index.index c.slots_of-all.result c.slots_in_block-whole.result c.slots_in_block-whole.ensures.value (omega (arith, t, e)) in let all = c.slots_of-all.ensures in omega (arith, past, all)) c.loop-index.invariant
+    widening_ends c.args.directory.value c.args.header (g.F.Files.state c.args.files.now)
+    (g.F.Files.state c.loop-index.files) c.loop-index.index c.loop-index.slots.items
+    (let past = blocks_past c.args.header.form c.loop-index.index c.slots_of-all.result c.slots_in_block-whole.result
+    c.slots_in_block-whole.ensures.value (omega (arith, t, e)) in let all = c.slots_of-all.ensures in
+    omega (arith, past, all)) c.loop-index.invariant
 
 pub returns-clause-long : goal.returns-clause-long
 returns-clause-long g c =
     let t = c.loop-index-test.false in
     let e = c.div_ceil-index-end.ensures in
-    widening_long c.args.directory.value c.args.header (g.F.Files.state c.args.files.now) (g.F.Files.state c.loop-index.files) c.loop-index.index c.loop-index.slots.items
-    (let past = blocks_past c.args.header.form c.loop-index.index c.slots_of-all.result c.slots_in_block-whole.result c.slots_in_block-whole.ensures.value (omega (arith, t, e)) in let all = c.slots_of-all.ensures in omega (arith, past, all)) c.loop-index.invariant
+    widening_long c.args.directory.value c.args.header (g.F.Files.state c.args.files.now)
+    (g.F.Files.state c.loop-index.files) c.loop-index.index c.loop-index.slots.items
+    (let past = blocks_past c.args.header.form c.loop-index.index c.slots_of-all.result c.slots_in_block-whole.result
+    c.slots_in_block-whole.ensures.value (omega (arith, t, e)) in let all = c.slots_of-all.ensures in
+    omega (arith, past, all)) c.loop-index.invariant
 
 pub returns-clause-few : goal.returns-clause-few
 returns-clause-few g c =
     let t = c.loop-index-test.false in
     let e = c.div_ceil-index-end.ensures in
-    widening_few c.args.directory.value c.args.header (g.F.Files.state c.args.files.now) (g.F.Files.state c.loop-index.files) c.loop-index.index c.loop-index.slots.items c.requires.size
-    (let past = blocks_past c.args.header.form c.loop-index.index c.slots_of-all.result c.slots_in_block-whole.result c.slots_in_block-whole.ensures.value (omega (arith, t, e)) in let all = c.slots_of-all.ensures in omega (arith, past, all)) c.loop-index.invariant
+    widening_few c.args.directory.value c.args.header (g.F.Files.state c.args.files.now)
+    (g.F.Files.state c.loop-index.files) c.loop-index.index c.loop-index.slots.items c.requires.size
+    (let past = blocks_past c.args.header.form c.loop-index.index c.slots_of-all.result c.slots_in_block-whole.result
+    c.slots_in_block-whole.ensures.value (omega (arith, t, e)) in let all = c.slots_of-all.ensures in
+    omega (arith, past, all)) c.loop-index.invariant

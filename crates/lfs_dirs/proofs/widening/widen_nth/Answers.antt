@@ -21,7 +21,8 @@ returns-in-Ok-clause-done g c =
     let whole = c.slots_in_block-whole.ensures.value in
     let first = ap (λ (w : ℕ). w * c.args.index) whole in
     let is : c.min-count.result ≡ count_in_nth c.args.header c.args.index = omega (arith, m, first, whole, slots) in
-    subst (λ (n : ℕ). WidensBlock (g.F.Files.state c.args.files.now) (g.F.Files.state c.widen_block.new.files) c.args.header.form c.args.directory.value c.args.index n c.args.slots.now.items c.widen_block.new.slots.items) is c.in-Ok.ensures.done
+    subst (λ (n : ℕ). WidensBlock (g.F.Files.state c.args.files.now) (g.F.Files.state c.widen_block.new.files) c.args.header.form
+    c.args.directory.value c.args.index n c.args.slots.now.items c.widen_block.new.slots.items) is c.in-Ok.ensures.done
 
 pub returns-in-Err-clause-failed : goal.returns-in-Err-clause-failed
 returns-in-Err-clause-failed g c other =
@@ -30,4 +31,5 @@ returns-in-Err-clause-failed g c other =
     let whole = c.slots_in_block-whole.ensures.value in
     let first = ap (λ (w : ℕ). w * c.args.index) whole in
     let is : c.min-count.result ≡ count_in_nth c.args.header c.args.index = omega (arith, m, first, whole, slots) in
-    subst (λ (n : ℕ). IsBlockFault (g.F.Files.state c.args.files.now) (g.F.Files.state c.widen_block.new.files) c.args.header.form c.args.directory.value c.args.index n) is (c.in-Err.ensures.failed other)
+    subst (λ (n : ℕ). IsBlockFault (g.F.Files.state c.args.files.now) (g.F.Files.state c.widen_block.new.files) c.args.header.form
+    c.args.directory.value c.args.index n) is (c.in-Err.ensures.failed other)

@@ -13,7 +13,8 @@ invariant-loop-index g l =
     let now = g.D.SectorDevice.state l.device in
     record {
       run : Chunk old now;
-      chunk : now.keeps_model → (version : ℕ) (before : Content) → HasChunk version l.segments 1 before old.content → HasChunk version l.segments l.index before now.content;
+      chunk : now.keeps_model → (version : ℕ) (before : Content) → HasChunk version l.segments 1 before old.content
+          → HasChunk version l.segments l.index before now.content;
       touched : Touches (5 + usage_blocks l.segments) old now;
       failures : now.failures ≡ old.failures;
       carries : Carries old now;

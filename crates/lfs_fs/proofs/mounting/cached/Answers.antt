@@ -18,7 +18,9 @@ returns-then-sectors-lt-LEAST_SECTORS-clause-reason g c =
     λ keeps. below_all d (g.met.D.SectorDevice.lawful c.args.device) small
 
 pub returns-in-Ok-clause-below_all : goal.returns-in-Ok-clause-below_all
-returns-in-Ok-clause-below_all g c = λ low. absurd (let least = c.if-sectors-lt-LEAST_SECTORS.false in let size = c.sectors.ensures in omega (arith, low, least, size))
+returns-in-Ok-clause-below_all g c =
+    λ low. absurd (let least = c.if-sectors-lt-LEAST_SECTORS.false in let size = c.sectors.ensures in omega (arith, low, least, size))
 
 pub returns-in-Err-clause-below_all : goal.returns-in-Err-clause-below_all
-returns-in-Err-clause-below_all g c = λ low. absurd (let least = c.if-sectors-lt-LEAST_SECTORS.false in let size = c.sectors.ensures in omega (arith, low, least, size))
+returns-in-Err-clause-below_all g c =
+    λ low. absurd (let least = c.if-sectors-lt-LEAST_SECTORS.false in let size = c.sectors.ensures in omega (arith, low, least, size))

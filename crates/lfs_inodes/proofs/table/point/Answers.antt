@@ -5,4 +5,5 @@ use Rattle.lfs_inodes.proofs.table.point.Goals as goal
 
 pub returns-clause-leads : goal.returns-clause-leads
 unfolding patched
-returns-clause-leads c some = subst HasPointer (sym c.set_word.ensures) (pointer_patched c.args.place c.args.number c.args.block.now (search rules) c.requires some (search rules))
+returns-clause-leads c some = subst HasPointer (sym c.set_word.ensures)
+    (pointer_patched c.args.place c.args.number c.args.block.now (search rules) c.requires some (search rules))

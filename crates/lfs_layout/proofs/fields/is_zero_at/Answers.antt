@@ -9,6 +9,7 @@ returns c =
     let e : bytes ≡ _ = part_cut c.args.at c.args.len c.args.sector.now in
     let each : IsTrue c.all.result ↔ ((i : ℕ) → i < length bytes → get_or bytes i 0 ≡ 0) = search rules in
     rw (← e) (
-      (λ yes. zeros_from_each bytes c.args.len (ap length e ∙ length-part c.args.at c.args.len c.args.sector.now (rw c.told-sector c.requires)) (each.0 yes)),
+      (λ yes. zeros_from_each bytes c.args.len
+          (ap length e ∙ length-part c.args.at c.args.len c.args.sector.now (rw c.told-sector c.requires)) (each.0 yes)),
       (λ are. each.1 (each_of_zeros bytes c.args.len are)),
     )

@@ -10,4 +10,5 @@ returns-clause-read c = c.read_u16.ensures ∙ little_at 2 c.args.at c.args.sect
 
 pub returns-clause-spelled : goal.returns-clause-spelled
 unfolding read16
-returns-clause-spelled c = ap le16 (c.read_u16.ensures ∙ little_at 2 c.args.at c.args.sector.now) ∙ le16_of_read c.args.at c.args.sector.now c.fits-sector (omega (arith, c.requires, c.told-sector))
+returns-clause-spelled c = ap le16 (c.read_u16.ensures ∙ little_at 2 c.args.at c.args.sector.now)
+    ∙ le16_of_read c.args.at c.args.sector.now c.fits-sector (omega (arith, c.requires, c.told-sector))

@@ -24,15 +24,21 @@ pub returns-then-slot-name : goal.returns-then-slot-name
 returns-then-slot-name c form s is =
     let at = stands form c.args.slot.now s is in
     let len = at.len in
-    let differ = c.if-slot-name.true in
-    (λ no. absurd (cc), λ same. (let long : length s.name ≡ length c.args.name.now = ap length same in absurd (omega (arith, len, long, differ))))
+    let differ = c.if-slot-name.true in (
+      λ no. absurd (cc),
+      λ same.
+          (let long : length s.name ≡ length c.args.name.now = ap length same in absurd (omega (arith, len, long, differ))),
+    )
 
 pub returns-then-name-slot : goal.returns-then-name-slot
 returns-then-name-slot c form s is =
     let at = stands form c.args.slot.now s is in
     let room = at.room in
-    let past = c.if-name-slot.true in
-    (λ no. absurd (cc), λ same. (let long : length s.name ≡ length c.args.name.now = ap length same in absurd (omega (arith, room, long, past))))
+    let past = c.if-name-slot.true in (
+      λ no. absurd (cc),
+      λ same.
+          (let long : length s.name ≡ length c.args.name.now = ap length same in absurd (omega (arith, room, long, past))),
+    )
 
 pub returns : goal.returns
 returns c form s is =

@@ -4,4 +4,5 @@ use Rattle.lfs_layout.proofs.Bytes.{part_cut}
 use Rattle.lfs_layout.proofs.slot.nth_slot.Goals as goal
 
 pub returns-clause-bytes : goal.returns-clause-bytes
-returns-clause-bytes c = rw c.slot_len-len.ensures.value (part_cut (slot_len c.args.form * c.args.place) (slot_len c.args.form) c.args.block.now)
+returns-clause-bytes c =
+    rw c.slot_len-len.ensures.value (part_cut (slot_len c.args.form * c.args.place) (slot_len c.args.form) c.args.block.now)

@@ -4,12 +4,14 @@ use Rattle.lfs_log.proofs.cleaning.empty_segments.Goals as goal
 
 pub returns-then-not-are_emptied-clause-failed : goal.returns-then-not-are_emptied-clause-failed
 returns-then-not-are_emptied-clause-failed g c is =
-    not_emptied (g.D.SectorDevice.state c.args.device.now) (g.D.SectorDevice.state c.relocate_all.new.device) c.args.memory.now c.relocate_all.new.memory c.args.victims.now
+    not_emptied (g.D.SectorDevice.state c.args.device.now) (g.D.SectorDevice.state c.relocate_all.new.device) c.args.memory.now
+    c.relocate_all.new.memory c.args.victims.now
     c.relocate_all.ensures.relocates c.in-Ok.ensures.vacates c.requires.victims (c.if-not-are_emptied.ensures.no (search rules))
 
 pub returns-clause-done : goal.returns-clause-done
 returns-clause-done g c =
-    empties (g.D.SectorDevice.state c.args.device.now) (g.D.SectorDevice.state c.relocate_all.new.device) c.args.memory.now c.relocate_all.new.memory c.tighten.new.memory c.args.victims.now
+    empties (g.D.SectorDevice.state c.args.device.now) (g.D.SectorDevice.state c.relocate_all.new.device) c.args.memory.now
+    c.relocate_all.new.memory c.tighten.new.memory c.args.victims.now
     c.relocate_all.ensures.relocates (c.if-not-are_emptied.ensures.yes (search rules)) c.tighten.ensures
 
 pub returns-in-Err-clause-full : goal.returns-in-Err-clause-full

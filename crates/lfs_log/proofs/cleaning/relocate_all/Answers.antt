@@ -18,13 +18,17 @@ loop-victim-init g c =
 
 pub returns-in-Err-clause-relocates : goal.returns-in-Err-clause-relocates
 returns-in-Err-clause-relocates g c =
-    relocates_then (g.D.SectorDevice.state c.args.device.now) (g.D.SectorDevice.state c.loop-victim.device) (g.D.SectorDevice.state c.relocate_segment.new.device)
-    c.args.memory.now c.loop-victim.memory c.relocate_segment.new.memory (g.met.D.SectorDevice.lawful c.args.device.now) c.loop-victim.invariant.relocates c.relocate_segment.ensures.relocates
+    relocates_then (g.D.SectorDevice.state c.args.device.now) (g.D.SectorDevice.state c.loop-victim.device)
+    (g.D.SectorDevice.state c.relocate_segment.new.device)
+    c.args.memory.now c.loop-victim.memory c.relocate_segment.new.memory
+    (g.met.D.SectorDevice.lawful c.args.device.now) c.loop-victim.invariant.relocates c.relocate_segment.ensures.relocates
 
 pub returns-in-Err-clause-failed : goal.returns-in-Err-clause-failed
 returns-in-Err-clause-failed g c is =
-    relocated_excused (g.D.SectorDevice.state c.args.device.now) (g.D.SectorDevice.state c.loop-victim.device) (g.D.SectorDevice.state c.relocate_segment.new.device)
-    c.args.memory.now c.loop-victim.memory c.loop-victim.invariant.relocates c.relocate_segment.ensures.relocates.looks (c.in-Err.ensures.failed (search rules))
+    relocated_excused (g.D.SectorDevice.state c.args.device.now) (g.D.SectorDevice.state c.loop-victim.device)
+    (g.D.SectorDevice.state c.relocate_segment.new.device)
+    c.args.memory.now c.loop-victim.memory c.loop-victim.invariant.relocates c.relocate_segment.ensures.relocates.looks
+    (c.in-Err.ensures.failed (search rules))
 
 pub loop-victim-preserved : goal.loop-victim-preserved
 loop-victim-preserved g c =
@@ -32,13 +36,17 @@ loop-victim-preserved g c =
     let now = g.D.SectorDevice.state c.loop-victim.device in
     let next = g.D.SectorDevice.state c.relocate_segment.new.device in
     record {
-      relocates = relocates_then old now next c.args.memory.now c.loop-victim.memory c.relocate_segment.new.memory (g.met.D.SectorDevice.lawful c.args.device.now) c.loop-victim.invariant.relocates
+      relocates = relocates_then old now next c.args.memory.now c.loop-victim.memory c.relocate_segment.new.memory
+          (g.met.D.SectorDevice.lawful c.args.device.now) c.loop-victim.invariant.relocates
           c.relocate_segment.ensures.relocates;
-      vacates = vacates_more old now next c.args.memory.now c.loop-victim.memory c.relocate_segment.new.memory c.args.victims.now c.loop-victim.victim-index _ (search rules)
+      vacates = vacates_more old now next c.args.memory.now c.loop-victim.memory c.relocate_segment.new.memory c.args.victims.now
+          c.loop-victim.victim-index _ (search rules)
           c.relocate_segment.ensures.relocates.looks.carries.kept_before c.in-Ok.ensures.vacates c.loop-victim.invariant.vacates;
-      came = came_then old now next c.args.memory.now c.loop-victim.memory c.relocate_segment.new.memory (IsAmong c.args.victims.now) c.loop-victim.invariant.relocates
+      came = came_then old now next c.args.memory.now c.loop-victim.memory c.relocate_segment.new.memory
+          (IsAmong c.args.victims.now) c.loop-victim.invariant.relocates
           c.relocate_segment.ensures.relocates.looks.carries.kept_before c.loop-victim.invariant.came
-          (came_among now next c.loop-victim.memory c.relocate_segment.new.memory c.args.victims.now c.loop-victim.victim-index _ (search rules) c.loop-victim-test.true c.relocate_segment.ensures.came);
+          (came_among now next c.loop-victim.memory c.relocate_segment.new.memory c.args.victims.now c.loop-victim.victim-index _
+          (search rules) c.loop-victim-test.true c.relocate_segment.ensures.came);
       no_failure = c.in-Ok.ensures.no_failure ∙ c.loop-victim.invariant.no_failure;
     }
 
@@ -53,15 +61,19 @@ returns-in-Err-clause-came g c =
     let old = g.D.SectorDevice.state c.args.device.now in
     let now = g.D.SectorDevice.state c.loop-victim.device in
     let next = g.D.SectorDevice.state c.relocate_segment.new.device in
-    came_then old now next c.args.memory.now c.loop-victim.memory c.relocate_segment.new.memory (IsAmong c.args.victims.now) c.loop-victim.invariant.relocates
+    came_then old now next c.args.memory.now c.loop-victim.memory c.relocate_segment.new.memory
+    (IsAmong c.args.victims.now) c.loop-victim.invariant.relocates
     c.relocate_segment.ensures.relocates.looks.carries.kept_before c.loop-victim.invariant.came
-    (came_among now next c.loop-victim.memory c.relocate_segment.new.memory c.args.victims.now c.loop-victim.victim-index _ (search rules) c.loop-victim-test.true c.relocate_segment.ensures.came)
+    (came_among now next c.loop-victim.memory c.relocate_segment.new.memory c.args.victims.now c.loop-victim.victim-index _
+    (search rules) c.loop-victim-test.true c.relocate_segment.ensures.came)
 
 pub returns-in-Err-clause-misses : goal.returns-in-Err-clause-misses
 returns-in-Err-clause-misses g c is =
     let old = g.D.SectorDevice.state c.args.device.now in
     let now = g.D.SectorDevice.state c.loop-victim.device in
     let next = g.D.SectorDevice.state c.relocate_segment.new.device in
-    misses_then old now next c.args.memory.now c.loop-victim.memory c.relocate_segment.new.memory (IsAmong c.args.victims.now) c.loop-victim.invariant.relocates
+    misses_then old now next c.args.memory.now c.loop-victim.memory c.relocate_segment.new.memory
+    (IsAmong c.args.victims.now) c.loop-victim.invariant.relocates
     c.relocate_segment.ensures.relocates.looks.carries.kept_before
-    (misses_among now next c.loop-victim.memory c.relocate_segment.new.memory c.args.victims.now c.loop-victim.victim-index _ (search rules) c.loop-victim-test.true (c.in-Err.ensures.misses (search rules)))
+    (misses_among now next c.loop-victim.memory c.relocate_segment.new.memory c.args.victims.now c.loop-victim.victim-index _
+    (search rules) c.loop-victim-test.true (c.in-Err.ensures.misses (search rules)))

@@ -12,7 +12,8 @@ pub returns-in_err-seal_rest-clause-stopped : goal.returns-in_err-seal_rest-clau
 returns-in_err-seal_rest-clause-stopped g c =
     on_err c.from_residual-in_err-seal_rest.result
     (Stops (g.D.SectorDevice.state c.args.device.now) (g.D.SectorDevice.state c.seal_rest.new.device) c.args.memory.now)
-    (stops_then 62 (g.D.SectorDevice.state c.args.device.now) (g.D.SectorDevice.state c.place_all.new.device) (g.D.SectorDevice.state c.seal_rest.new.device)
+    (stops_then 62 (g.D.SectorDevice.state c.args.device.now) (g.D.SectorDevice.state c.place_all.new.device)
+    (g.D.SectorDevice.state c.seal_rest.new.device)
     c.args.memory.now c.place_all.new.memory _ c.in_ok-place_all.ensures.done c.in_err-seal_rest.ensures.stopped)
 
 -- src/committing.rt:76:5
@@ -20,20 +21,26 @@ pub returns-in_err-fill_usage-clause-stopped : goal.returns-in_err-fill_usage-cl
 returns-in_err-fill_usage-clause-stopped g c =
     on_err c.from_residual-in_err-fill_usage.result
     (Stops (g.D.SectorDevice.state c.args.device.now) (g.D.SectorDevice.state c.fill_usage.new.device) c.args.memory.now)
-    (stops_then 62 (g.D.SectorDevice.state c.args.device.now) (g.D.SectorDevice.state c.place_all.new.device) (g.D.SectorDevice.state c.fill_usage.new.device)
+    (stops_then 62 (g.D.SectorDevice.state c.args.device.now) (g.D.SectorDevice.state c.place_all.new.device)
+    (g.D.SectorDevice.state c.fill_usage.new.device)
     c.args.memory.now c.place_all.new.memory _ c.in_ok-place_all.ensures.done
-    (stops_then 62 (g.D.SectorDevice.state c.place_all.new.device) (g.D.SectorDevice.state c.seal_rest.new.device) (g.D.SectorDevice.state c.fill_usage.new.device)
+    (stops_then 62 (g.D.SectorDevice.state c.place_all.new.device) (g.D.SectorDevice.state c.seal_rest.new.device)
+    (g.D.SectorDevice.state c.fill_usage.new.device)
     c.place_all.new.memory c.seal_rest.new.memory _ c.in_ok-seal_rest.ensures.done c.in_err-fill_usage.ensures.stopped))
 
 -- src/committing.rt:58:1
 pub returns-clause-done : goal.returns-clause-done
 returns-clause-done g c =
     let n = length c.args.memory.now.dirty.blocks + 48 + 62 in
-    goes_at_most (g.D.SectorDevice.state c.args.device.now) (g.D.SectorDevice.state c.fill_usage.new.device) c.args.memory.now c.fill_usage.new.memory (n + 0) n (omega arith)
-    (goes_then 62 62 (g.D.SectorDevice.state c.args.device.now) (g.D.SectorDevice.state c.seal_rest.new.device) (g.D.SectorDevice.state c.fill_usage.new.device)
+    goes_at_most (g.D.SectorDevice.state c.args.device.now) (g.D.SectorDevice.state c.fill_usage.new.device) c.args.memory.now
+    c.fill_usage.new.memory (n + 0) n (omega arith)
+    (goes_then 62 62 (g.D.SectorDevice.state c.args.device.now) (g.D.SectorDevice.state c.seal_rest.new.device)
+    (g.D.SectorDevice.state c.fill_usage.new.device)
     c.args.memory.now c.seal_rest.new.memory c.fill_usage.new.memory (length c.args.memory.now.dirty.blocks + 48 + 62) 0
-    (goes_then 62 62 (g.D.SectorDevice.state c.args.device.now) (g.D.SectorDevice.state c.place_all.new.device) (g.D.SectorDevice.state c.seal_rest.new.device)
-    c.args.memory.now c.place_all.new.memory c.seal_rest.new.memory (length c.args.memory.now.dirty.blocks + 48) 62 c.in_ok-place_all.ensures.done c.in_ok-seal_rest.ensures.done)
+    (goes_then 62 62 (g.D.SectorDevice.state c.args.device.now) (g.D.SectorDevice.state c.place_all.new.device)
+    (g.D.SectorDevice.state c.seal_rest.new.device)
+    c.args.memory.now c.place_all.new.memory c.seal_rest.new.memory
+    (length c.args.memory.now.dirty.blocks + 48) 62 c.in_ok-place_all.ensures.done c.in_ok-seal_rest.ensures.done)
     c.in_ok-fill_usage.ensures.done)
 
 -- src/committing.rt:76:5
@@ -42,7 +49,8 @@ place_all-requires-clause-room g c = room_there c.args.memory.now (length c.args
 
 pub returns-clause-taken : goal.returns-clause-taken
 returns-clause-taken g c =
-    let taken = segments_taken c.args.memory.now c.place_all.new.memory (length c.args.memory.now.dirty.blocks) c.requires.closed c.in_ok-place_all.ensures.done.memory c.in_ok-place_all.ensures.done.room in
+    let taken = segments_taken c.args.memory.now c.place_all.new.memory (length c.args.memory.now.dirty.blocks) c.requires.closed
+    c.in_ok-place_all.ensures.done.memory c.in_ok-place_all.ensures.done.room in
     let same = ap clean_in (c.in_ok-fill_usage.ensures.segments ∙ ap (λ (u : UsageTable). u.segments) c.seal_rest.ensures.usage) in
     omega (arith, taken, same)
 
@@ -54,5 +62,6 @@ returns-clause-out g c =
       dirty = ap (λ (t : TableValue). t.blocks) (c.fill_usage.ensures.dirty ∙ c.seal_rest.ensures.dirty) ∙ c.in_ok-place_all.ensures.dirty;
       maps = subst AreMapsOut (sym (c.fill_usage.ensures.map ∙ c.seal_rest.ensures.map)) c.in_ok-place_all.ensures.maps;
       fresh = c.in_ok-fill_usage.ensures.fresh;
-      many = many_spare c.args.memory.now c.fill_usage.new.memory (length c.args.memory.now.dirty.blocks) goes.segments goes.emptied c.requires.spare (returns-clause-taken g c);
+      many = many_spare c.args.memory.now c.fill_usage.new.memory (length c.args.memory.now.dirty.blocks) goes.segments goes.emptied
+          c.requires.spare (returns-clause-taken g c);
     }

@@ -11,5 +11,6 @@ invariant-loop g l = record {
   early : GoesEarly l.initial.memory l.memory l.counter;
   left : data_count l.memory.dirty + l.counter ≡ data_count l.initial.memory.dirty;
   capacity : l.memory.dirty.capacity ≡ l.initial.memory.dirty.capacity;
-  tells : orders_due (g.D.SectorDevice.state l.device) l.memory ≤ orders_due (g.D.SectorDevice.state l.initial.device) l.initial.memory + l.counter;
+  tells : orders_due (g.D.SectorDevice.state l.device) l.memory ≤ orders_due (g.D.SectorDevice.state l.initial.device) l.initial.memory
+      + l.counter;
 }

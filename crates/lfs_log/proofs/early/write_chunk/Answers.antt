@@ -9,7 +9,8 @@ use Rattle.lfs_log.proofs.early.write_chunk.Goals as goal
 
 pub save_chunk-requires-clause-memory : goal.save_chunk-requires-clause-memory
 save_chunk-requires-clause-memory g c =
-    (ended_goes (g.D.SectorDevice.state c.args.device.now) c.args.memory.now c.end_last.new.self c.end_last.ensures (g.met.D.SectorDevice.lawful c.args.device.now) c.requires.memory c.requires.closed).memory
+    (ended_goes (g.D.SectorDevice.state c.args.device.now) c.args.memory.now c.end_last.new.self c.end_last.ensures
+    (g.met.D.SectorDevice.lawful c.args.device.now) c.requires.memory c.requires.closed).memory
 
 pub save_chunk-requires-clause-fresh : goal.save_chunk-requires-clause-fresh
 save_chunk-requires-clause-fresh g c = ended_fresh c.args.memory.now c.end_last.new.self c.end_last.ensures c.requires.closed
@@ -26,14 +27,16 @@ returns-in_err-save_chunk-clause-stopped g c =
     let v = c.args.memory.now in
     on_err c.from_residual.result (Stops d (g.D.SectorDevice.state c.save_chunk.new.device) v)
     (stops_then 62 d d (g.D.SectorDevice.state c.save_chunk.new.device) v (record v { usage = c.end_last.new.self }) 0
-    (ended_goes d v c.end_last.new.self c.end_last.ensures (g.met.D.SectorDevice.lawful c.args.device.now) c.requires.memory c.requires.closed) c.in_err-save_chunk.ensures.stopped)
+    (ended_goes d v c.end_last.new.self c.end_last.ensures (g.met.D.SectorDevice.lawful c.args.device.now) c.requires.memory
+    c.requires.closed) c.in_err-save_chunk.ensures.stopped)
 
 pub returns-in_err-save_chunk-clause-most : goal.returns-in_err-save_chunk-clause-most
 returns-in_err-save_chunk-clause-most g c =
     let most = c.save_chunk.ensures.most in
     let same = ap (λ (u : UsageTable). clean_in u.segments) c.end_last.ensures in
     let room = c.save_chunk.ensures.room in
-    let le = chunk_told c.args.memory.now c.save_chunk.new.memory c.end_last.new.self (length (g.D.SectorDevice.state c.args.device.now).told) (length (g.D.SectorDevice.state c.save_chunk.new.device).told) 64
+    let le = chunk_told c.args.memory.now c.save_chunk.new.memory c.end_last.new.self
+    (length (g.D.SectorDevice.state c.args.device.now).told) (length (g.D.SectorDevice.state c.save_chunk.new.device).told) 64
     c.end_last.ensures c.requires.closed (omega (arith, same, room)) (omega (arith, most)) in
     omega (arith, le)
 
@@ -45,7 +48,8 @@ returns-in_err-seal_rest-clause-stopped g c =
     on_err c.from_residual-in_err-seal_rest.result (Stops d (g.D.SectorDevice.state c.seal_rest.new.device) v)
     (stops_then 62 d middle (g.D.SectorDevice.state c.seal_rest.new.device) v c.save_chunk.new.memory 63
     (goes_then 62 62 d d middle v (record v { usage = c.end_last.new.self }) c.save_chunk.new.memory 0 63
-    (ended_goes d v c.end_last.new.self c.end_last.ensures (g.met.D.SectorDevice.lawful c.args.device.now) c.requires.memory c.requires.closed) c.in_ok-save_chunk.ensures.done)
+    (ended_goes d v c.end_last.new.self c.end_last.ensures (g.met.D.SectorDevice.lawful c.args.device.now) c.requires.memory
+    c.requires.closed) c.in_ok-save_chunk.ensures.done)
     c.in_err-seal_rest.ensures.stopped)
 
 pub returns-in_err-seal_rest-clause-most : goal.returns-in_err-seal_rest-clause-most
@@ -55,7 +59,8 @@ returns-in_err-seal_rest-clause-most g c =
     let before = ap (λ (u : UsageTable). clean_in u.segments) c.end_last.ensures in
     let after = ap (λ (u : UsageTable). clean_in u.segments) c.seal_rest.ensures.usage in
     let room = c.save_chunk.ensures.room in
-    let le = chunk_told c.args.memory.now c.save_chunk.new.memory c.end_last.new.self (length (g.D.SectorDevice.state c.args.device.now).told) (length (g.D.SectorDevice.state c.seal_rest.new.device).told) 63
+    let le = chunk_told c.args.memory.now c.save_chunk.new.memory c.end_last.new.self
+    (length (g.D.SectorDevice.state c.args.device.now).told) (length (g.D.SectorDevice.state c.seal_rest.new.device).told) 63
     c.end_last.ensures c.requires.closed (omega (arith, before, room)) (omega (arith, tells, told, after)) in
     omega (arith, le)
 
@@ -66,7 +71,8 @@ returns-clause-done g c =
     let middle = g.D.SectorDevice.state c.save_chunk.new.device in
     goes_then 62 62 d middle (g.D.SectorDevice.state c.seal_rest.new.device) v c.save_chunk.new.memory c.seal_rest.new.memory 63 62
     (goes_then 62 62 d d middle v (record v { usage = c.end_last.new.self }) c.save_chunk.new.memory 0 63
-    (ended_goes d v c.end_last.new.self c.end_last.ensures (g.met.D.SectorDevice.lawful c.args.device.now) c.requires.memory c.requires.closed) c.in_ok-save_chunk.ensures.done)
+    (ended_goes d v c.end_last.new.self c.end_last.ensures (g.met.D.SectorDevice.lawful c.args.device.now) c.requires.memory
+    c.requires.closed) c.in_ok-save_chunk.ensures.done)
     c.in_ok-seal_rest.ensures.done
 
 pub returns-clause-fewer : goal.returns-clause-fewer
@@ -74,7 +80,8 @@ returns-clause-fewer g c = ap (λ (t : TableValue). length t.blocks + 63) c.seal
 
 pub returns-clause-due : goal.returns-clause-due
 returns-clause-due g c =
-    chunk_due c.args.memory.now c.save_chunk.new.memory c.seal_rest.new.memory c.end_last.new.self c.end_last.ensures c.seal_rest.ensures.dirty c.seal_rest.ensures.usage c.in_ok-save_chunk.ensures.early.due
+    chunk_due c.args.memory.now c.save_chunk.new.memory c.seal_rest.new.memory c.end_last.new.self c.end_last.ensures
+    c.seal_rest.ensures.dirty c.seal_rest.ensures.usage c.in_ok-save_chunk.ensures.early.due
 
 pub returns-clause-capacity : goal.returns-clause-capacity
 returns-clause-capacity g c = ap (λ (t : TableValue). t.capacity) c.seal_rest.ensures.dirty ∙ c.in_ok-save_chunk.ensures.capacity
@@ -94,11 +101,13 @@ returns-clause-told g c =
     let before = ap (λ (u : UsageTable). clean_in u.segments) c.end_last.ensures in
     let after = ap (λ (u : UsageTable). clean_in u.segments) c.seal_rest.ensures.usage in
     let room = c.save_chunk.ensures.room in
-    chunk_told c.args.memory.now c.save_chunk.new.memory c.end_last.new.self (length (g.D.SectorDevice.state c.args.device.now).told) (length (g.D.SectorDevice.state c.seal_rest.new.device).told) 63
+    chunk_told c.args.memory.now c.save_chunk.new.memory c.end_last.new.self (length (g.D.SectorDevice.state c.args.device.now).told)
+    (length (g.D.SectorDevice.state c.seal_rest.new.device).told) 63
     c.end_last.ensures c.requires.closed (omega (arith, before, room)) (omega (arith, tells, told, after))
 
 pub returns-clause-most : goal.returns-clause-most
 returns-clause-most g c = let told = returns-clause-told g c in omega (arith, told)
 
 pub returns-clause-data_blocks : goal.returns-clause-data_blocks
-returns-clause-data_blocks g c = ap (λ (t : TableValue). data_count t + 63) c.seal_rest.ensures.dirty ∙ c.in_ok-save_chunk.ensures.data_blocks
+returns-clause-data_blocks g c = ap (λ (t : TableValue). data_count t + 63) c.seal_rest.ensures.dirty
+    ∙ c.in_ok-save_chunk.ensures.data_blocks

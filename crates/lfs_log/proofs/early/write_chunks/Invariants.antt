@@ -7,7 +7,8 @@ use Rattle.lfs_log.proofs.early.write_chunks.Given as goal
 abbrev pub invariant-loop-memory : goal.invariant-loop-memory
 invariant-loop-memory g l = record {
   chunks : WritesChunks (g.D.SectorDevice.state l.initial.device) (g.D.SectorDevice.state l.device) l.initial.memory l.memory;
-  reserve : ((l.device ≡ l.initial.device) × (l.memory ≡ l.initial.memory)) ⊎ (reserve_of (length l.memory.usage.segments) ≤ clean_in l.memory.usage.segments);
+  reserve : ((l.device ≡ l.initial.device) × (l.memory ≡ l.initial.memory))
+      ⊎ (reserve_of (length l.memory.usage.segments) ≤ clean_in l.memory.usage.segments);
   idle : data_count l.initial.memory.dirty < full_chunk → (l.device ≡ l.initial.device) × (l.memory ≡ l.initial.memory);
 }
 

@@ -9,7 +9,8 @@ use Rattle.std.proofs.lemmas.Bool.{cases_eq}
 -- src/mapping.rt:95:5
 pub loop-index-init : goal.loop-index-init
 loop-index-init g c = record {
-  goes = goes_none (g.D.SectorDevice.state c.args.device.now) c.args.memory.now (g.met.D.SectorDevice.lawful c.args.device.now) c.requires.memory;
+  goes = goes_none (g.D.SectorDevice.state c.args.device.now) c.args.memory.now
+      (g.met.D.SectorDevice.lawful c.args.device.now) c.requires.memory;
   known = λ j lt. absurd (omega (arith, lt));
   long = λ some. absurd (omega (arith, some));
   dirty = refl;
@@ -21,14 +22,17 @@ pub returns-in_err-save_map_block-clause-stopped : goal.returns-in_err-save_map_
 returns-in_err-save_map_block-clause-stopped g c =
     on_err c.from_residual.result
     (Stops (g.D.SectorDevice.state c.args.device.now) (g.D.SectorDevice.state c.save_map_block.new.device) c.args.memory.now)
-    (stops_then 62 (g.D.SectorDevice.state c.args.device.now) (g.D.SectorDevice.state c.loop-index.device) (g.D.SectorDevice.state c.save_map_block.new.device)
+    (stops_then 62 (g.D.SectorDevice.state c.args.device.now) (g.D.SectorDevice.state c.loop-index.device)
+    (g.D.SectorDevice.state c.save_map_block.new.device)
     c.args.memory.now c.loop-index.memory c.loop-index.index c.loop-index.invariant.goes c.in_err-save_map_block.ensures.stopped)
 
 -- src/mapping.rt:95:5
 pub loop-index-preserved : goal.loop-index-preserved
 loop-index-preserved g c = record {
-  goes = goes_then 62 62 (g.D.SectorDevice.state c.args.device.now) (g.D.SectorDevice.state c.loop-index.device) (g.D.SectorDevice.state c.save_map_block.new.device)
-      c.args.memory.now c.loop-index.memory c.save_map_block.new.memory c.loop-index.index 1 c.loop-index.invariant.goes c.in_ok-save_map_block.ensures.done;
+  goes = goes_then 62 62 (g.D.SectorDevice.state c.args.device.now) (g.D.SectorDevice.state c.loop-index.device)
+      (g.D.SectorDevice.state c.save_map_block.new.device)
+      c.args.memory.now c.loop-index.memory c.save_map_block.new.memory c.loop-index.index 1 c.loop-index.invariant.goes
+      c.in_ok-save_map_block.ensures.done;
   known = λ j lt one. ⊎_elim
       (λ is. c.in_ok-save_map_block.ensures.known (subst (λ (n : ℕ). block_in c.save_map_block.new.memory.map n ≡ 1) is one))
       (λ ne. c.loop-index.invariant.known j (omega (arith, lt, ne)) (sym (c.in_ok-save_map_block.ensures.others j ne) ∙ one))
@@ -41,7 +45,8 @@ loop-index-preserved g c = record {
 -- src/mapping.rt:81:1
 pub returns-clause-known : goal.returns-clause-known
 returns-clause-known g c =
-    maps_out c.loop-index.memory.map (c.loop-index.invariant.long (omega arith)) (λ j lt. c.loop-index.invariant.known j (omega (arith, lt)))
+    maps_out c.loop-index.memory.map (c.loop-index.invariant.long (omega arith))
+    (λ j lt. c.loop-index.invariant.known j (omega (arith, lt)))
 
 pub returns-in_err-save_map_block-clause-most : goal.returns-in_err-save_map_block-clause-most
 returns-in_err-save_map_block-clause-most g c =

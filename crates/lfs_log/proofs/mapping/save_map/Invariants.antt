@@ -10,5 +10,6 @@ invariant-loop-index g l = record {
   known : (j : ℕ) → j < l.index → block_in l.memory.map j ≢ 1;
   long : 0 < l.index → IsMap l.memory.map;
   dirty : l.memory.dirty ≡ l.initial.memory.dirty;
-  tells : orders_due (g.D.SectorDevice.state l.device) l.memory ≤ orders_due (g.D.SectorDevice.state l.initial.device) l.initial.memory + l.index;
+  tells : orders_due (g.D.SectorDevice.state l.device) l.memory ≤ orders_due (g.D.SectorDevice.state l.initial.device) l.initial.memory
+      + l.index;
 }

@@ -16,7 +16,8 @@ pub returns-in_err-write-clause-stopped : goal.returns-in_err-write-clause-stopp
 returns-in_err-write-clause-stopped g c =
     on_err c.from_residual.result
     (Stops (g.D.SectorDevice.state c.args.device.now) (g.D.SectorDevice.state c.write.new.device) c.args.memory.now)
-    (place_stops c.args.memory.now c.next_place-address.new.self _ true c.args.age c.next_place-address.result c.requires.memory c.next_place-address.ensures.placed
+    (place_stops c.args.memory.now c.next_place-address.new.self _ true c.args.age c.next_place-address.result c.requires.memory
+    c.next_place-address.ensures.placed
     (g.D.SectorDevice.state c.args.device.now) (g.D.SectorDevice.state c.write.new.device) c.args.bytes.now
     c.in_err-write.ensures.crash c.in_err-write.ensures.carries c.in_err-write.ensures.time (g.met.D.SectorDevice.lawful c.args.device.now)
     c.in_err-write.ensures.failed_write c.in_err-write.ensures.failed)
@@ -27,11 +28,18 @@ returns-clause-done g c =
     let map' = c.set_block_address.new.self in
     let v = c.args.memory.now in
     let same = c.next_place-address.ensures.placed.map in
-    let sets : IsBlockAt v.map map' c.args.index c.next_place-address.result = subst (λ (a : MapValue). IsBlockAt a map' c.args.index c.next_place-address.result) same
-    (record { block = c.set_block_address.ensures.changed; addresses = ap (λ (a : MapValue). a.addresses) c.set_block_address.ensures.set; hidden = ap (λ (a : MapValue). a.hidden) c.set_block_address.ensures.set }) in
+    let sets : IsBlockAt v.map map' c.args.index c.next_place-address.result =
+    subst (λ (a : MapValue). IsBlockAt a map' c.args.index c.next_place-address.result) same
+    (record {
+      block = c.set_block_address.ensures.changed;
+      addresses = ap (λ (a : MapValue). a.addresses) c.set_block_address.ensures.set;
+      hidden = ap (λ (a : MapValue). a.hidden) c.set_block_address.ensures.set;
+    }) in
     subst (λ (t : TableValue). GoesUpTo 63 (g.D.SectorDevice.state c.args.device.now) (g.D.SectorDevice.state c.write.new.device) v
-    (record { map = map'; usage = c.next_place-address.new.self.usage; dirty = t; chunk = c.next_place-address.new.self.chunk }) 1) (sym c.next_place-address.ensures.placed.dirty)
-    (map_goes v c.next_place-address.new.self _ c.args.age c.next_place-address.result c.requires.memory c.next_place-address.ensures.placed c.args.index map' sets
+    (record { map = map'; usage = c.next_place-address.new.self.usage; dirty = t; chunk = c.next_place-address.new.self.chunk }) 1)
+    (sym c.next_place-address.ensures.placed.dirty)
+    (map_goes v c.next_place-address.new.self _ c.args.age c.next_place-address.result c.requires.memory c.next_place-address.ensures.placed
+    c.args.index map' sets
     (g.D.SectorDevice.state c.args.device.now) (g.D.SectorDevice.state c.write.new.device) c.args.bytes.now
     c.in_ok-write.ensures.crash c.in_ok-write.ensures.carries c.in_ok-write.ensures.time (g.met.D.SectorDevice.lawful c.args.device.now)
     c.in_ok-write.ensures.written refl c.requires.wanted c.requires.spelt c.requires.empty c.in_ok-write.ensures.no_failure)

@@ -11,13 +11,15 @@ pub returns-in_err-seal_full-clause-stopped : goal.returns-in_err-seal_full-clau
 returns-in_err-seal_full-clause-stopped g c =
     on_err c.from_residual-in_err-seal_full.result
     (Stops (g.D.SectorDevice.state c.args.device.now) (g.D.SectorDevice.state c.seal_full.new.device) c.args.memory.now)
-    (stops_then 63 (g.D.SectorDevice.state c.args.device.now) (g.D.SectorDevice.state c.write_block.new.device) (g.D.SectorDevice.state c.seal_full.new.device)
+    (stops_then 63 (g.D.SectorDevice.state c.args.device.now) (g.D.SectorDevice.state c.write_block.new.device)
+    (g.D.SectorDevice.state c.seal_full.new.device)
     c.args.memory.now c.write_block.new.memory 1 c.in_ok-write_block.ensures.done c.in_err-seal_full.ensures.stopped)
 
 -- src/placing.rt:71:1
 pub returns-clause-done : goal.returns-clause-done
 returns-clause-done g c =
-    goes_then 63 62 (g.D.SectorDevice.state c.args.device.now) (g.D.SectorDevice.state c.write_block.new.device) (g.D.SectorDevice.state c.seal_full.new.device)
+    goes_then 63 62 (g.D.SectorDevice.state c.args.device.now) (g.D.SectorDevice.state c.write_block.new.device)
+    (g.D.SectorDevice.state c.seal_full.new.device)
     c.args.memory.now c.write_block.new.memory c.seal_full.new.memory 1 0 c.in_ok-write_block.ensures.done c.in_ok-seal_full.ensures.done
 
 pub returns-clause-early : goal.returns-clause-early

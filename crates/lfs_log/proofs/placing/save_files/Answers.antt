@@ -6,8 +6,10 @@ use Rattle.lfs_memory.proofs.Going.{on_err, goes_none, goes_then, goes_at_most, 
 -- src/placing.rt:103:5
 pub loop-key-init : goal.loop-key-init
 loop-key-init g c = record {
-  goes = goes_at_most (g.D.SectorDevice.state c.args.device.now) (g.D.SectorDevice.state c.args.device.now) c.args.memory.now c.args.memory.now 0 _ (omega arith)
-      (goes_none (g.D.SectorDevice.state c.args.device.now) c.args.memory.now (g.met.D.SectorDevice.lawful c.args.device.now) c.requires.memory);
+  goes = goes_at_most (g.D.SectorDevice.state c.args.device.now) (g.D.SectorDevice.state c.args.device.now) c.args.memory.now
+      c.args.memory.now 0 _ (omega arith)
+      (goes_none (g.D.SectorDevice.state c.args.device.now) c.args.memory.now
+      (g.met.D.SectorDevice.lawful c.args.device.now) c.requires.memory);
   capacity = refl;
   fewer = omega arith;
   tells = omega arith;
@@ -20,7 +22,8 @@ save_block-requires-clause-memory g c = c.loop-key.invariant.goes.memory
 -- src/placing.rt:104:9
 pub save_block-requires-clause-size : goal.save_block-requires-clause-size
 save_block-requires-clause-size g c =
-    has_room_still 62 (g.D.SectorDevice.state c.args.device.now) (g.D.SectorDevice.state c.loop-key.device) c.args.memory.now c.loop-key.memory _ c.loop-key.invariant.goes c.requires.size
+    has_room_still 62 (g.D.SectorDevice.state c.args.device.now) (g.D.SectorDevice.state c.loop-key.device) c.args.memory.now
+    c.loop-key.memory _ c.loop-key.invariant.goes c.requires.size
 
 -- src/placing.rt:104:9
 pub save_block-requires-clause-room : goal.save_block-requires-clause-room
@@ -43,8 +46,10 @@ loop-key-preserved g c =
     let told = c.loop-key.invariant.tells in
     let more = c.in_ok-save_block.ensures.tells in
     record {
-      goes = goes_at_most (g.D.SectorDevice.state c.args.device.now) (g.D.SectorDevice.state c.save_block.new.device) c.args.memory.now c.save_block.new.memory _ _ (omega (arith, one, fewer))
-          (goes_then 62 62 (g.D.SectorDevice.state c.args.device.now) (g.D.SectorDevice.state c.loop-key.device) (g.D.SectorDevice.state c.save_block.new.device)
+      goes = goes_at_most (g.D.SectorDevice.state c.args.device.now) (g.D.SectorDevice.state c.save_block.new.device) c.args.memory.now
+          c.save_block.new.memory _ _ (omega (arith, one, fewer))
+          (goes_then 62 62 (g.D.SectorDevice.state c.args.device.now) (g.D.SectorDevice.state c.loop-key.device)
+          (g.D.SectorDevice.state c.save_block.new.device)
           c.args.memory.now c.loop-key.memory c.save_block.new.memory _ 1 c.loop-key.invariant.goes c.in_ok-save_block.ensures.done);
       capacity = c.in_ok-save_block.ensures.capacity ∙ c.loop-key.invariant.capacity;
       fewer = omega (arith, one, fewer);
@@ -56,13 +61,15 @@ pub returns-in_err-save_block-clause-stopped : goal.returns-in_err-save_block-cl
 returns-in_err-save_block-clause-stopped g c =
     on_err c.from_residual.result
     (Stops (g.D.SectorDevice.state c.args.device.now) (g.D.SectorDevice.state c.save_block.new.device) c.args.memory.now)
-    (stops_then 62 (g.D.SectorDevice.state c.args.device.now) (g.D.SectorDevice.state c.loop-key.device) (g.D.SectorDevice.state c.save_block.new.device)
+    (stops_then 62 (g.D.SectorDevice.state c.args.device.now) (g.D.SectorDevice.state c.loop-key.device)
+    (g.D.SectorDevice.state c.save_block.new.device)
     c.args.memory.now c.loop-key.memory _ c.loop-key.invariant.goes c.in_err-save_block.ensures.stopped)
 
 -- src/placing.rt:91:1
 pub returns-clause-done : goal.returns-clause-done
 returns-clause-done g c =
-    goes_at_most (g.D.SectorDevice.state c.args.device.now) (g.D.SectorDevice.state c.loop-key.device) c.args.memory.now c.loop-key.memory _ _ (omega arith) c.loop-key.invariant.goes
+    goes_at_most (g.D.SectorDevice.state c.args.device.now) (g.D.SectorDevice.state c.loop-key.device) c.args.memory.now c.loop-key.memory _
+    _ (omega arith) c.loop-key.invariant.goes
 
 pub returns-in_err-save_block-clause-most : goal.returns-in_err-save_block-clause-most
 returns-in_err-save_block-clause-most g c =

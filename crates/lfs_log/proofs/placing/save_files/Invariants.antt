@@ -5,7 +5,8 @@ use Rattle.lfs_log.proofs.placing.save_files.Given as goal
 
 abbrev pub invariant-loop-key : goal.invariant-loop-key
 invariant-loop-key g l = record {
-  goes : Goes (g.D.SectorDevice.state l.initial.device) (g.D.SectorDevice.state l.device) l.initial.memory l.memory (length l.initial.memory.dirty.blocks - length l.memory.dirty.blocks);
+  goes : Goes (g.D.SectorDevice.state l.initial.device) (g.D.SectorDevice.state l.device) l.initial.memory l.memory
+      (length l.initial.memory.dirty.blocks - length l.memory.dirty.blocks);
   capacity : l.memory.dirty.capacity ≡ l.initial.memory.dirty.capacity;
   fewer : length l.memory.dirty.blocks ≤ length l.initial.memory.dirty.blocks;
   tells : orders_due (g.D.SectorDevice.state l.device) l.memory + length l.memory.dirty.blocks

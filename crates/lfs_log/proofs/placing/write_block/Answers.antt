@@ -18,7 +18,8 @@ pub returns-in_err-write-clause-stopped : goal.returns-in_err-write-clause-stopp
 returns-in_err-write-clause-stopped g c =
     on_err c.from_residual.result
     (Stops (g.D.SectorDevice.state c.args.device.now) (g.D.SectorDevice.state c.write.new.device) c.args.memory.now)
-    (place_stops c.args.memory.now c.next_place-address.new.self c.name.result (not c.is_hidden-lives.result) c.args.age c.next_place-address.result c.requires.memory c.next_place-address.ensures.placed
+    (place_stops c.args.memory.now c.next_place-address.new.self c.name.result
+    (not c.is_hidden-lives.result) c.args.age c.next_place-address.result c.requires.memory c.next_place-address.ensures.placed
     (g.D.SectorDevice.state c.args.device.now) (g.D.SectorDevice.state c.write.new.device) c.unwrap-bytes.result.now
     c.in_err-write.ensures.crash c.in_err-write.ensures.carries c.in_err-write.ensures.time (g.met.D.SectorDevice.lawful c.args.device.now)
     c.in_err-write.ensures.failed_write c.in_err-write.ensures.failed)
@@ -27,28 +28,37 @@ returns-in_err-write-clause-stopped g c =
 pub returns-clause-done : goal.returns-clause-done
 returns-clause-done g c =
     let x = entry_of c.args.key in
-    let file : file_of x ≡ Some c.file.result = file_by (c.args.key.code / 134217728) (c.args.key.code / 32768 % 4096) (c.args.key.code % 32768) ∙ ap Some (sym c.file.ensures.file) in
+    let file : file_of x ≡ Some c.file.result = file_by (c.args.key.code / 134217728) (c.args.key.code / 32768 % 4096)
+    (c.args.key.code % 32768) ∙ ap Some (sym c.file.ensures.file) in
     let shown : blocks_of c.next_place-address.new.self.dirty x ≡ Some c.unwrap-bytes.result.now = search rules in
     let there = sym (ap (λ (t : TableValue). blocks_of t x) c.next_place-address.ensures.placed.dirty) ∙ shown in
     let few = c.file.ensures.few in
     goes_to 63 (g.D.SectorDevice.state c.args.device.now) (g.D.SectorDevice.state c.write.new.device) c.args.memory.now c.point.new.self
-    c.next_place-address.new.self.usage c.moved.new.self c.next_place-address.new.self.chunk 1 c.point.ensures.usage c.point.ensures.dirty c.point.ensures.chunk
-    (file_goes c.args.memory.now c.next_place-address.new.self c.name.result (not c.is_hidden-lives.result) c.args.age c.next_place-address.result c.requires.memory c.next_place-address.ensures.placed
-    x c.file.result file c.point.new.self.map (subst (λ (a : MapValue). IsPointedAt a c.point.new.self.map x c.next_place-address.result) c.next_place-address.ensures.placed.map c.point.ensures.points) (g.D.SectorDevice.state c.args.device.now) (g.D.SectorDevice.state c.write.new.device) c.unwrap-bytes.result.now c.moved.new.self
+    c.next_place-address.new.self.usage c.moved.new.self c.next_place-address.new.self.chunk 1 c.point.ensures.usage c.point.ensures.dirty
+    c.point.ensures.chunk
+    (file_goes c.args.memory.now c.next_place-address.new.self c.name.result
+    (not c.is_hidden-lives.result) c.args.age c.next_place-address.result c.requires.memory c.next_place-address.ensures.placed
+    x c.file.result file c.point.new.self.map (subst (λ (a : MapValue). IsPointedAt a c.point.new.self.map x c.next_place-address.result)
+    c.next_place-address.ensures.placed.map c.point.ensures.points) (g.D.SectorDevice.state c.args.device.now)
+    (g.D.SectorDevice.state c.write.new.device) c.unwrap-bytes.result.now c.moved.new.self
     c.in_ok-write.ensures.crash c.in_ok-write.ensures.carries c.in_ok-write.ensures.time (g.met.D.SectorDevice.lawful c.args.device.now)
     c.in_ok-write.ensures.written c.name.ensures.entry c.requires.lowest there
-    (subst (λ (t : TableValue). Moves (blocks_of t) (blocks_of c.moved.new.self) x c.next_place-address.result) c.next_place-address.ensures.placed.dirty c.moved.ensures.moves)
-    (omega (arith, few)) (ap not c.is_hidden-lives.ensures) (c.moved.ensures.capacity ∙ ap (λ (t : TableValue). t.capacity) c.next_place-address.ensures.placed.dirty) c.in_ok-write.ensures.no_failure)
+    (subst (λ (t : TableValue). Moves (blocks_of t) (blocks_of c.moved.new.self) x c.next_place-address.result)
+    c.next_place-address.ensures.placed.dirty c.moved.ensures.moves)
+    (omega (arith, few)) (ap not c.is_hidden-lives.ensures) (c.moved.ensures.capacity
+    ∙ ap (λ (t : TableValue). t.capacity) c.next_place-address.ensures.placed.dirty) c.in_ok-write.ensures.no_failure)
 
 pub returns-clause-fresh : goal.returns-clause-fresh
 returns-clause-fresh g c fresh =
     begun_same c.next_place-address.new.self c.point.new.self c.point.ensures.usage c.point.ensures.chunk
-    (placed_fresh c.args.memory.now c.next_place-address.new.self c.name.result (not c.is_hidden-lives.result) c.args.age c.next_place-address.result fresh c.next_place-address.ensures.placed)
+    (placed_fresh c.args.memory.now c.next_place-address.new.self c.name.result
+    (not c.is_hidden-lives.result) c.args.age c.next_place-address.result fresh c.next_place-address.ensures.placed)
 
 pub returns-clause-early : goal.returns-clause-early
 returns-clause-early g c fresh =
     ap (λ (u : UsageTable). early_in u.segments) c.point.ensures.usage
-    ∙ placed_early c.args.memory.now c.next_place-address.new.self c.name.result (not c.is_hidden-lives.result) c.args.age c.next_place-address.result fresh c.next_place-address.ensures.placed
+    ∙ placed_early c.args.memory.now c.next_place-address.new.self c.name.result
+    (not c.is_hidden-lives.result) c.args.age c.next_place-address.result fresh c.next_place-address.ensures.placed
 
 pub returns-clause-data_blocks : goal.returns-clause-data_blocks
 returns-clause-data_blocks g c kind =

@@ -22,7 +22,8 @@ returns-in-Ok-true-clause-came g c =
     let none : blocks_of c.args.memory.now.dirty (entry_of c.args.key) ≡ None = search rules in
     let before : IsInOrder c.args.memory.now.dirty = search rules in
     let after : IsInOrder c.lift_child.new.memory.dirty = search rules in
-    brings_one c.args.memory.now c.lift_child.new.memory c.args.key.code c.args.key.formed before after none c.lift_child.ensures.prepares.stay
+    brings_one c.args.memory.now c.lift_child.new.memory c.args.key.code c.args.key.formed before after none
+    c.lift_child.ensures.prepares.stay
     (c.in-Ok-true.ensures.inside (search rules)) c.lift_child.ensures.prepares.few
 
 pub returns-in-Ok-false-clause-came : goal.returns-in-Ok-false-clause-came
@@ -35,7 +36,8 @@ returns-in-Ok-false-clause-none g c _ =
     no_pointer_there (g.D.SectorDevice.state c.lift_child.new.device) c.lift_child.new.memory _ (c.in-Ok-false.ensures.none (search rules))
 
 pub returns-in-Err-clause-came : goal.returns-in-Err-clause-came
-returns-in-Err-clause-came g c = brings_same c.args.memory.now c.lift_child.new.memory (entry_of c.args.key) (ap (λ (v : LogMemory). v.dirty) c.in-Err.ensures.kept)
+returns-in-Err-clause-came g c =
+    brings_same c.args.memory.now c.lift_child.new.memory (entry_of c.args.key) (ap (λ (v : LogMemory). v.dirty) c.in-Err.ensures.kept)
 
 pub returns-in-Err-clause-lacks : goal.returns-in-Err-clause-lacks
 returns-in-Err-clause-lacks g c is =

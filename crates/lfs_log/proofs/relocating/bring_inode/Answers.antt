@@ -20,7 +20,8 @@ returns-in-Ok-false-clause-none g c _ =
     (λ (none : c.file.result ≡ 0). absurd (omega (arith, none, some)))
     (λ (none : address_in c.args.memory.now.map c.file.result ≡ 0). none)
     (c.in-Ok-false.ensures.none (search rules)) in
-    no_inode_there (g.D.SectorDevice.state c.lift_inode.new.device) c.lift_inode.new.memory _ c.file.result (file_is c.args.key.code c.file.result c.file.ensures.file) c.requires.top
+    no_inode_there (g.D.SectorDevice.state c.lift_inode.new.device) c.lift_inode.new.memory _ c.file.result
+    (file_is c.args.key.code c.file.result c.file.ensures.file) c.requires.top
     (ap (λ (v : LogMemory). address_in v.map c.file.result) (c.in-Ok-false.ensures.same (search rules)) ∙ gone)
 
 pub returns-then-has_block-clause-relocates : goal.returns-then-has_block-clause-relocates
@@ -36,9 +37,11 @@ returns-in-Ok-true-clause-came g c =
     let none : blocks_of c.args.memory.now.dirty (entry_of c.args.key) ≡ None = search rules in
     let before : IsInOrder c.args.memory.now.dirty = search rules in
     let after : IsInOrder c.lift_inode.new.memory.dirty = search rules in
-    let own : entry_of c.args.key ≡ Inode c.file.result = top_inode (entry_of c.args.key) c.file.result (file_is c.args.key.code c.file.result c.file.ensures.file) c.requires.top in
+    let own : entry_of c.args.key ≡ Inode c.file.result =
+    top_inode (entry_of c.args.key) c.file.result (file_is c.args.key.code c.file.result c.file.ensures.file) c.requires.top in
     let inside = c.in-Ok-true.ensures.inside (search rules) in
-    brings_one c.args.memory.now c.lift_inode.new.memory c.args.key.code c.args.key.formed before after none c.lift_inode.ensures.prepares.stay
+    brings_one c.args.memory.now c.lift_inode.new.memory c.args.key.code c.args.key.formed before after none
+    c.lift_inode.ensures.prepares.stay
     (subst (IsInMemory c.lift_inode.new.memory) (sym own) inside.1) c.lift_inode.ensures.prepares.few
 
 pub returns-in-Ok-false-clause-came : goal.returns-in-Ok-false-clause-came

@@ -5,15 +5,18 @@ use Rattle.lfs_log.proofs.UsageWrites.{fill_goes_at, write_stops_at}
 use Rattle.lfs_log.proofs.settling.fill_block.Goals as goal
 
 pub returns-then-not-place-clause-done : goal.returns-then-not-place-clause-done
-returns-then-not-place-clause-done g c = goes_none (g.D.SectorDevice.state c.args.device.now) c.args.memory.now (g.met.D.SectorDevice.lawful c.args.device.now) c.requires.memory
+returns-then-not-place-clause-done g c =
+    goes_none (g.D.SectorDevice.state c.args.device.now) c.args.memory.now (g.met.D.SectorDevice.lawful c.args.device.now) c.requires.memory
 
 pub returns-clause-done : goal.returns-clause-done
 returns-clause-done g c =
     let stale : stale_of c.args.memory.now.usage c.args.index ≡ true = search rules in
     let at : address_of c.args.memory.now.usage c.args.index ≡ c.place.inside.address = search rules in
     let e = c.in_ok-write.ensures in
-    fill_goes_at c.args.memory.now c.args.index c.place.inside.address c.set_block.new.self c.requires.memory (c.requires.anew c.args.index c.requires.index stale) at c.set_block.ensures
-    (g.D.SectorDevice.state c.args.device.now) (g.D.SectorDevice.state c.write.new.device) c.spelled-bytes.result.now c.spelled-bytes.ensures (g.met.D.SectorDevice.lawful c.args.device.now)
+    fill_goes_at c.args.memory.now c.args.index c.place.inside.address c.set_block.new.self c.requires.memory
+    (c.requires.anew c.args.index c.requires.index stale) at c.set_block.ensures
+    (g.D.SectorDevice.state c.args.device.now) (g.D.SectorDevice.state c.write.new.device) c.spelled-bytes.result.now
+    c.spelled-bytes.ensures (g.met.D.SectorDevice.lawful c.args.device.now)
     e.written e.crash e.no_failure e.carries e.time
 
 pub returns-in_err-write-clause-stopped : goal.returns-in_err-write-clause-stopped
@@ -21,5 +24,7 @@ returns-in_err-write-clause-stopped g c =
     let stale : stale_of c.args.memory.now.usage c.args.index ≡ true = search rules in
     let at : address_of c.args.memory.now.usage c.args.index ≡ c.place.inside.address = search rules in
     let e = c.in_err-write.ensures in
-    on_err _ _ (write_stops_at (g.D.SectorDevice.state c.args.device.now) (g.D.SectorDevice.state c.write.new.device) c.args.memory.now c.args.index c.place.inside.address c.spelled-bytes.result.now
-    (g.met.D.SectorDevice.lawful c.args.device.now) (c.requires.anew c.args.index c.requires.index stale) at e.failed_write e.crash e.failed e.carries e.time)
+    on_err _ _ (write_stops_at (g.D.SectorDevice.state c.args.device.now) (g.D.SectorDevice.state c.write.new.device) c.args.memory.now
+    c.args.index c.place.inside.address c.spelled-bytes.result.now
+    (g.met.D.SectorDevice.lawful c.args.device.now) (c.requires.anew c.args.index c.requires.index stale) at e.failed_write e.crash e.failed
+    e.carries e.time)

@@ -13,25 +13,31 @@ returns-in_err-resettle-clause-stopped g c =
     on_err _ _ (not_there d c.args.memory.now c.args.index c.requires.index c.in_err-resettle.ensures.nowhere (carries_none d))
 
 pub seal_full-requires-clause-memory : goal.seal_full-requires-clause-memory
-seal_full-requires-clause-memory g c = resettled_memory c.args.memory.now c.resettle.new.memory c.args.index c.args.age c.requires.memory c.requires.stale c.in_ok-resettle.ensures.done
+seal_full-requires-clause-memory g c = resettled_memory c.args.memory.now c.resettle.new.memory c.args.index c.args.age c.requires.memory
+    c.requires.stale c.in_ok-resettle.ensures.done
 
 pub returns-clause-done : goal.returns-clause-done
 returns-clause-done g c =
-    ok_then _ _ _ (resettled_goes c.args.memory.now c.resettle.new.memory c.args.index c.args.age c.requires.memory c.requires.stale c.in_ok-resettle.ensures.done
-    (g.D.SectorDevice.state c.args.device.now) (g.D.SectorDevice.state c.seal_full.new.device) c.seal_full.new.memory) c.seal_full.ensures.done
+    ok_then _ _ _ (resettled_goes c.args.memory.now c.resettle.new.memory c.args.index c.args.age c.requires.memory c.requires.stale
+    c.in_ok-resettle.ensures.done
+    (g.D.SectorDevice.state c.args.device.now) (g.D.SectorDevice.state c.seal_full.new.device) c.seal_full.new.memory)
+    c.seal_full.ensures.done
 
 pub returns-clause-stopped : goal.returns-clause-stopped
 returns-clause-stopped g c =
-    err_then _ _ _ (resettled_stops c.args.memory.now c.resettle.new.memory c.args.index c.args.age c.requires.memory c.requires.stale c.in_ok-resettle.ensures.done
+    err_then _ _ _ (resettled_stops c.args.memory.now c.resettle.new.memory c.args.index c.args.age c.requires.memory c.requires.stale
+    c.in_ok-resettle.ensures.done
     (g.D.SectorDevice.state c.args.device.now) (g.D.SectorDevice.state c.seal_full.new.device)) c.seal_full.ensures.stopped
 
 pub returns-clause-moved : goal.returns-clause-moved
 returns-clause-moved g c =
     all_ok _ _ (subst (λ (u : UsageTable). IsResettled c.args.memory.now.usage u c.args.index) (sym c.seal_full.ensures.usage)
-    (resettled_usage c.args.memory.now c.resettle.new.memory c.args.index c.args.age c.requires.memory c.requires.stale c.in_ok-resettle.ensures.done))
+    (resettled_usage c.args.memory.now c.resettle.new.memory c.args.index c.args.age c.requires.memory c.requires.stale
+    c.in_ok-resettle.ensures.done))
 
 pub returns-clause-room : goal.returns-clause-room
 returns-clause-room g c =
-    let first = resettled_room c.args.memory.now c.resettle.new.memory c.args.index c.args.age c.requires.memory c.requires.stale c.in_ok-resettle.ensures.done in
+    let first = resettled_room c.args.memory.now c.resettle.new.memory c.args.index c.args.age c.requires.memory c.requires.stale
+    c.in_ok-resettle.ensures.done in
     let then' = c.seal_full.ensures.room in
     omega (arith, first, then')

@@ -7,7 +7,8 @@ pub loop-round-init : goal.loop-round-init
 loop-round-init g c =
     let few = out_most c.args.memory.now.usage in
     record {
-      goes = goes_none (g.D.SectorDevice.state c.args.device.now) c.args.memory.now (g.met.D.SectorDevice.lawful c.args.device.now) c.requires.memory;
+      goes = goes_none (g.D.SectorDevice.state c.args.device.now) c.args.memory.now
+          (g.met.D.SectorDevice.lawful c.args.device.now) c.requires.memory;
       left = omega arith;
       map = refl;
       dirty = refl;
@@ -16,7 +17,8 @@ loop-round-init g c =
 
 pub returns-in_err-settle_block-clause-stopped : goal.returns-in_err-settle_block-clause-stopped
 returns-in_err-settle_block-clause-stopped g c =
-    on_err _ _ (stops_then 62 (g.D.SectorDevice.state c.args.device.now) (g.D.SectorDevice.state c.loop-round.device) (g.D.SectorDevice.state c.settle_block.new.device)
+    on_err _ _ (stops_then 62 (g.D.SectorDevice.state c.args.device.now) (g.D.SectorDevice.state c.loop-round.device)
+    (g.D.SectorDevice.state c.settle_block.new.device)
     c.args.memory.now c.loop-round.memory c.loop-round.round c.loop-round.invariant.goes c.in_err-settle_block.ensures.stopped)
 
 pub loop-round-preserved : goal.loop-round-preserved
@@ -24,11 +26,14 @@ loop-round-preserved g c =
     let few = c.loop-round.invariant.goes.memory.count.most in
     let found = c.in-Some.ensures.some in
     let low = found.0 in
-    let less = out_less c.loop-round.memory.usage c.settle_block.new.memory.usage c.in-Some.index found.2 c.in_ok-settle_block.ensures.moved (omega arith) in
+    let less = out_less c.loop-round.memory.usage c.settle_block.new.memory.usage c.in-Some.index found.2 c.in_ok-settle_block.ensures.moved
+    (omega arith) in
     let left = c.loop-round.invariant.left in
     record {
-      goes = goes_then 62 62 (g.D.SectorDevice.state c.args.device.now) (g.D.SectorDevice.state c.loop-round.device) (g.D.SectorDevice.state c.settle_block.new.device)
-          c.args.memory.now c.loop-round.memory c.settle_block.new.memory c.loop-round.round 1 c.loop-round.invariant.goes c.in_ok-settle_block.ensures.done;
+      goes = goes_then 62 62 (g.D.SectorDevice.state c.args.device.now) (g.D.SectorDevice.state c.loop-round.device)
+          (g.D.SectorDevice.state c.settle_block.new.device)
+          c.args.memory.now c.loop-round.memory c.settle_block.new.memory c.loop-round.round 1 c.loop-round.invariant.goes
+          c.in_ok-settle_block.ensures.done;
       left = omega arith;
       map = c.settle_block.ensures.map ∙ c.loop-round.invariant.map;
       dirty = c.settle_block.ensures.dirty ∙ c.loop-round.invariant.dirty;

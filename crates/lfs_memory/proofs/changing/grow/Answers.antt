@@ -11,7 +11,8 @@ pub returns : goal.returns
 unfolding zeros
 returns c = record {
   stays = stays_put 1 c.args.memory.now _ refl refl c.fetch.ensures.capacity
-      (subst (λ (n : ℕ). n ≤ length c.args.memory.now.dirty.blocks + 1) (sym c.fetch.ensures.length) (at_most_one (is_some (find nat_cmp c.args.key.code c.args.memory.now.dirty.blocks)) (length c.args.memory.now.dirty.blocks)));
+      (subst (λ (n : ℕ). n ≤ length c.args.memory.now.dirty.blocks + 1) (sym c.fetch.ensures.length)
+      (at_most_one (is_some (find nat_cmp c.args.key.code c.args.memory.now.dirty.blocks)) (length c.args.memory.now.dirty.blocks)));
   map = refl;
   usage = refl;
   low = leaf_low c.args.key.code c.args.key.formed;

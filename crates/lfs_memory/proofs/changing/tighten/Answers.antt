@@ -8,7 +8,8 @@ loop-key-init c = record { prunes = Prunes.nothing; map = refl; usage = refl; ch
 
 pub loop-key-preserved : goal.loop-key-preserved
 loop-key-preserved c = record {
-  prunes = Prunes.more c.loop-key.memory.dirty c.moved.new.self (entry_of c.in-Some.key) c.loop-key.invariant.prunes c.in-Some.ensures.empty c.moved.ensures.moves;
+  prunes = Prunes.more c.loop-key.memory.dirty c.moved.new.self (entry_of c.in-Some.key) c.loop-key.invariant.prunes c.in-Some.ensures.empty
+      c.moved.ensures.moves;
   map = c.loop-key.invariant.map;
   usage = c.loop-key.invariant.usage;
   chunk = c.loop-key.invariant.chunk;

@@ -4,10 +4,12 @@ use Rattle.lfs_memory.proofs.counting.count_file.Goals as goal
 
 pub returns-then-not-add-clause-failed : goal.returns-then-not-add-clause-failed
 returns-then-not-add-clause-failed g c =
-    file_over (g.D.SectorDevice.state c.args.device.now) (g.D.SectorDevice.state c.count_past.new.device) c.args.memory.now c.args.number c.count_past.new.counts c.in_ok-count_past.ensures.counted
+    file_over (g.D.SectorDevice.state c.args.device.now) (g.D.SectorDevice.state c.count_past.new.device) c.args.memory.now c.args.number
+    c.count_past.new.counts c.in_ok-count_past.ensures.counted
     c.address.result c.address.ensures (c.if-not-add.ensures.over (search rules))
 
 pub returns-clause-counted : goal.returns-clause-counted
 returns-clause-counted g c =
-    file_counted (g.D.SectorDevice.state c.args.device.now) (g.D.SectorDevice.state c.count_past.new.device) c.args.memory.now c.args.number c.count_past.new.counts c.in_ok-count_past.ensures.counted
+    file_counted (g.D.SectorDevice.state c.args.device.now) (g.D.SectorDevice.state c.count_past.new.device) c.args.memory.now c.args.number
+    c.count_past.new.counts c.in_ok-count_past.ensures.counted
     c.address.result c.address.ensures c.add.new.self (c.if-not-add.ensures.done (search rules))

@@ -5,25 +5,29 @@ use Rattle.lfs_memory.proofs.counting.count_leaf.Goals as goal
 
 pub returns-then-start-eq-POINTERS-clause-done : goal.returns-then-start-eq-POINTERS-clause-done
 returns-then-start-eq-POINTERS-clause-done g c =
-    leaf_before (g.D.SectorDevice.state c.args.device.now) (g.D.SectorDevice.state c.args.device.now) c.args.memory.now c.args.number c.args.index c.args.address c.args.first
+    leaf_before (g.D.SectorDevice.state c.args.device.now) (g.D.SectorDevice.state c.args.device.now) c.args.memory.now c.args.number
+    c.args.index c.args.address c.args.first
     c.pointers_before-start.result c.args.counts.now c.pointers_before-start.ensures c.if-start-eq-POINTERS.true
 
 pub returns-then-address-eq0-clause-done : goal.returns-then-address-eq0-clause-done
 returns-then-address-eq0-clause-done g c =
-    leaf_skipped (g.D.SectorDevice.state c.args.device.now) (g.D.SectorDevice.state c.args.device.now) c.args.memory.now c.args.number c.args.index c.args.address c.args.first c.args.counts.now c.if-address-eq0.true
+    leaf_skipped (g.D.SectorDevice.state c.args.device.now) (g.D.SectorDevice.state c.args.device.now) c.args.memory.now c.args.number
+    c.args.index c.args.address c.args.first c.args.counts.now c.if-address-eq0.true
 
 pub returns-then-not-count_one-clause-failed : goal.returns-then-not-count_one-clause-failed
 returns-then-not-count_one-clause-failed g c =
     leaf_over (g.D.SectorDevice.state c.args.device.now) c.args.memory.now c.args.number c.args.index c.args.address c.args.first
     c.pointers_before-start.result c.pointers_before-start.ensures c.if-start-eq-POINTERS.false _ refl c.args.counts.now
-    (g.D.SectorDevice.state c.args.device.now) (c.if-not-count_one.ensures.wanted (search rules)) (c.if-not-count_one.ensures.over (search rules))
+    (g.D.SectorDevice.state c.args.device.now) (c.if-not-count_one.ensures.wanted (search rules))
+    (c.if-not-count_one.ensures.over (search rules))
 
 pub returns-in-Ok-clause-done : goal.returns-in-Ok-clause-done
 returns-in-Ok-clause-done g c =
     ok_then c.count_words.result _ _
     (leaf_counted (g.D.SectorDevice.state c.args.device.now) c.args.memory.now c.args.number c.args.index c.args.address c.args.first
     c.pointers_before-start.result c.pointers_before-start.ensures c.if-start-eq-POINTERS.false _ refl c.args.counts.now
-    (g.D.SectorDevice.state c.read_present.new.device) _ c.leaf-key.ensures c.if-address-eq0.false c.count_one.new.counts (c.if-not-count_one.ensures.done (search rules))
+    (g.D.SectorDevice.state c.read_present.new.device) _ c.leaf-key.ensures c.if-address-eq0.false c.count_one.new.counts
+    (c.if-not-count_one.ensures.done (search rules))
     c.read_present.new.out c.count_words.new.counts c.in-Ok.ensures.read) c.count_words.ensures.done
 
 pub returns-in-Ok-clause-failed : goal.returns-in-Ok-clause-failed
@@ -31,10 +35,12 @@ returns-in-Ok-clause-failed g c =
     on_err_then c.count_words.result _ _
     (leaf_no_words (g.D.SectorDevice.state c.args.device.now) c.args.memory.now c.args.number c.args.index c.args.address c.args.first
     c.pointers_before-start.result c.pointers_before-start.ensures c.if-start-eq-POINTERS.false _ refl c.args.counts.now
-    (g.D.SectorDevice.state c.read_present.new.device) _ c.leaf-key.ensures c.if-address-eq0.false c.count_one.new.counts (c.if-not-count_one.ensures.done (search rules))
+    (g.D.SectorDevice.state c.read_present.new.device) _ c.leaf-key.ensures c.if-address-eq0.false c.count_one.new.counts
+    (c.if-not-count_one.ensures.done (search rules))
     c.read_present.new.out c.in-Ok.ensures.read) c.count_words.ensures.failed
 
 pub returns-in-Err-clause-failed : goal.returns-in-Err-clause-failed
 returns-in-Err-clause-failed g c =
-    leaf_unread (g.D.SectorDevice.state c.args.device.now) (g.D.SectorDevice.state c.read_present.new.device) c.args.memory.now c.args.number c.args.index c.args.address c.args.first _ c.args.counts.now c.leaf-key.ensures
+    leaf_unread (g.D.SectorDevice.state c.args.device.now) (g.D.SectorDevice.state c.read_present.new.device) c.args.memory.now
+    c.args.number c.args.index c.args.address c.args.first _ c.args.counts.now c.leaf-key.ensures
     c.if-address-eq0.false c.in-Err.ensures.unread

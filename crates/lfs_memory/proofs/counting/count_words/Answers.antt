@@ -17,7 +17,8 @@ pub returns-clause-done : goal.returns-clause-done
 returns-clause-done c =
     let low = c.loop-i-test.false in
     let most = c.loop-i.auto.i-end in
-    words_end c.args.block.now c.args.start c.loop-i.i c.args.number c.args.counts.now c.loop-i.counts (omega (arith, low, most)) c.loop-i.invariant.counts
+    words_end c.args.block.now c.args.start c.loop-i.i c.args.number c.args.counts.now c.loop-i.counts
+    (omega (arith, low, most)) c.loop-i.invariant.counts
 
 pub returns-then-not-add-clause-failed : goal.returns-then-not-add-clause-failed
 returns-then-not-add-clause-failed c =

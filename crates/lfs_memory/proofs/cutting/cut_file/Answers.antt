@@ -9,7 +9,8 @@ use Rattle.lfs_memory.proofs.cutting.cut_file.Goals as goal
 
 pub returns-in-Ok-false-clause-cuts : goal.returns-in-Ok-false-clause-cuts
 returns-in-Ok-false-clause-cuts g c =
-    nothing_cut (g.D.SectorDevice.state c.args.device.now) (g.D.SectorDevice.state c.lift_inode.new.device) c.args.memory.now c.lift_inode.new.memory c.args.number c.args.first
+    nothing_cut (g.D.SectorDevice.state c.args.device.now) (g.D.SectorDevice.state c.lift_inode.new.device) c.args.memory.now
+    c.lift_inode.new.memory c.args.number c.args.first
     c.in-Ok-false.ensures.prepares (c.in-Ok-false.ensures.none (search rules))
 
 pub returns-in-Err-clause-failed : goal.returns-in-Err-clause-failed
@@ -20,14 +21,16 @@ returns-in-Err-lift_edge-clause-prepares g c =
     let old = g.D.SectorDevice.state c.args.device.now in
     let one = g.D.SectorDevice.state c.lift_inode.new.device in
     let two = g.D.SectorDevice.state c.lift_edge.new.device in
-    prepares_then old one two c.args.memory.now c.lift_inode.new.memory c.lift_edge.new.memory 1 2 (g.met.D.SectorDevice.lawful c.args.device.now) c.in-Ok-true.ensures.prepares c.lift_edge.ensures.prepares
+    prepares_then old one two c.args.memory.now c.lift_inode.new.memory c.lift_edge.new.memory 1 2
+    (g.met.D.SectorDevice.lawful c.args.device.now) c.in-Ok-true.ensures.prepares c.lift_edge.ensures.prepares
 
 pub returns-in-Err-lift_edge-clause-failed : goal.returns-in-Err-lift_edge-clause-failed
 returns-in-Err-lift_edge-clause-failed g c is =
     let old = g.D.SectorDevice.state c.args.device.now in
     let one = g.D.SectorDevice.state c.lift_inode.new.device in
     let two = g.D.SectorDevice.state c.lift_edge.new.device in
-    prepares_excused old one two c.args.memory.now c.lift_inode.new.memory 1 c.in-Ok-true.ensures.prepares c.lift_edge.ensures.prepares.looks (c.in-Err-lift_edge.ensures.failed is)
+    prepares_excused old one two c.args.memory.now c.lift_inode.new.memory 1 c.in-Ok-true.ensures.prepares
+    c.lift_edge.ensures.prepares.looks (c.in-Err-lift_edge.ensures.failed is)
 
 pub returns-in-Ok-drop_counted-clause-cuts : goal.returns-in-Ok-drop_counted-clause-cuts
 returns-in-Ok-drop_counted-clause-cuts g c =
@@ -35,10 +38,13 @@ returns-in-Ok-drop_counted-clause-cuts g c =
     let one = g.D.SectorDevice.state c.lift_inode.new.device in
     let two = g.D.SectorDevice.state c.lift_edge.new.device in
     let new = g.D.SectorDevice.state c.drop_counted.new.device in
-    let up = prepares_then old one two c.args.memory.now c.lift_inode.new.memory c.lift_edge.new.memory 1 2 (g.met.D.SectorDevice.lawful c.args.device.now) c.in-Ok-true.ensures.prepares c.lift_edge.ensures.prepares in
+    let up = prepares_then old one two c.args.memory.now c.lift_inode.new.memory c.lift_edge.new.memory 1 2
+    (g.met.D.SectorDevice.lawful c.args.device.now) c.in-Ok-true.ensures.prepares c.lift_edge.ensures.prepares in
     let there = (c.in-Ok-true.ensures.inside (search rules)).1 in
-    file_cut old two new c.args.memory.now c.lift_edge.new.memory c.drop_counted.new.memory c.args.number c.args.first c.drop_counted.new.counts (g.met.D.SectorDevice.lawful c.args.device.now) up
-    c.drop_counted.ensures.looks c.requires.number (c.lift_edge.ensures.prepares.stay (Inode c.args.number) there) c.in-Ok.ensures.edge c.in-Ok-drop_counted.ensures.counted c.in-Ok-drop_counted.ensures.drops
+    file_cut old two new c.args.memory.now c.lift_edge.new.memory c.drop_counted.new.memory c.args.number c.args.first
+    c.drop_counted.new.counts (g.met.D.SectorDevice.lawful c.args.device.now) up
+    c.drop_counted.ensures.looks c.requires.number (c.lift_edge.ensures.prepares.stay (Inode c.args.number) there) c.in-Ok.ensures.edge
+    c.in-Ok-drop_counted.ensures.counted c.in-Ok-drop_counted.ensures.drops
 
 pub returns-in-Err-drop_counted-clause-prepares : goal.returns-in-Err-drop_counted-clause-prepares
 returns-in-Err-drop_counted-clause-prepares g c =
@@ -46,10 +52,13 @@ returns-in-Err-drop_counted-clause-prepares g c =
     let one = g.D.SectorDevice.state c.lift_inode.new.device in
     let two = g.D.SectorDevice.state c.lift_edge.new.device in
     let new = g.D.SectorDevice.state c.drop_counted.new.device in
-    let up = prepares_then old one two c.args.memory.now c.lift_inode.new.memory c.lift_edge.new.memory 1 2 (g.met.D.SectorDevice.lawful c.args.device.now) c.in-Ok-true.ensures.prepares c.lift_edge.ensures.prepares in
+    let up = prepares_then old one two c.args.memory.now c.lift_inode.new.memory c.lift_edge.new.memory 1 2
+    (g.met.D.SectorDevice.lawful c.args.device.now) c.in-Ok-true.ensures.prepares c.lift_edge.ensures.prepares in
     subst (λ (v : LogMemory). Prepares old new c.args.memory.now v 3) (sym c.in-Err-drop_counted.ensures.same)
-    (prepares_then old two new c.args.memory.now c.lift_edge.new.memory c.lift_edge.new.memory 3 0 (g.met.D.SectorDevice.lawful c.args.device.now) up
-    (prepares_looks two new c.lift_edge.new.memory (g.met.D.SectorDevice.lawful c.lift_edge.new.device) up.memory c.drop_counted.ensures.looks))
+    (prepares_then old two new c.args.memory.now c.lift_edge.new.memory c.lift_edge.new.memory 3 0
+    (g.met.D.SectorDevice.lawful c.args.device.now) up
+    (prepares_looks two new c.lift_edge.new.memory (g.met.D.SectorDevice.lawful c.lift_edge.new.device) up.memory
+    c.drop_counted.ensures.looks))
 
 pub returns-in-Err-drop_counted-clause-failed : goal.returns-in-Err-drop_counted-clause-failed
 returns-in-Err-drop_counted-clause-failed g c is =
@@ -57,5 +66,7 @@ returns-in-Err-drop_counted-clause-failed g c is =
     let one = g.D.SectorDevice.state c.lift_inode.new.device in
     let two = g.D.SectorDevice.state c.lift_edge.new.device in
     let new = g.D.SectorDevice.state c.drop_counted.new.device in
-    let up = prepares_then old one two c.args.memory.now c.lift_inode.new.memory c.lift_edge.new.memory 1 2 (g.met.D.SectorDevice.lawful c.args.device.now) c.in-Ok-true.ensures.prepares c.lift_edge.ensures.prepares in
-    prepares_excused old two new c.args.memory.now c.lift_edge.new.memory 3 up c.drop_counted.ensures.looks c.in-Err-drop_counted.ensures.failed
+    let up = prepares_then old one two c.args.memory.now c.lift_inode.new.memory c.lift_edge.new.memory 1 2
+    (g.met.D.SectorDevice.lawful c.args.device.now) c.in-Ok-true.ensures.prepares c.lift_edge.ensures.prepares in
+    prepares_excused old two new c.args.memory.now c.lift_edge.new.memory 3 up c.drop_counted.ensures.looks
+    c.in-Err-drop_counted.ensures.failed

@@ -7,19 +7,22 @@ use Rattle.lfs_memory.proofs.CutEdges.{other_result, low_edge, high_edge}
 use Rattle.lfs_memory.proofs.cutting.lift_edge.Goals as goal
 
 pub returns-then-first-clause-edge : goal.returns-then-first-clause-edge
-returns-then-first-clause-edge g c = ok_then c.lift_part.result _ _ (low_edge c.lift_part.new.memory c.args.number c.args.first c.if-first.true) c.lift_part.ensures.leaf
+returns-then-first-clause-edge g c =
+    ok_then c.lift_part.result _ _ (low_edge c.lift_part.new.memory c.args.number c.args.first c.if-first.true) c.lift_part.ensures.leaf
 
 pub returns-in-Ok-true-clause-prepares : goal.returns-in-Ok-true-clause-prepares
 returns-in-Ok-true-clause-prepares g c =
     let old = g.D.SectorDevice.state c.args.device.now in
     let mid = g.D.SectorDevice.state c.lift_child.new.device in
     let new = g.D.SectorDevice.state c.lift_part-in-Ok-true.new.device in
-    prepares_then old mid new c.args.memory.now c.lift_child.new.memory c.lift_part-in-Ok-true.new.memory 1 1 (g.met.D.SectorDevice.lawful c.args.device.now) c.in-Ok-true.ensures.prepares c.lift_part-in-Ok-true.ensures.prepares
+    prepares_then old mid new c.args.memory.now c.lift_child.new.memory c.lift_part-in-Ok-true.new.memory 1 1
+    (g.met.D.SectorDevice.lawful c.args.device.now) c.in-Ok-true.ensures.prepares c.lift_part-in-Ok-true.ensures.prepares
 
 pub returns-in-Ok-true-clause-edge : goal.returns-in-Ok-true-clause-edge
 returns-in-Ok-true-clause-edge g c =
     let root = subst (IsInMemory c.lift_child.new.memory) c.double.ensures (c.in-Ok-true.ensures.inside (search rules)) in
-    ok_then c.lift_part-in-Ok-true.result _ _ (high_edge c.lift_part-in-Ok-true.new.memory c.args.number c.args.first (c.lift_part-in-Ok-true.ensures.prepares.stay (Double c.args.number) root))
+    ok_then c.lift_part-in-Ok-true.result _ _ (high_edge c.lift_part-in-Ok-true.new.memory c.args.number c.args.first
+    (c.lift_part-in-Ok-true.ensures.prepares.stay (Double c.args.number) root))
     c.lift_part-in-Ok-true.ensures.leaf
 
 pub returns-in-Ok-true-clause-failed : goal.returns-in-Ok-true-clause-failed
@@ -27,7 +30,8 @@ returns-in-Ok-true-clause-failed g c is =
     let old = g.D.SectorDevice.state c.args.device.now in
     let mid = g.D.SectorDevice.state c.lift_child.new.device in
     let new = g.D.SectorDevice.state c.lift_part-in-Ok-true.new.device in
-    prepares_excused old mid new c.args.memory.now c.lift_child.new.memory 1 c.in-Ok-true.ensures.prepares c.lift_part-in-Ok-true.ensures.prepares.looks (c.lift_part-in-Ok-true.ensures.failed is)
+    prepares_excused old mid new c.args.memory.now c.lift_child.new.memory 1 c.in-Ok-true.ensures.prepares
+    c.lift_part-in-Ok-true.ensures.prepares.looks (c.lift_part-in-Ok-true.ensures.failed is)
 
 pub returns-in-Err-clause-failed : goal.returns-in-Err-clause-failed
 returns-in-Err-clause-failed g c is = c.in-Err.ensures.failed (other_result c.in-Err.fault _ is)

@@ -3,7 +3,8 @@ use Rattle.lfs_memory.proofs.cutting.lift_part.Goals as goal
 
 pub lift_child-requires-clause-above : goal.lift_child-requires-clause-above
 lift_child-requires-clause-above g c =
-    above_cut_leaf c.args.memory.now c.args.number c.args.first _ c.leaf-leaf.ensures c.if-first-le-DIRECT.false c.if-first-eq0.false c.requires.above
+    above_cut_leaf c.args.memory.now c.args.number c.args.first _ c.leaf-leaf.ensures c.if-first-le-DIRECT.false c.if-first-eq0.false
+    c.requires.above
 
 pub returns-in-Err-clause-failed : goal.returns-in-Err-clause-failed
 returns-in-Err-clause-failed g c is = c.in-Err.ensures.failed (other_result c.in-Err.fault _ is)

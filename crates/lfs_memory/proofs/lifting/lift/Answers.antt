@@ -11,25 +11,32 @@ use Rattle.lfs_memory.proofs.lifting.lift.Goals as goal
 
 pub returns-then-len-capacity-clause-prepares : goal.returns-then-len-capacity-clause-prepares
 returns-then-len-capacity-clause-prepares g c =
-    prepares_at_most (g.D.SectorDevice.state c.args.device.now) (g.D.SectorDevice.state c.args.device.now) c.args.memory.now c.args.memory.now 0 1 (omega arith)
-    (prepares_looks (g.D.SectorDevice.state c.args.device.now) (g.D.SectorDevice.state c.args.device.now) c.args.memory.now (g.met.D.SectorDevice.lawful c.args.device.now) c.requires.memory
+    prepares_at_most (g.D.SectorDevice.state c.args.device.now) (g.D.SectorDevice.state c.args.device.now) c.args.memory.now
+    c.args.memory.now 0 1 (omega arith)
+    (prepares_looks (g.D.SectorDevice.state c.args.device.now) (g.D.SectorDevice.state c.args.device.now) c.args.memory.now
+    (g.met.D.SectorDevice.lawful c.args.device.now) c.requires.memory
     (looks_none (g.D.SectorDevice.state c.args.device.now)))
 
 pub returns-then-not-is_counted-clause-prepares : goal.returns-then-not-is_counted-clause-prepares
 returns-then-not-is_counted-clause-prepares g c =
-    prepares_at_most (g.D.SectorDevice.state c.args.device.now) (g.D.SectorDevice.state c.args.device.now) c.args.memory.now c.args.memory.now 0 1 (omega arith)
-    (prepares_looks (g.D.SectorDevice.state c.args.device.now) (g.D.SectorDevice.state c.args.device.now) c.args.memory.now (g.met.D.SectorDevice.lawful c.args.device.now) c.requires.memory
+    prepares_at_most (g.D.SectorDevice.state c.args.device.now) (g.D.SectorDevice.state c.args.device.now) c.args.memory.now
+    c.args.memory.now 0 1 (omega arith)
+    (prepares_looks (g.D.SectorDevice.state c.args.device.now) (g.D.SectorDevice.state c.args.device.now) c.args.memory.now
+    (g.met.D.SectorDevice.lawful c.args.device.now) c.requires.memory
     (looks_none (g.D.SectorDevice.state c.args.device.now)))
 
 pub returns-then-not-is_counted-clause-failed : goal.returns-then-not-is_counted-clause-failed
 returns-then-not-is_counted-clause-failed g c is =
     bring_lost (g.D.SectorDevice.state c.args.device.now) c.args.memory.now _ c.file.result c.args.address (not c.is_hidden-lives.result)
-    (file_is c.args.key.code c.file.result c.file.ensures.file) (omega (arith, c.file.ensures.few)) c.requires.at c.requires.above (ap not c.is_hidden-lives.ensures) (search rules)
+    (file_is c.args.key.code c.file.result c.file.ensures.file) (omega (arith, c.file.ensures.few)) c.requires.at c.requires.above
+    (ap not c.is_hidden-lives.ensures) (search rules)
 
 pub returns-then-address-sectors-clause-prepares : goal.returns-then-address-sectors-clause-prepares
 returns-then-address-sectors-clause-prepares g c =
-    prepares_at_most (g.D.SectorDevice.state c.args.device.now) (g.D.SectorDevice.state c.args.device.now) c.args.memory.now c.args.memory.now 0 1 (omega arith)
-    (prepares_looks (g.D.SectorDevice.state c.args.device.now) (g.D.SectorDevice.state c.args.device.now) c.args.memory.now (g.met.D.SectorDevice.lawful c.args.device.now) c.requires.memory
+    prepares_at_most (g.D.SectorDevice.state c.args.device.now) (g.D.SectorDevice.state c.args.device.now) c.args.memory.now
+    c.args.memory.now 0 1 (omega arith)
+    (prepares_looks (g.D.SectorDevice.state c.args.device.now) (g.D.SectorDevice.state c.args.device.now) c.args.memory.now
+    (g.met.D.SectorDevice.lawful c.args.device.now) c.requires.memory
     (looks_none (g.D.SectorDevice.state c.args.device.now)))
 
 pub returns-then-address-sectors-clause-failed : goal.returns-then-address-sectors-clause-failed
@@ -37,7 +44,8 @@ returns-then-address-sectors-clause-failed g c is =
     let d = g.D.SectorDevice.state c.args.device.now in
     bring_unread d d c.args.memory.now _ c.file.result c.args.address
     (file_is c.args.key.code c.file.result c.file.ensures.file) (omega (arith, c.file.ensures.few)) c.requires.at c.requires.above
-    (λ keeps. inr (past_missing d (blocks_of c.args.memory.now.dirty) _ c.args.address (g.met.D.SectorDevice.lawful c.args.device.now) c.requires.above (search rules)))
+    (λ keeps. inr (past_missing d (blocks_of c.args.memory.now.dirty) _ c.args.address
+    (g.met.D.SectorDevice.lawful c.args.device.now) c.requires.above (search rules)))
 
 pub returns-in-Err-clause-prepares : goal.returns-in-Err-clause-prepares
 returns-in-Err-clause-prepares g c =
@@ -65,17 +73,22 @@ returns-in-Ok-clause-prepares g c =
     let looks = lent_looks old new c.args.address _ lends.reads in
     bring_prepares old new c.args.memory.now c.bring.new.memory _ c.file.result c.args.address
     (not c.is_hidden-lives.result) c.in-Ok.block.now (g.met.D.SectorDevice.lawful c.args.device.now) c.requires.memory looks
-    (file_is c.args.key.code c.file.result c.file.ensures.file) (omega (arith, c.file.ensures.few)) c.requires.at c.requires.above (ap not c.is_hidden-lives.ensures) c.requires.mapped
-    (λ keeps. lent_present old.content (blocks_of c.args.memory.now.dirty) (entry_of c.args.key) c.args.address _ c.requires.above (lends.value keeps)) c.bring.ensures
+    (file_is c.args.key.code c.file.result c.file.ensures.file) (omega (arith, c.file.ensures.few)) c.requires.at c.requires.above
+    (ap not c.is_hidden-lives.ensures) c.requires.mapped
+    (λ keeps. lent_present old.content (blocks_of c.args.memory.now.dirty) (entry_of c.args.key) c.args.address _ c.requires.above
+    (lends.value keeps)) c.bring.ensures
 
 pub returns-then-len-capacity-clause-gathers : goal.returns-then-len-capacity-clause-gathers
-returns-then-len-capacity-clause-gathers g c = gathers_looks (g.D.SectorDevice.state c.args.device.now) (g.D.SectorDevice.state c.args.device.now) c.args.memory.now (looks_none (g.D.SectorDevice.state c.args.device.now))
+returns-then-len-capacity-clause-gathers g c = gathers_looks (g.D.SectorDevice.state c.args.device.now)
+    (g.D.SectorDevice.state c.args.device.now) c.args.memory.now (looks_none (g.D.SectorDevice.state c.args.device.now))
 
 pub returns-then-not-is_counted-clause-gathers : goal.returns-then-not-is_counted-clause-gathers
-returns-then-not-is_counted-clause-gathers g c = gathers_looks (g.D.SectorDevice.state c.args.device.now) (g.D.SectorDevice.state c.args.device.now) c.args.memory.now (looks_none (g.D.SectorDevice.state c.args.device.now))
+returns-then-not-is_counted-clause-gathers g c = gathers_looks (g.D.SectorDevice.state c.args.device.now)
+    (g.D.SectorDevice.state c.args.device.now) c.args.memory.now (looks_none (g.D.SectorDevice.state c.args.device.now))
 
 pub returns-then-address-sectors-clause-gathers : goal.returns-then-address-sectors-clause-gathers
-returns-then-address-sectors-clause-gathers g c = gathers_looks (g.D.SectorDevice.state c.args.device.now) (g.D.SectorDevice.state c.args.device.now) c.args.memory.now (looks_none (g.D.SectorDevice.state c.args.device.now))
+returns-then-address-sectors-clause-gathers g c = gathers_looks (g.D.SectorDevice.state c.args.device.now)
+    (g.D.SectorDevice.state c.args.device.now) c.args.memory.now (looks_none (g.D.SectorDevice.state c.args.device.now))
 
 pub returns-in-Err-clause-gathers : goal.returns-in-Err-clause-gathers
 returns-in-Err-clause-gathers g c =
@@ -93,5 +106,7 @@ returns-in-Ok-clause-gathers g c =
     let looks = lent_looks old new c.args.address _ lends.reads in
     bring_gathers old new c.args.memory.now c.bring.new.memory _ c.file.result c.args.address
     (not c.is_hidden-lives.result) c.in-Ok.block.now looks
-    (file_is c.args.key.code c.file.result c.file.ensures.file) (omega (arith, c.file.ensures.few)) c.requires.at c.requires.above (ap not c.is_hidden-lives.ensures) c.requires.mapped
-    (λ keeps. lent_present old.content (blocks_of c.args.memory.now.dirty) (entry_of c.args.key) c.args.address _ c.requires.above (lends.value keeps)) c.bring.ensures
+    (file_is c.args.key.code c.file.result c.file.ensures.file) (omega (arith, c.file.ensures.few)) c.requires.at c.requires.above
+    (ap not c.is_hidden-lives.ensures) c.requires.mapped
+    (λ keeps. lent_present old.content (blocks_of c.args.memory.now.dirty) (entry_of c.args.key) c.args.address _ c.requires.above
+    (lends.value keeps)) c.bring.ensures

@@ -12,5 +12,6 @@ pub returns : goal.returns
 returns c =
     let up : entry_of c.unwrap-above.result ≡ parent (entry_of c.args.key) = search rules in
     let held : blocks_of c.args.memory.now.dirty (entry_of c.unwrap-above.result) ≡ Some c.unwrap-block.result.now = search rules in
-    below_stands c.args.memory.now _ c.unwrap-block.result.now c.word.result c.requires.below (leaf_low c.args.key.code c.args.key.formed) (ap (blocks_of c.args.memory.now.dirty) (sym up) ∙ held)
+    below_stands c.args.memory.now _ c.unwrap-block.result.now c.word.result c.requires.below (leaf_low c.args.key.code c.args.key.formed)
+    (ap (blocks_of c.args.memory.now.dirty) (sym up) ∙ held)
     (word_read c.unwrap-block.result.now _ c.pointer.result c.word.result c.pointer.ensures.pointer c.word.ensures)

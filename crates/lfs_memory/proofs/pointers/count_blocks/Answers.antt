@@ -19,13 +19,16 @@ loop-at-preserved g c =
     record {
       most = part.further.1;
       kept = c.count_part.ensures.kept;
-      counted = counted_more old mid new c.args.memory.now c.args.number c.args.from c.loop-at.at c.in-Ok.part.1 c.loop-at.count c.in-Ok.part.0
-          (g.met.D.SectorDevice.lawful c.args.device.now) was.counted c.count_part.ensures.looks part.no_failure part.further.0 part.few part.answer;
+      counted =
+          counted_more old mid new c.args.memory.now c.args.number c.args.from c.loop-at.at c.in-Ok.part.1 c.loop-at.count c.in-Ok.part.0
+          (g.met.D.SectorDevice.lawful c.args.device.now) was.counted c.count_part.ensures.looks part.no_failure part.further.0 part.few
+          part.answer;
     }
 
 pub returns-in-Err-clause-failed : goal.returns-in-Err-clause-failed
 returns-in-Err-clause-failed g c =
-    counted_fault (g.D.SectorDevice.state c.args.device.now) (g.D.SectorDevice.state c.loop-at.device) (g.D.SectorDevice.state c.count_part.new.device) c.args.memory.now c.args.number
+    counted_fault (g.D.SectorDevice.state c.args.device.now) (g.D.SectorDevice.state c.loop-at.device)
+    (g.D.SectorDevice.state c.count_part.new.device) c.args.memory.now c.args.number
     c.args.from c.loop-at.at c.loop-at.count c.loop-at.invariant.counted c.in-Err.ensures.failed
 
 pub returns-clause-answer : goal.returns-clause-answer
@@ -33,5 +36,6 @@ returns-clause-answer g c =
     let most = c.loop-at.invariant.most in
     let ended = c.loop-at-test.false in
     let end : c.loop-at.at ≡ c.args.to = omega (arith, most, ended) in
-    counted_all (g.D.SectorDevice.state c.args.device.now) (g.D.SectorDevice.state c.loop-at.device) c.args.memory.now c.args.number c.args.from c.loop-at.at c.args.to c.loop-at.count end
+    counted_all (g.D.SectorDevice.state c.args.device.now) (g.D.SectorDevice.state c.loop-at.device) c.args.memory.now c.args.number
+    c.args.from c.loop-at.at c.args.to c.loop-at.count end
     c.loop-at.invariant.counted

@@ -10,8 +10,10 @@ returns-then-is_kept_for-clause-answer g c =
 
 pub returns-then-is_kept_for-clause-some : goal.returns-then-is_kept_for-clause-some
 returns-then-is_kept_for-clause-some g c some =
-    kept_some (g.D.SectorDevice.state c.args.device.now) c.args.memory.now c.args.kept.now c.args.number c.args.index c.requires.kept (c.is_kept_for.ensures c.if-is_kept_for.true)
+    kept_some (g.D.SectorDevice.state c.args.device.now) c.args.memory.now c.args.kept.now c.args.number c.args.index c.requires.kept
+    (c.is_kept_for.ensures c.if-is_kept_for.true)
 
 pub returns-clause-kept : goal.returns-clause-kept
 returns-clause-kept g c =
-    run_still (g.D.SectorDevice.state c.args.device.now) (g.D.SectorDevice.state c.locate_block.new.device) c.args.memory.now c.args.kept.now c.locate_block.ensures.looks c.requires.kept
+    run_still (g.D.SectorDevice.state c.args.device.now) (g.D.SectorDevice.state c.locate_block.new.device) c.args.memory.now
+    c.args.kept.now c.locate_block.ensures.looks c.requires.kept

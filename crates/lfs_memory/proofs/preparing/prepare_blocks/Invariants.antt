@@ -4,4 +4,5 @@ use Rattle.lfs_memory.proofs.preparing.prepare_blocks.Given as goal
 
 abbrev pub invariant-loop-edit : goal.invariant-loop-edit
 invariant-loop-edit g l =
-    BlocksPrepared (g.D.SectorDevice.state l.initial.device) (g.D.SectorDevice.state l.device) l.initial.memory l.memory l.edits (drop l.edit-index l.edits)
+    BlocksPrepared (g.D.SectorDevice.state l.initial.device) (g.D.SectorDevice.state l.device) l.initial.memory l.memory l.edits
+    (drop l.edit-index l.edits)

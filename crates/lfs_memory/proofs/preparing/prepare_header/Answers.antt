@@ -4,19 +4,24 @@ use Rattle.lfs_memory.proofs.Prepared.{named_prepares, named_excused}
 use Rattle.lfs_memory.proofs.preparing.prepare_header.Goals as goal
 
 pub returns-in-Err-clause-failed : goal.returns-in-Err-clause-failed
-returns-in-Err-clause-failed g c is = map_lost (g.D.SectorDevice.state c.args.device.now) c.args.memory.now (c.args.number / 128) c.in-Err.ensures.lost
+returns-in-Err-clause-failed g c is =
+    map_lost (g.D.SectorDevice.state c.args.device.now) c.args.memory.now (c.args.number / 128) c.in-Err.ensures.lost
 
 pub returns-in-Ok-lift_inode-clause-prepares : goal.returns-in-Ok-lift_inode-clause-prepares
 returns-in-Ok-lift_inode-clause-prepares g c =
-    named_prepares (g.D.SectorDevice.state c.args.device.now) (g.D.SectorDevice.state c.lift_inode.new.device) c.args.memory.now c.prepare_name.new.memory c.lift_inode.new.memory (c.args.number / 128)
+    named_prepares (g.D.SectorDevice.state c.args.device.now) (g.D.SectorDevice.state c.lift_inode.new.device) c.args.memory.now
+    c.prepare_name.new.memory c.lift_inode.new.memory (c.args.number / 128)
     (g.met.D.SectorDevice.lawful c.args.device.now) c.requires.memory c.in-Ok.ensures.done c.lift_inode.ensures.prepares
 
 pub returns-in-Err-lift_inode-clause-prepares : goal.returns-in-Err-lift_inode-clause-prepares
 returns-in-Err-lift_inode-clause-prepares g c =
-    named_prepares (g.D.SectorDevice.state c.args.device.now) (g.D.SectorDevice.state c.lift_inode.new.device) c.args.memory.now c.prepare_name.new.memory c.lift_inode.new.memory (c.args.number / 128)
+    named_prepares (g.D.SectorDevice.state c.args.device.now) (g.D.SectorDevice.state c.lift_inode.new.device) c.args.memory.now
+    c.prepare_name.new.memory c.lift_inode.new.memory (c.args.number / 128)
     (g.met.D.SectorDevice.lawful c.args.device.now) c.requires.memory c.in-Ok.ensures.done c.lift_inode.ensures.prepares
 
 pub returns-in-Err-lift_inode-clause-failed : goal.returns-in-Err-lift_inode-clause-failed
 returns-in-Err-lift_inode-clause-failed g c is =
-    named_excused (g.D.SectorDevice.state c.args.device.now) (g.D.SectorDevice.state c.lift_inode.new.device) c.args.memory.now c.prepare_name.new.memory c.lift_inode.new.memory (c.args.number / 128)
-    (g.met.D.SectorDevice.lawful c.args.device.now) c.requires.memory c.in-Ok.ensures.done c.lift_inode.ensures.prepares (c.in-Err-lift_inode.ensures.failed (search rules))
+    named_excused (g.D.SectorDevice.state c.args.device.now) (g.D.SectorDevice.state c.lift_inode.new.device) c.args.memory.now
+    c.prepare_name.new.memory c.lift_inode.new.memory (c.args.number / 128)
+    (g.met.D.SectorDevice.lawful c.args.device.now) c.requires.memory c.in-Ok.ensures.done c.lift_inode.ensures.prepares
+    (c.in-Err-lift_inode.ensures.failed (search rules))

@@ -6,13 +6,18 @@ use Rattle.lfs_memory.proofs.preparing.prepare_leaf.Goals as goal
 
 pub returns-clause-prepares : goal.returns-clause-prepares
 returns-clause-prepares g c =
-    prepares_then (g.D.SectorDevice.state c.args.device.now) (g.D.SectorDevice.state c.prepare_pointers-2.new.device) (g.D.SectorDevice.state c.prepare_pointers-3.new.device) c.args.memory.now
-    c.prepare_pointers-2.new.memory c.prepare_pointers-3.new.memory 1 1 (g.met.D.SectorDevice.lawful c.args.device.now) c.prepare_pointers-2.ensures.prepares c.prepare_pointers-3.ensures.prepares
+    prepares_then (g.D.SectorDevice.state c.args.device.now) (g.D.SectorDevice.state c.prepare_pointers-2.new.device)
+    (g.D.SectorDevice.state c.prepare_pointers-3.new.device) c.args.memory.now
+    c.prepare_pointers-2.new.memory c.prepare_pointers-3.new.memory 1 1
+    (g.met.D.SectorDevice.lawful c.args.device.now) c.prepare_pointers-2.ensures.prepares c.prepare_pointers-3.ensures.prepares
 
 pub returns-clause-inside : goal.returns-clause-inside
-returns-clause-inside g c = subst (λ (x : Entry). OnOk c.prepare_pointers-3.result (IsInMemory c.prepare_pointers-3.new.memory x)) c.leaf-leaf.ensures c.prepare_pointers-3.ensures.inside
+returns-clause-inside g c = subst (λ (x : Entry). OnOk c.prepare_pointers-3.result (IsInMemory c.prepare_pointers-3.new.memory x))
+    c.leaf-leaf.ensures c.prepare_pointers-3.ensures.inside
 
 pub returns-clause-failed : goal.returns-clause-failed
 returns-clause-failed g c is =
-    prepares_excused (g.D.SectorDevice.state c.args.device.now) (g.D.SectorDevice.state c.prepare_pointers-2.new.device) (g.D.SectorDevice.state c.prepare_pointers-3.new.device) c.args.memory.now
-    c.prepare_pointers-2.new.memory 1 c.prepare_pointers-2.ensures.prepares c.prepare_pointers-3.ensures.prepares.looks (c.prepare_pointers-3.ensures.failed is)
+    prepares_excused (g.D.SectorDevice.state c.args.device.now) (g.D.SectorDevice.state c.prepare_pointers-2.new.device)
+    (g.D.SectorDevice.state c.prepare_pointers-3.new.device) c.args.memory.now
+    c.prepare_pointers-2.new.memory 1 c.prepare_pointers-2.ensures.prepares c.prepare_pointers-3.ensures.prepares.looks
+    (c.prepare_pointers-3.ensures.failed is)

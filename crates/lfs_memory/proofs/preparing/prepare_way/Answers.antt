@@ -6,24 +6,31 @@ use Rattle.lfs_memory.proofs.preparing.prepare_way.Goals as goal
 
 pub returns-in-Err-clause-failed : goal.returns-in-Err-clause-failed
 returns-in-Err-clause-failed g c is =
-    excused_within (g.D.SectorDevice.state c.args.device.now) (g.D.SectorDevice.state c.lift_inode.new.device) c.args.memory.now c.args.number c.args.index (c.in-Err.ensures.failed (search rules))
+    excused_within (g.D.SectorDevice.state c.args.device.now) (g.D.SectorDevice.state c.lift_inode.new.device) c.args.memory.now
+    c.args.number c.args.index (c.in-Err.ensures.failed (search rules))
 
 pub returns-then-not-found-clause-failed : goal.returns-then-not-found-clause-failed
 returns-then-not-found-clause-failed g c _ =
-    absent_within (g.D.SectorDevice.state c.args.device.now) (g.D.SectorDevice.state c.lift_inode.new.device) c.args.memory.now c.args.number c.args.index c.if-index-lt-DIRECT.false
+    absent_within (g.D.SectorDevice.state c.args.device.now) (g.D.SectorDevice.state c.lift_inode.new.device) c.args.memory.now
+    c.args.number c.args.index c.if-index-lt-DIRECT.false
     (c.in-Ok.ensures.absent (search rules))
 
 pub returns-clause-prepares : goal.returns-clause-prepares
 returns-clause-prepares g c =
-    prepares_then (g.D.SectorDevice.state c.args.device.now) (g.D.SectorDevice.state c.lift_inode.new.device) (g.D.SectorDevice.state c.prepare_leaf.new.device) c.args.memory.now
-    c.lift_inode.new.memory c.prepare_leaf.new.memory 1 2 (g.met.D.SectorDevice.lawful c.args.device.now) c.lift_inode.ensures.prepares c.prepare_leaf.ensures.prepares
+    prepares_then (g.D.SectorDevice.state c.args.device.now) (g.D.SectorDevice.state c.lift_inode.new.device)
+    (g.D.SectorDevice.state c.prepare_leaf.new.device) c.args.memory.now
+    c.lift_inode.new.memory c.prepare_leaf.new.memory 1 2 (g.met.D.SectorDevice.lawful c.args.device.now) c.lift_inode.ensures.prepares
+    c.prepare_leaf.ensures.prepares
 
 pub returns-clause-ready : goal.returns-clause-ready
 returns-clause-ready g c =
-    ok_then c.prepare_leaf.result _ _ (way_high c.prepare_leaf.new.memory c.args.number c.args.index c.if-index-lt-DIRECT.false) c.prepare_leaf.ensures.inside
+    ok_then c.prepare_leaf.result _ _ (way_high c.prepare_leaf.new.memory c.args.number c.args.index c.if-index-lt-DIRECT.false)
+    c.prepare_leaf.ensures.inside
 
 pub returns-clause-failed : goal.returns-clause-failed
 returns-clause-failed g c is =
-    excused_within (g.D.SectorDevice.state c.args.device.now) (g.D.SectorDevice.state c.prepare_leaf.new.device) c.args.memory.now c.args.number c.args.index
-    (prepares_excused (g.D.SectorDevice.state c.args.device.now) (g.D.SectorDevice.state c.lift_inode.new.device) (g.D.SectorDevice.state c.prepare_leaf.new.device) c.args.memory.now
+    excused_within (g.D.SectorDevice.state c.args.device.now) (g.D.SectorDevice.state c.prepare_leaf.new.device) c.args.memory.now
+    c.args.number c.args.index
+    (prepares_excused (g.D.SectorDevice.state c.args.device.now) (g.D.SectorDevice.state c.lift_inode.new.device)
+    (g.D.SectorDevice.state c.prepare_leaf.new.device) c.args.memory.now
     c.lift_inode.new.memory 1 c.lift_inode.ensures.prepares c.prepare_leaf.ensures.prepares.looks (c.prepare_leaf.ensures.failed is))

@@ -24,11 +24,18 @@ returns-in-Ok-clause-answer g c =
     let new = g.D.SectorDevice.state c.locate_behind.new.device in
     let v = c.args.memory.now in
     let n = c.args.number in
-    let some = subst (λ (o : Option ℕ). IfSome o (λ w. (1 ≤ n) × (1 ≤ address_in v.map n))) c.in-Ok-Some.field-0-is c.in-Ok-Some.ensures.some in
-    let read = subst (λ (o : Option ℕ). IfSome o (ShowsWord old mid v (Inode n) (address_in v.map n) c.first_pointer.result)) c.in-Ok-Some.field-0-is c.in-Ok-Some.ensures.read in
+    let some =
+    subst (λ (o : Option ℕ). IfSome o (λ w. (1 ≤ n) × (1 ≤ address_in v.map n))) c.in-Ok-Some.field-0-is c.in-Ok-Some.ensures.some in
+    let read = subst (λ (o : Option ℕ). IfSome o (ShowsWord old mid v (Inode n) (address_in v.map n) c.first_pointer.result))
+    c.in-Ok-Some.field-0-is c.in-Ok-Some.ensures.read in
     let first = read.is ∙ ap (word read.shown) c.first_pointer.ensures.value in
     address_found old mid new v n c.args.index read.shown c.in-Ok-Some.ensures.looks
-    (record { untouched = c.locate_behind.ensures.untouched; carries = c.locate_behind.ensures.carries; time = c.locate_behind.ensures.time; told = c.locate_behind.ensures.told })
+    (record {
+      untouched = c.locate_behind.ensures.untouched;
+      carries = c.locate_behind.ensures.carries;
+      time = c.locate_behind.ensures.time;
+      told = c.locate_behind.ensures.told;
+    })
     some.1 (search rules) read.value c.in-Ok.address (λ keeps. c.in-Ok.ensures.value read.shown first keeps)
 
 pub returns-in-Err-locate_behind-clause-failed : goal.returns-in-Err-locate_behind-clause-failed
@@ -38,9 +45,17 @@ returns-in-Err-locate_behind-clause-failed g c =
     let new = g.D.SectorDevice.state c.locate_behind.new.device in
     let v = c.args.memory.now in
     let n = c.args.number in
-    let some = subst (λ (o : Option ℕ). IfSome o (λ w. (1 ≤ n) × (1 ≤ address_in v.map n))) c.in-Ok-Some.field-0-is c.in-Ok-Some.ensures.some in
-    let read = subst (λ (o : Option ℕ). IfSome o (ShowsWord old mid v (Inode n) (address_in v.map n) c.first_pointer.result)) c.in-Ok-Some.field-0-is c.in-Ok-Some.ensures.read in
+    let some =
+    subst (λ (o : Option ℕ). IfSome o (λ w. (1 ≤ n) × (1 ≤ address_in v.map n))) c.in-Ok-Some.field-0-is c.in-Ok-Some.ensures.some in
+    let read = subst (λ (o : Option ℕ). IfSome o (ShowsWord old mid v (Inode n) (address_in v.map n) c.first_pointer.result))
+    c.in-Ok-Some.field-0-is c.in-Ok-Some.ensures.read in
     let first = read.is ∙ ap (word read.shown) c.first_pointer.ensures.value in
     address_failed old mid new v n c.args.index read.shown c.in-Err-locate_behind.field-0 c.in-Ok-Some.ensures.looks
-    (record { untouched = c.locate_behind.ensures.untouched; carries = c.locate_behind.ensures.carries; time = c.locate_behind.ensures.time; told = c.locate_behind.ensures.told })
-    some.1 (search rules) read.value (λ is. c.in-Err-locate_behind.ensures.unreadable (ap Err is) read.shown first) (λ is. c.in-Err-locate_behind.ensures.failed (ap Err is))
+    (record {
+      untouched = c.locate_behind.ensures.untouched;
+      carries = c.locate_behind.ensures.carries;
+      time = c.locate_behind.ensures.time;
+      told = c.locate_behind.ensures.told;
+    })
+    some.1 (search rules) read.value (λ is. c.in-Err-locate_behind.ensures.unreadable (ap Err is) read.shown first)
+    (λ is. c.in-Err-locate_behind.ensures.failed (ap Err is))

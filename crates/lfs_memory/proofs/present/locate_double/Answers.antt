@@ -19,6 +19,8 @@ returns-in-Ok-Some-clause-answer g c =
     let new = g.D.SectorDevice.state c.inode_word.new.device in
     let v = c.args.memory.now in
     let n = c.args.number in
-    let some = subst (λ (o : Option ℕ). IfSome o (λ w. (1 ≤ n) × (1 ≤ address_in v.map n))) c.in-Ok-Some.field-0-is c.in-Ok-Some.ensures.some in
-    let read = subst (λ (o : Option ℕ). IfSome o (ShowsWord old new v (Inode n) (address_in v.map n) 121)) c.in-Ok-Some.field-0-is c.in-Ok-Some.ensures.read in
+    let some =
+    subst (λ (o : Option ℕ). IfSome o (λ w. (1 ≤ n) × (1 ≤ address_in v.map n))) c.in-Ok-Some.field-0-is c.in-Ok-Some.ensures.some in
+    let read = subst (λ (o : Option ℕ). IfSome o (ShowsWord old new v (Inode n) (address_in v.map n) 121)) c.in-Ok-Some.field-0-is
+    c.in-Ok-Some.ensures.read in
     root_found old new v n read.shown c.in-Ok-Some.pointer some.1 read.value read.is

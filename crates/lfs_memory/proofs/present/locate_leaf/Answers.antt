@@ -22,10 +22,14 @@ returns-then-leaf-eq0-2-clause-answer g c =
     let n = c.args.number in
     let q = c.args.leaf in
     let first = c.in-Ok-Some.first in
-    let some = subst (λ (o : Option ℕ). IfSome o (λ w. (1 ≤ n) × (1 ≤ address_in v.map n))) c.in-Ok-Some.field-0-is c.in-Ok-Some.ensures.some in
-    let read = subst (λ (o : Option ℕ). IfSome o (ShowsWord old new v (Inode n) (address_in v.map n) c.if-leaf-eq0.place)) c.in-Ok-Some.field-0-is c.in-Ok-Some.ensures.read in
-    let single : q ≡ 0 → c.if-leaf-eq0.place ≡ 120 = elim c.if-leaf-eq0.branch [ then-leaf-eq0 w ↦ λ is. w.place-is | else-leaf-eq0 w ↦ λ is. absurd (w.if-leaf-eq0.false is) ] in
-    let double : (q ≡ 0 → ⊥) → c.if-leaf-eq0.place ≡ 121 = elim c.if-leaf-eq0.branch [ then-leaf-eq0 w ↦ λ other. absurd (other w.if-leaf-eq0.true) | else-leaf-eq0 w ↦ λ other. w.place-is ] in
+    let some =
+    subst (λ (o : Option ℕ). IfSome o (λ w. (1 ≤ n) × (1 ≤ address_in v.map n))) c.in-Ok-Some.field-0-is c.in-Ok-Some.ensures.some in
+    let read = subst (λ (o : Option ℕ). IfSome o (ShowsWord old new v (Inode n) (address_in v.map n) c.if-leaf-eq0.place))
+    c.in-Ok-Some.field-0-is c.in-Ok-Some.ensures.read in
+    let single : q ≡ 0 → c.if-leaf-eq0.place ≡ 120 = elim c.if-leaf-eq0.branch
+    [ then-leaf-eq0 w ↦ λ is. w.place-is | else-leaf-eq0 w ↦ λ is. absurd (w.if-leaf-eq0.false is) ] in
+    let double : (q ≡ 0 → ⊥) → c.if-leaf-eq0.place ≡ 121 = elim c.if-leaf-eq0.branch
+    [ then-leaf-eq0 w ↦ λ other. absurd (other w.if-leaf-eq0.true) | else-leaf-eq0 w ↦ λ other. w.place-is ] in
     ⊎_elim
     (λ (is : q ≡ 0). leaf_single old new v n q read.shown some.1 read.value first is (read.is ∙ ap (word read.shown) (single is)))
     (λ (is : (q ≡ 0 → ⊥) × (first ≡ 0)).
@@ -42,9 +46,12 @@ returns-in-Ok-clause-answer g c =
     let n = c.args.number in
     let q = c.args.leaf in
     let later : q ≡ 0 → ⊥ = c.if-leaf-eq0-2.false in
-    let some = subst (λ (o : Option ℕ). IfSome o (λ w. (1 ≤ n) × (1 ≤ address_in v.map n))) c.in-Ok-Some.field-0-is c.in-Ok-Some.ensures.some in
-    let read = subst (λ (o : Option ℕ). IfSome o (ShowsWord old mid v (Inode n) (address_in v.map n) c.if-leaf-eq0.place)) c.in-Ok-Some.field-0-is c.in-Ok-Some.ensures.read in
-    let double : c.if-leaf-eq0.place ≡ 121 = elim c.if-leaf-eq0.branch [ then-leaf-eq0 w ↦ absurd (later w.if-leaf-eq0.true) | else-leaf-eq0 w ↦ w.place-is ] in
+    let some =
+    subst (λ (o : Option ℕ). IfSome o (λ w. (1 ≤ n) × (1 ≤ address_in v.map n))) c.in-Ok-Some.field-0-is c.in-Ok-Some.ensures.some in
+    let read = subst (λ (o : Option ℕ). IfSome o (ShowsWord old mid v (Inode n) (address_in v.map n) c.if-leaf-eq0.place))
+    c.in-Ok-Some.field-0-is c.in-Ok-Some.ensures.read in
+    let double : c.if-leaf-eq0.place ≡ 121 = elim c.if-leaf-eq0.branch
+    [ then-leaf-eq0 w ↦ absurd (later w.if-leaf-eq0.true) | else-leaf-eq0 w ↦ w.place-is ] in
     let root = c.in-Ok.ensures.read in
     leaf_found old mid new v n q read.shown c.in-Ok-Some.first _ c.in-Ok-Some.ensures.looks c.in-Ok.ensures.looks some.1 read.value
     (read.is ∙ ap (word read.shown) double) c.double-root.ensures c.in-Ok.pointer root.shown later c.requires.leaf root.value root.is
@@ -58,8 +65,12 @@ returns-in-Err-present_word-clause-failed g c =
     let n = c.args.number in
     let q = c.args.leaf in
     let later : q ≡ 0 → ⊥ = c.if-leaf-eq0-2.false in
-    let some = subst (λ (o : Option ℕ). IfSome o (λ w. (1 ≤ n) × (1 ≤ address_in v.map n))) c.in-Ok-Some.field-0-is c.in-Ok-Some.ensures.some in
-    let read = subst (λ (o : Option ℕ). IfSome o (ShowsWord old mid v (Inode n) (address_in v.map n) c.if-leaf-eq0.place)) c.in-Ok-Some.field-0-is c.in-Ok-Some.ensures.read in
-    let double : c.if-leaf-eq0.place ≡ 121 = elim c.if-leaf-eq0.branch [ then-leaf-eq0 w ↦ absurd (later w.if-leaf-eq0.true) | else-leaf-eq0 w ↦ w.place-is ] in
-    leaf_failed old mid new v n q read.shown c.in-Ok-Some.first _ c.in-Ok-Some.ensures.looks c.in-Err-present_word.ensures.looks some.1 read.value
+    let some =
+    subst (λ (o : Option ℕ). IfSome o (λ w. (1 ≤ n) × (1 ≤ address_in v.map n))) c.in-Ok-Some.field-0-is c.in-Ok-Some.ensures.some in
+    let read = subst (λ (o : Option ℕ). IfSome o (ShowsWord old mid v (Inode n) (address_in v.map n) c.if-leaf-eq0.place))
+    c.in-Ok-Some.field-0-is c.in-Ok-Some.ensures.read in
+    let double : c.if-leaf-eq0.place ≡ 121 = elim c.if-leaf-eq0.branch
+    [ then-leaf-eq0 w ↦ absurd (later w.if-leaf-eq0.true) | else-leaf-eq0 w ↦ w.place-is ] in
+    leaf_failed old mid new v n q read.shown c.in-Ok-Some.first _ c.in-Ok-Some.ensures.looks c.in-Err-present_word.ensures.looks some.1
+    read.value
     (read.is ∙ ap (word read.shown) double) c.double-root.ensures c.if-first-eq0.false c.in-Err-present_word.ensures.unread

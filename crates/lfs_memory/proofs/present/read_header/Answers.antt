@@ -4,7 +4,8 @@ use Rattle.lfs_memory.proofs.present.read_header.Goals as goal
 
 pub returns-then-address-eq0-clause-answer : goal.returns-then-address-eq0-clause-answer
 returns-then-address-eq0-clause-answer g c =
-    header_absent (g.D.SectorDevice.state c.args.device.now) c.args.memory.now c.args.number (c.inode_pointer-address.ensures.none c.if-address-eq0.true)
+    header_absent (g.D.SectorDevice.state c.args.device.now) c.args.memory.now c.args.number
+    (c.inode_pointer-address.ensures.none c.if-address-eq0.true)
 
 pub returns-in-Ok-clause-answer : goal.returns-in-Ok-clause-answer
 returns-in-Ok-clause-answer g c =
@@ -13,9 +14,11 @@ returns-in-Ok-clause-answer g c =
     let read = c.in-Ok.ensures.read in
     header_read old new c.args.memory.now c.args.number read.shown true c.in-Ok.header
     (inode_answered old new c.args.memory.now c.args.number c.inode_pointer-address.result _
-    (c.inode_pointer-address.ensures.some c.if-address-eq0.false).1 c.inode.ensures c.if-address-eq0.false read.shown read.value) refl read.is
+    (c.inode_pointer-address.ensures.some c.if-address-eq0.false).1 c.inode.ensures c.if-address-eq0.false read.shown read.value) refl
+    read.is
 
 pub returns-in-Err-clause-failed : goal.returns-in-Err-clause-failed
 returns-in-Err-clause-failed g c =
-    inode_failed (g.D.SectorDevice.state c.args.device.now) (g.D.SectorDevice.state c.present_header.new.device) c.args.memory.now c.args.number c.inode_pointer-address.result _
+    inode_failed (g.D.SectorDevice.state c.args.device.now) (g.D.SectorDevice.state c.present_header.new.device) c.args.memory.now
+    c.args.number c.inode_pointer-address.result _
     (c.inode_pointer-address.ensures.some c.if-address-eq0.false).1 c.inode.ensures c.if-address-eq0.false c.in-Err.ensures.unread

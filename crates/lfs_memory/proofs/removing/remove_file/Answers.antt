@@ -4,46 +4,62 @@ use Rattle.lfs_memory.proofs.Removed.{uncovered_excused, file_removed}
 use Rattle.lfs_memory.proofs.removing.remove_file.Goals as goal
 
 pub returns-in-Err-clause-prepares : goal.returns-in-Err-clause-prepares
-returns-in-Err-clause-prepares g c = prepares_none (g.D.SectorDevice.state c.args.device.now) c.args.memory.now c.lift_map_of.new.memory 0 c.in-Err.ensures.same (g.met.D.SectorDevice.lawful c.args.device.now) c.requires.memory
+returns-in-Err-clause-prepares g c = prepares_none (g.D.SectorDevice.state c.args.device.now) c.args.memory.now c.lift_map_of.new.memory 0
+    c.in-Err.ensures.same (g.met.D.SectorDevice.lawful c.args.device.now) c.requires.memory
 
 pub returns-in-Err-clause-failed : goal.returns-in-Err-clause-failed
-returns-in-Err-clause-failed g c = map_lost (g.D.SectorDevice.state c.args.device.now) c.args.memory.now (c.args.number / 128) c.in-Err.ensures.lost
+returns-in-Err-clause-failed g c =
+    map_lost (g.D.SectorDevice.state c.args.device.now) c.args.memory.now (c.args.number / 128) c.in-Err.ensures.lost
 
 pub returns-in-Err-count_file-clause-prepares : goal.returns-in-Err-count_file-clause-prepares
 returns-in-Err-count_file-clause-prepares g c =
     let old = g.D.SectorDevice.state c.args.device.now in
     let new = g.D.SectorDevice.state c.count_file.new.device in
-    let first = map_of_prepares old c.args.memory.now c.lift_map_of.new.memory (c.args.number / 128) (g.met.D.SectorDevice.lawful c.args.device.now) c.requires.memory c.in-Ok.ensures.done in
-    prepares_then old old new c.args.memory.now c.lift_map_of.new.memory c.lift_map_of.new.memory 0 0 (g.met.D.SectorDevice.lawful c.args.device.now) first
-    (prepares_looks old new c.lift_map_of.new.memory (g.met.D.SectorDevice.lawful c.args.device.now) first.memory c.count_file.ensures.looks)
+    let first = map_of_prepares old c.args.memory.now c.lift_map_of.new.memory (c.args.number / 128)
+    (g.met.D.SectorDevice.lawful c.args.device.now) c.requires.memory c.in-Ok.ensures.done in
+    prepares_then old old new c.args.memory.now c.lift_map_of.new.memory c.lift_map_of.new.memory 0 0
+    (g.met.D.SectorDevice.lawful c.args.device.now) first
+    (prepares_looks old new c.lift_map_of.new.memory (g.met.D.SectorDevice.lawful c.args.device.now) first.memory
+    c.count_file.ensures.looks)
 
 pub returns-in-Err-count_file-clause-failed : goal.returns-in-Err-count_file-clause-failed
 returns-in-Err-count_file-clause-failed g c =
     let old = g.D.SectorDevice.state c.args.device.now in
     let new = g.D.SectorDevice.state c.count_file.new.device in
-    let first = map_of_prepares old c.args.memory.now c.lift_map_of.new.memory (c.args.number / 128) (g.met.D.SectorDevice.lawful c.args.device.now) c.requires.memory c.in-Ok.ensures.done in
-    prepares_excused old old new c.args.memory.now c.lift_map_of.new.memory 0 first c.count_file.ensures.looks c.in-Err-count_file.ensures.failed
+    let first = map_of_prepares old c.args.memory.now c.lift_map_of.new.memory (c.args.number / 128)
+    (g.met.D.SectorDevice.lawful c.args.device.now) c.requires.memory c.in-Ok.ensures.done in
+    prepares_excused old old new c.args.memory.now c.lift_map_of.new.memory 0 first c.count_file.ensures.looks
+    c.in-Err-count_file.ensures.failed
 
 pub returns-then-not-are_covered-clause-prepares : goal.returns-then-not-are_covered-clause-prepares
 returns-then-not-are_covered-clause-prepares g c =
     let old = g.D.SectorDevice.state c.args.device.now in
     let new = g.D.SectorDevice.state c.count_file.new.device in
-    let first = map_of_prepares old c.args.memory.now c.lift_map_of.new.memory (c.args.number / 128) (g.met.D.SectorDevice.lawful c.args.device.now) c.requires.memory c.in-Ok.ensures.done in
-    prepares_then old old new c.args.memory.now c.lift_map_of.new.memory c.lift_map_of.new.memory 0 0 (g.met.D.SectorDevice.lawful c.args.device.now) first
-    (prepares_looks old new c.lift_map_of.new.memory (g.met.D.SectorDevice.lawful c.args.device.now) first.memory c.count_file.ensures.looks)
+    let first = map_of_prepares old c.args.memory.now c.lift_map_of.new.memory (c.args.number / 128)
+    (g.met.D.SectorDevice.lawful c.args.device.now) c.requires.memory c.in-Ok.ensures.done in
+    prepares_then old old new c.args.memory.now c.lift_map_of.new.memory c.lift_map_of.new.memory 0 0
+    (g.met.D.SectorDevice.lawful c.args.device.now) first
+    (prepares_looks old new c.lift_map_of.new.memory (g.met.D.SectorDevice.lawful c.args.device.now) first.memory
+    c.count_file.ensures.looks)
 
 pub returns-then-not-are_covered-clause-failed : goal.returns-then-not-are_covered-clause-failed
 returns-then-not-are_covered-clause-failed g c =
     let old = g.D.SectorDevice.state c.args.device.now in
     let new = g.D.SectorDevice.state c.count_file.new.device in
-    let first = map_of_prepares old c.args.memory.now c.lift_map_of.new.memory (c.args.number / 128) (g.met.D.SectorDevice.lawful c.args.device.now) c.requires.memory c.in-Ok.ensures.done in
-    uncovered_excused old new c.args.memory.now c.lift_map_of.new.memory c.args.number (not c.is_hidden-lives.result) c.count_file.new.counts (g.met.D.SectorDevice.lawful c.args.device.now) first
-    c.count_file.ensures.looks c.requires.number (ap not c.is_hidden-lives.ensures) c.in-Ok-count_file.ensures.counted (c.if-not-are_covered.ensures.no (search rules))
+    let first = map_of_prepares old c.args.memory.now c.lift_map_of.new.memory (c.args.number / 128)
+    (g.met.D.SectorDevice.lawful c.args.device.now) c.requires.memory c.in-Ok.ensures.done in
+    uncovered_excused old new c.args.memory.now c.lift_map_of.new.memory c.args.number
+    (not c.is_hidden-lives.result) c.count_file.new.counts (g.met.D.SectorDevice.lawful c.args.device.now) first
+    c.count_file.ensures.looks c.requires.number (ap not c.is_hidden-lives.ensures) c.in-Ok-count_file.ensures.counted
+    (c.if-not-are_covered.ensures.no (search rules))
 
 pub returns-clause-removed : goal.returns-clause-removed
 returns-clause-removed g c =
     let old = g.D.SectorDevice.state c.args.device.now in
     let new = g.D.SectorDevice.state c.count_file.new.device in
-    let first = map_of_prepares old c.args.memory.now c.lift_map_of.new.memory (c.args.number / 128) (g.met.D.SectorDevice.lawful c.args.device.now) c.requires.memory c.in-Ok.ensures.done in
-    file_removed old new c.args.memory.now c.lift_map_of.new.memory c.args.number (not c.is_hidden-lives.result) c.count_file.new.counts (g.met.D.SectorDevice.lawful c.args.device.now) first
-    c.count_file.ensures.looks c.requires.number (ap not c.is_hidden-lives.ensures) c.in-Ok-count_file.ensures.counted c.drop_file.new.memory c.drop_file.ensures c.in-Ok.ensures.mapped
+    let first = map_of_prepares old c.args.memory.now c.lift_map_of.new.memory (c.args.number / 128)
+    (g.met.D.SectorDevice.lawful c.args.device.now) c.requires.memory c.in-Ok.ensures.done in
+    file_removed old new c.args.memory.now c.lift_map_of.new.memory c.args.number (not c.is_hidden-lives.result) c.count_file.new.counts
+    (g.met.D.SectorDevice.lawful c.args.device.now) first
+    c.count_file.ensures.looks c.requires.number (ap not c.is_hidden-lives.ensures) c.in-Ok-count_file.ensures.counted
+    c.drop_file.new.memory c.drop_file.ensures c.in-Ok.ensures.mapped

@@ -8,5 +8,7 @@ pub returns-in-Err-clause-failed : goal.returns-in-Err-clause-failed
 returns-in-Err-clause-failed g c is =
     let d = g.D.SectorDevice.state c.args.device.now in
     let d' = g.D.SectorDevice.state c.stage_edits.new.device in
-    subst (λ (bs : List BlockEdit). IsBatchExcused d d' c.args.memory.now c.args.changes.now.loss c.args.changes.now.headers.items bs) c.as_slice-blocks.ensures.value
-    (subst (λ (hs : List HeaderEdit). IsBatchExcused d d' c.args.memory.now c.args.changes.now.loss hs c.as_slice-blocks.result.now) c.as_slice-headers.ensures.value c.in-Err.ensures.failed)
+    subst (λ (bs : List BlockEdit). IsBatchExcused d d' c.args.memory.now c.args.changes.now.loss c.args.changes.now.headers.items bs)
+    c.as_slice-blocks.ensures.value
+    (subst (λ (hs : List HeaderEdit). IsBatchExcused d d' c.args.memory.now c.args.changes.now.loss hs c.as_slice-blocks.result.now)
+    c.as_slice-headers.ensures.value c.in-Err.ensures.failed)

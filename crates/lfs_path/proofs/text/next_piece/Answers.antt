@@ -1,4 +1,5 @@
-use Rattle.std.proofs.Common.{◌≡◌, ◌-◌, ◌<◌, ◌∙◌, ap, sym, refl, ℕ, Bool, true, false, List, [], ◌∷◌, length, take, drop, nat_lt, arith, rules}
+use Rattle.std.proofs.Common.{◌≡◌, ◌-◌, ◌<◌, ◌∙◌, ap, sym, refl, ℕ, Bool, true, false, List, [], ◌∷◌, length, take, drop, nat_lt, arith}
+use Rattle.std.proofs.Common.{rules}
 use Rattle.std.specs.Prelude.{filter, if◌then◌else◌}
 use Rattle.std.proofs.lemmas.Bool.Decides.{nat_tests}
 use Rattle.std.proofs.lemmas.List.{length-take-le, length-drop}
@@ -16,8 +17,10 @@ pub returns-clause-piece : goal.returns-clause-piece
 returns-clause-piece c =
     let q : List ℕ = take (length c.args.path.now - c.leading_slashes.result) (drop c.leading_slashes.result c.args.path.now) in
     let some : 0 < length q = search rules in
-    next_is c.args.path.now q c.split_at.result.0.now c.split_at.result.1.now c.leading_slashes.result c.leading_slashes.ensures.count refl some
-    (c.split_at.ensures.front ∙ ap (λ (n : ℕ). take n q) c.piece_length.ensures.count) (c.split_at.ensures.back ∙ ap (λ (n : ℕ). drop n q) c.piece_length.ensures.count)
+    next_is c.args.path.now q c.split_at.result.0.now c.split_at.result.1.now c.leading_slashes.result c.leading_slashes.ensures.count refl
+    some
+    (c.split_at.ensures.front ∙ ap (λ (n : ℕ). take n q) c.piece_length.ensures.count) (c.split_at.ensures.back
+    ∙ ap (λ (n : ℕ). drop n q) c.piece_length.ensures.count)
 
 -- what a filter leaves first passes
 first_passes : (p : List ℕ → Bool) (xs : List (List ℕ)) (y : List ℕ) (ys : List (List ℕ)) → filter p xs ≡ y ∷ ys → p y ≡ true
@@ -35,11 +38,13 @@ pub returns-clause-within : goal.returns-clause-within
 returns-clause-within c =
     let q : List ℕ = take (length c.args.path.now - c.leading_slashes.result) (drop c.leading_slashes.result c.args.path.now) in
     let is = returns-clause-piece c in
-    let first = some_bytes (length c.split_at.result.0.now) (first_passes (λ piece. nat_lt 0 (length piece)) (parts c.args.path.now) c.split_at.result.0.now (comps c.split_at.result.1.now) is.pieces) in
+    let first = some_bytes (length c.split_at.result.0.now) (first_passes (λ piece. nat_lt 0 (length piece))
+    (parts c.args.path.now) c.split_at.result.0.now (comps c.split_at.result.1.now) is.pieces) in
     let front = ap length c.split_at.ensures.front in
     let back = ap length c.split_at.ensures.back in
     let few = c.piece_length.ensures.few in
     let take_long = length-take-le c.piece_length.result q few in
     let drop_long = length-drop c.piece_length.result q in
-    let q_long = length-take-le (length c.args.path.now - c.leading_slashes.result) (drop c.leading_slashes.result c.args.path.now) (let l = length-drop c.leading_slashes.result c.args.path.now in omega (arith, l)) in
+    let q_long = length-take-le (length c.args.path.now - c.leading_slashes.result) (drop c.leading_slashes.result c.args.path.now)
+    (let l = length-drop c.leading_slashes.result c.args.path.now in omega (arith, l)) in
     (first, omega (arith, front, back, few, take_long, drop_long, q_long))

@@ -6,4 +6,5 @@ use Rattle.lfs_plain.proofs.edits.place_of_name.Given as goal
 
 -- the names so far stand before the new one
 abbrev pub invariant-loop-i : goal.invariant-loop-i
-invariant-loop-i l = (n : ℕ) → put byte_cmp l.name n (names_of l.names) ≡ names_of (take l.i l.names) ++ put byte_cmp l.name n (names_of (drop l.i l.names))
+invariant-loop-i l = (n : ℕ)
+    → put byte_cmp l.name n (names_of l.names) ≡ names_of (take l.i l.names) ++ put byte_cmp l.name n (names_of (drop l.i l.names))

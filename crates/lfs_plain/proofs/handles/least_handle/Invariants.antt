@@ -5,4 +5,5 @@ use Rattle.lfs_plain.proofs.handles.least_handle.Given as goal
 
 -- the least handle is to be found from here on among those that are left
 abbrev pub invariant-loop-one : goal.invariant-loop-one
-invariant-loop-one l = (model.least_from l.least (handles_of (drop l.one-index l.handles)) ≡ model.least_handle (handles_of l.handles)) × (l.least ≤ l.one-index)
+invariant-loop-one l = (model.least_from l.least (handles_of (drop l.one-index l.handles)) ≡ model.least_handle (handles_of l.handles))
+    × (l.least ≤ l.one-index)

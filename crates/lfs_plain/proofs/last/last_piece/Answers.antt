@@ -11,5 +11,6 @@ returns c =
     let ps : List (Vec ℕ Global) = c.as_slice.result.now in
     let x : Vec ℕ Global = c.index-all-all.result in
     let at : length ps ≡ length ps - 1 + 1 = let some = c.in_default.len_at_least in omega arith in
-    ap (λ (b : List ℕ). Some b) (c.in_ok-last-in_default.ensures.items ∙ c.as_slice-in_default.ensures.value) ∙ sym (last_is ps (length ps - 1) x at c.index-all-all.is)
+    ap (λ (b : List ℕ). Some b) (c.in_ok-last-in_default.ensures.items ∙ c.as_slice-in_default.ensures.value)
+    ∙ sym (last_is ps (length ps - 1) x at c.index-all-all.is)
     ∙ ap (λ (v : List (Vec ℕ Global)). last (texts v)) c.as_slice.ensures.value ∙ ap last c.in_ok-pieces.ensures

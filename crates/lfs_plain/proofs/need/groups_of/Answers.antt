@@ -9,6 +9,14 @@ loop-group-init c = (sym (groups_none c.args.pieces.now), omega arith)
 pub loop-group-preserved : goal.loop-group-preserved
 loop-group-preserved c =
     elim c.if-lies_in.branch [
-      | then-lies_in w ↦ (w.count-is ∙ ap (λ n. n + 1) c.loop-group.invariant.0 ∙ sym (groups_yes c.args.pieces.now c.loop-group.group (sym c.lies_in.ensures ∙ w.if-lies_in.true)), omega arith)
-      | else-lies_in w ↦ (w.count-is ∙ c.loop-group.invariant.0 ∙ sym (groups_no c.args.pieces.now c.loop-group.group (sym c.lies_in.ensures ∙ w.if-lies_in.false)), omega arith)
+      | then-lies_in w ↦ (
+        w.count-is ∙ ap (λ n. n + 1) c.loop-group.invariant.0
+            ∙ sym (groups_yes c.args.pieces.now c.loop-group.group (sym c.lies_in.ensures ∙ w.if-lies_in.true)),
+        omega arith,
+      )
+      | else-lies_in w ↦ (
+        w.count-is ∙ c.loop-group.invariant.0
+            ∙ sym (groups_no c.args.pieces.now c.loop-group.group (sym c.lies_in.ensures ∙ w.if-lies_in.false)),
+        omega arith,
+      )
     ]

@@ -16,4 +16,5 @@ returns-clause-walks c whole =
     let end = walk_to_ends c.args.tree.now c.args.follow whole 40 c.args.from (texts c.args.pieces.now) c.args.slash in
     let there = walk_to_walks c.args.tree.now c.args.follow 40 0 refl c.args.from (texts c.args.pieces.now) c.args.slash end.0 end.1 in
     let is : Some end.0 ≡ end_of c.in_ok-e.e = sym end.1 ∙ c.in_ok-e.ensures in
-    subst (λ (o : Option model.End). IsSomeAnd o (λ x. model.Walk c.args.tree.now c.args.follow c.args.from (texts c.args.pieces.now) c.args.slash 0 x)) is there
+    subst (λ (o : Option model.End).
+    IsSomeAnd o (λ x. model.Walk c.args.tree.now c.args.follow c.args.from (texts c.args.pieces.now) c.args.slash 0 x)) is there

@@ -25,10 +25,22 @@ returns-then-not-is_cleaning_due g c =
 pub returns-in-Err : goal.returns-in-Err
 returns-in-Err g c =
     let lt = c.loop-test.true in
-    record { count = c.loop.counter; mid = seen c.loop.fs; few = omega (arith, lt); passes = c.loop.invariant; ends = (lt, c.in-Err.ensures.serves) }
+    record {
+      count = c.loop.counter;
+      mid = seen c.loop.fs;
+      few = omega (arith, lt);
+      passes = c.loop.invariant;
+      ends = (lt, c.in-Err.ensures.serves);
+    }
 
 pub returns : goal.returns
 returns g c =
     let low = c.loop-test.false in
     let high = c.loop.auto.counter-end in
-    record { count = c.loop.counter; mid = seen c.loop.fs; few = omega (arith, high); passes = c.loop.invariant; ends = (refl, inl (omega (arith, low, high))) }
+    record {
+      count = c.loop.counter;
+      mid = seen c.loop.fs;
+      few = omega (arith, high);
+      passes = c.loop.invariant;
+      ends = (refl, inl (omega (arith, low, high)));
+    }

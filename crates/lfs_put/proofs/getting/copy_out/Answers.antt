@@ -4,17 +4,20 @@ use Rattle.lfs_put.proofs.getting.copy_out.Goals as goal
 
 pub returns-in-Err : goal.returns-in-Err
 returns-in-Err g c =
-    copy_stops g.D.SectorDevice.state _ _ _ c.args.handle (g.W.Write.contents c.args.output.now) (g.W.Write.contents c.loop-part.output) (g.W.Write.contents c.send_part.new.output)
+    copy_stops g.D.SectorDevice.state _ _ _ c.args.handle (g.W.Write.contents c.args.output.now) (g.W.Write.contents c.loop-part.output)
+    (g.W.Write.contents c.send_part.new.output)
     c.loop-part.offset c.in-Err.fault c.loop-part.invariant.1 c.in-Err.ensures
 
 pub returns-then-count : goal.returns-then-count
 returns-then-count g c =
-    copy_breaks g.D.SectorDevice.state _ _ _ c.args.handle (g.W.Write.contents c.args.output.now) (g.W.Write.contents c.loop-part.output) (g.W.Write.contents c.send_part.new.output)
+    copy_breaks g.D.SectorDevice.state _ _ _ c.args.handle (g.W.Write.contents c.args.output.now) (g.W.Write.contents c.loop-part.output)
+    (g.W.Write.contents c.send_part.new.output)
     c.loop-part.offset c.in-Ok.count _ c.loop-part.invariant.1 c.in-Ok.ensures
 
 pub returns-then-count-2 : goal.returns-then-count-2
 returns-then-count-2 g c =
-    copied_out g.D.SectorDevice.state _ _ _ c.args.handle (g.W.Write.contents c.args.output.now) (g.W.Write.contents c.loop-part.output) (g.W.Write.contents c.send_part.new.output)
+    copied_out g.D.SectorDevice.state _ _ _ c.args.handle (g.W.Write.contents c.args.output.now) (g.W.Write.contents c.loop-part.output)
+    (g.W.Write.contents c.send_part.new.output)
     c.loop-part.offset c.in-Ok.count _ c.loop-part.invariant.1 c.in-Ok.ensures refl c.if-count-2.true
 
 pub loop-part-preserved : goal.loop-part-preserved
@@ -23,6 +26,7 @@ loop-part-preserved g c =
     let most = c.if-count.false in
     let least = c.if-count-2.false in (
       omega (arith, at, most, least),
-      copying_more g.D.SectorDevice.state _ _ _ c.args.handle (g.W.Write.contents c.args.output.now) (g.W.Write.contents c.loop-part.output) (g.W.Write.contents c.send_part.new.output)
+      copying_more g.D.SectorDevice.state _ _ _ c.args.handle (g.W.Write.contents c.args.output.now) (g.W.Write.contents c.loop-part.output)
+          (g.W.Write.contents c.send_part.new.output)
           c.loop-part.offset c.in-Ok.count _ c.loop-part.invariant.1 c.in-Ok.ensures refl (omega (arith, most, least)),
     )

@@ -7,4 +7,5 @@ use Rattle.lfs_put.proofs.getting.copy_out.Given as goal
 abbrev pub invariant-loop-part : goal.invariant-loop-part
 invariant-loop-part g l =
     (l.offset ≡ PART * l.part)
-    × CopyingOut g.D.SectorDevice.state (seen l.fn.fs) (seen l.fs) l.fn.handle (g.W.Write.contents l.fn.output) (g.W.Write.contents l.output) l.offset
+    × CopyingOut g.D.SectorDevice.state (seen l.fn.fs) (seen l.fs) l.fn.handle (g.W.Write.contents l.fn.output)
+    (g.W.Write.contents l.output) l.offset

@@ -16,5 +16,7 @@ returns-in-Ok-closed g c =
 
 pub returns-in-Err-closed : goal.returns-in-Err-closed
 returns-in-Err-closed g c =
-    not_closed g.D.SectorDevice.state _ _ _ _ c.args.path.now c.in-Ok.handle _ _ c.in-Ok-copied.count c.in-Err-closed.fault _ _ c.in-Ok.ensures
-    (copies_of g.D.SectorDevice.state _ _ c.in-Ok.handle _ _ _ _ c.in-Ok-copied.is c.copy_out-copied.ensures) c.close-closed.ensures c.refused.ensures
+    not_closed g.D.SectorDevice.state _ _ _ _ c.args.path.now c.in-Ok.handle _ _ c.in-Ok-copied.count c.in-Err-closed.fault _ _
+    c.in-Ok.ensures
+    (copies_of g.D.SectorDevice.state _ _ c.in-Ok.handle _ _ _ _ c.in-Ok-copied.is c.copy_out-copied.ensures) c.close-closed.ensures
+    c.refused.ensures

@@ -5,15 +5,18 @@ use Rattle.lfs_put.proofs.putting.copy_in.Goals as goal
 
 pub returns-in_default : goal.returns-in_default
 returns-in_default g c =
-    copy_ends g.D.SectorDevice.state _ _ c.args.handle (g.I.Read.remaining c.args.input.now) (g.I.Read.remaining c.loop.input) (g.I.Read.remaining c.read.new.self) c.loop.offset _ c.loop.invariant.1
+    copy_ends g.D.SectorDevice.state _ _ c.args.handle (g.I.Read.remaining c.args.input.now) (g.I.Read.remaining c.loop.input)
+    (g.I.Read.remaining c.read.new.self) c.loop.offset _ c.loop.invariant.1
 
 pub returns-in_default-checked_add : goal.returns-in_default-checked_add
 returns-in_default-checked_add g c =
-    copy_ends g.D.SectorDevice.state _ _ c.args.handle (g.I.Read.remaining c.args.input.now) (g.I.Read.remaining c.loop.input) (g.I.Read.remaining c.read.new.self) c.loop.offset _ c.loop.invariant.1
+    copy_ends g.D.SectorDevice.state _ _ c.args.handle (g.I.Read.remaining c.args.input.now) (g.I.Read.remaining c.loop.input)
+    (g.I.Read.remaining c.read.new.self) c.loop.offset _ c.loop.invariant.1
 
 pub returns-in-Err : goal.returns-in-Err
 returns-in-Err g c =
-    copy_refused g.D.SectorDevice.state _ _ _ c.args.handle (g.I.Read.remaining c.args.input.now) (g.I.Read.remaining c.loop.input) (g.I.Read.remaining c.read.new.self) c.loop.offset _
+    copy_refused g.D.SectorDevice.state _ _ _ c.args.handle (g.I.Read.remaining c.args.input.now) (g.I.Read.remaining c.loop.input)
+    (g.I.Read.remaining c.read.new.self) c.loop.offset _
     (refusal_of c.in-Err.fault) _ c.loop.invariant.1 c.in-Err.ensures
 
 pub loop-preserved : goal.loop-preserved
@@ -21,10 +24,13 @@ loop-preserved g c =
     let some : length (take c.in-Ok.count c.read.new.buf) ≡ c.in-Ok.count = search rules in
     let sum = c.in-Some.ensures in (
       search rules,
-      copying_more g.D.SectorDevice.state _ _ _ c.args.handle (g.I.Read.remaining c.args.input.now) (g.I.Read.remaining c.loop.input) (g.I.Read.remaining c.read.new.self) c.loop.offset
-          (take c.in-Ok.count c.read.new.buf) _ c.in-Some.end c.loop.invariant.1 c.in-Ok.ensures.bytes.0 c.in-Ok-pwrite.ensures (omega (arith, some, sum)),
+      copying_more g.D.SectorDevice.state _ _ _ c.args.handle (g.I.Read.remaining c.args.input.now) (g.I.Read.remaining c.loop.input)
+          (g.I.Read.remaining c.read.new.self) c.loop.offset
+          (take c.in-Ok.count c.read.new.buf) _ c.in-Some.end c.loop.invariant.1 c.in-Ok.ensures.bytes.0 c.in-Ok-pwrite.ensures
+          (omega (arith, some, sum)),
     )
 
 pub returns : goal.returns
 returns g c =
-    copy_ends g.D.SectorDevice.state _ _ c.args.handle (g.I.Read.remaining c.args.input.now) (g.I.Read.remaining c.loop.input) (g.I.Read.remaining c.loop.input) c.loop.offset _ c.loop.invariant.1
+    copy_ends g.D.SectorDevice.state _ _ c.args.handle (g.I.Read.remaining c.args.input.now) (g.I.Read.remaining c.loop.input)
+    (g.I.Read.remaining c.loop.input) c.loop.offset _ c.loop.invariant.1

@@ -3,7 +3,8 @@ use Rattle.lfs_put.proofs.putting.replace.Goals as goal
 
 pub returns-in-Err : goal.returns-in-Err
 returns-in-Err g c =
-    not_made g.D.SectorDevice.state _ _ c.args.unfinished.now c.args.path.now _ _ _ (makes_of g.D.SectorDevice.state _ _ c.args.unfinished.now _ _ _ _ c.in-Err.is c.make_file.ensures)
+    not_made g.D.SectorDevice.state _ _ c.args.unfinished.now c.args.path.now _ _ _
+    (makes_of g.D.SectorDevice.state _ _ c.args.unfinished.now _ _ _ _ c.in-Err.is c.make_file.ensures)
 
 pub returns-in-Ok-rename_file : goal.returns-in-Ok-rename_file
 returns-in-Ok-rename_file g c =

@@ -1,6 +1,7 @@
 use Rattle.std.proofs.Common.{rules, ◌≡◌, Err, ◌∷◌, codes, ap, refl}
 use Rattle.lfs_script.specs.declared.word.WordFault.TheVariants.{Memory}
-use Rattle.lfs_model.specs.Call.{Create, LinkTo, LstatOf, Mkdir, Open, Pwrite, Readdir, Readlink, Rename, Rmdir, StatOf, Symlink, Unlink, Widen}
+use Rattle.lfs_model.specs.Call.{Create, LinkTo, LstatOf, Mkdir, Open, Pwrite, Readdir, Readlink, Rename, Rmdir, StatOf, Symlink, Unlink}
+use Rattle.lfs_model.specs.Call.{Widen}
 use Rattle.lfs_model.specs.Script.{Plain}
 use Rattle.lfs_script.proofs.call.call_of.Goals as goal
 
@@ -19,8 +20,12 @@ returns-in_err-path-in-Open-clause-memory c = λ e.
 pub returns-in_err-handle-in-Pwrite-clause-memory : goal.returns-in_err-handle-in-Pwrite-clause-memory
 returns-in_err-handle-in-Pwrite-clause-memory c = λ e.
     let refused : c.pwrite.result ≡ Err Memory = search rules in
-    let found = c.pwrite.ensures.memory refused in
-    (Plain (Pwrite found.0 found.1 found.2), (found.3, found.4, found.5), refl, rw c.in-Pwrite.is (ap (λ words. codes "pwrite" ∷ words) found.6))
+    let found = c.pwrite.ensures.memory refused in (
+      Plain (Pwrite found.0 found.1 found.2),
+      (found.3, found.4, found.5),
+      refl,
+      rw c.in-Pwrite.is (ap (λ words. codes "pwrite" ∷ words) found.6),
+    )
 
 pub returns-in_err-path-in-Stat-clause-memory : goal.returns-in_err-path-in-Stat-clause-memory
 returns-in_err-path-in-Stat-clause-memory c = λ e.

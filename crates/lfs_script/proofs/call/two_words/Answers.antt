@@ -5,7 +5,8 @@ pub returns-clause-ok : goal.returns-clause-ok
 returns-clause-ok c =
     let one = c.read_escaped.ensures in
     let two = c.read_escaped-2.ensures in
-    both_ok _ c.in_ok-first.first.now c.in_ok-first.second.now c.in_ok-first.ensures.ok c.read_escaped.result c.read_escaped-2.result c.both.result c.both.ensures
+    both_ok _ c.in_ok-first.first.now c.in_ok-first.second.now c.in_ok-first.ensures.ok c.read_escaped.result c.read_escaped-2.result
+    c.both.result c.both.ensures
     (record { ok = one.ok; bytes = one.bytes; spelling = one.spelling; memory = one.memory })
     (record { ok = two.ok; bytes = two.bytes; spelling = two.spelling; memory = two.memory })
 
@@ -13,7 +14,8 @@ pub returns-clause-bytes : goal.returns-clause-bytes
 returns-clause-bytes c =
     let one = c.read_escaped.ensures in
     let two = c.read_escaped-2.ensures in
-    both_bytes _ c.in_ok-first.first.now c.in_ok-first.second.now c.in_ok-first.ensures.ok c.read_escaped.result c.read_escaped-2.result c.both.result c.both.ensures
+    both_bytes _ c.in_ok-first.first.now c.in_ok-first.second.now c.in_ok-first.ensures.ok c.read_escaped.result c.read_escaped-2.result
+    c.both.result c.both.ensures
     (record { ok = one.ok; bytes = one.bytes; spelling = one.spelling; memory = one.memory })
     (record { ok = two.ok; bytes = two.bytes; spelling = two.spelling; memory = two.memory })
 
@@ -21,7 +23,8 @@ pub returns-clause-spelling : goal.returns-clause-spelling
 returns-clause-spelling c =
     let one = c.read_escaped.ensures in
     let two = c.read_escaped-2.ensures in
-    both_spelling _ c.in_ok-first.first.now c.in_ok-first.second.now c.in_ok-first.ensures.ok c.read_escaped.result c.read_escaped-2.result c.both.result c.both.ensures
+    both_spelling _ c.in_ok-first.first.now c.in_ok-first.second.now c.in_ok-first.ensures.ok c.read_escaped.result c.read_escaped-2.result
+    c.both.result c.both.ensures
     (record { ok = one.ok; bytes = one.bytes; spelling = one.spelling; memory = one.memory })
     (record { ok = two.ok; bytes = two.bytes; spelling = two.spelling; memory = two.memory })
 
@@ -29,6 +32,7 @@ pub returns-clause-memory : goal.returns-clause-memory
 returns-clause-memory c =
     let one = c.read_escaped.ensures in
     let two = c.read_escaped-2.ensures in
-    both_memory _ c.in_ok-first.first.now c.in_ok-first.second.now c.in_ok-first.ensures.ok c.read_escaped.result c.read_escaped-2.result c.both.result c.both.ensures
+    both_memory _ c.in_ok-first.first.now c.in_ok-first.second.now c.in_ok-first.ensures.ok c.read_escaped.result c.read_escaped-2.result
+    c.both.result c.both.ensures
     (record { ok = one.ok; bytes = one.bytes; spelling = one.spelling; memory = one.memory })
     (record { ok = two.ok; bytes = two.bytes; spelling = two.spelling; memory = two.memory })

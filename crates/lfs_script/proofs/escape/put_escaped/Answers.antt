@@ -6,7 +6,9 @@ use Rattle.lfs_script.proofs.escape.put_escaped.Goals as goal
 
 pub returns-in_err-put_byte-clause-err : goal.returns-in_err-put_byte-clause-err
 returns-in_err-put_byte-clause-err g c =
-    on_err _ _ (some_of_word _ _ _ c.args.bytes.now c.loop-byte.byte-index c.loop-byte-test.true c.loop-byte.invariant c.in_err-put_byte.ensures.err)
+    on_err _ _ (some_of_word _ _ _ c.args.bytes.now c.loop-byte.byte-index c.loop-byte-test.true c.loop-byte.invariant
+    c.in_err-put_byte.ensures.err)
 
 pub loop-byte-preserved : goal.loop-byte-preserved
-loop-byte-preserved g c = pieces-more word_byte _ _ _ c.args.bytes.now c.loop-byte.byte-index 0 c.loop-byte-test.true c.loop-byte.invariant c.in_ok-put_byte.ensures.ok
+loop-byte-preserved g c = pieces-more word_byte _ _ _ c.args.bytes.now c.loop-byte.byte-index 0 c.loop-byte-test.true c.loop-byte.invariant
+    c.in_ok-put_byte.ensures.ok

@@ -10,7 +10,8 @@ loop-at-init g c = (omega arith, digits-none (g.W.Write.contents c.args.writer.n
 pub returns-in_err-put_digits-clause-err : goal.returns-in_err-put_digits-clause-err
 returns-in_err-put_digits-clause-err g c =
     let some : 0 < length c.args.bytes.now = search rules in
-    on_err _ _ (hex_written _ _ c.args.bytes.now c.bytes_fit.ensures (digits-some _ _ _ c.args.bytes.now c.loop-at.at c.min-n.result some c.loop-at.invariant.1 c.in_err-put_digits.ensures.err))
+    on_err _ _ (hex_written _ _ c.args.bytes.now c.bytes_fit.ensures
+    (digits-some _ _ _ c.args.bytes.now c.loop-at.at c.min-n.result some c.loop-at.invariant.1 c.in_err-put_digits.ensures.err))
 
 pub loop-at-preserved : goal.loop-at-preserved
 loop-at-preserved g c =

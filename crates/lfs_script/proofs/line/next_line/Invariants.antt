@@ -8,6 +8,7 @@ decreases-loop-byte g l = 140001 - vec_len l.line
 abbrev pub invariant-loop-byte : goal.invariant-loop-byte
 invariant-loop-byte g l =
     (140000 ≤ vec_capacity l.line) × (vec_len l.line ≤ 140000) × All (λ b. b ≢ 10) l.line.items
-    × Consumes (prepend_known (slice_range l.initial.source.chunk.items l.initial.source.start l.initial.source.end) (g.R.Read.remaining l.initial.reader))
+    × Consumes (prepend_known (slice_range l.initial.source.chunk.items l.initial.source.start l.initial.source.end)
+    (g.R.Read.remaining l.initial.reader))
     (prepend_known (slice_range l.source.chunk.items l.source.start l.source.end) (g.R.Read.remaining l.reader)) l.line.items
     × Keeps (g.W.Write.contents l.initial.writer) (g.W.Write.contents l.writer)

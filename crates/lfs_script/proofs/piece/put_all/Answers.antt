@@ -5,4 +5,5 @@ use Rattle.lfs_script.proofs.piece.put_all.Goals as goal
 
 pub returns-in_err-put_piece-clause-err : goal.returns-in_err-put_piece-clause-err
 returns-in_err-put_piece-clause-err g c =
-    on_err _ _ (pieces-some piece_text _ _ _ c.args.pieces.now c.loop-piece.piece-index _ c.loop-piece-test.true c.loop-piece.invariant c.in_err-put_piece.ensures.err)
+    on_err _ _ (pieces-some piece_text _ _ _ c.args.pieces.now c.loop-piece.piece-index _ c.loop-piece-test.true c.loop-piece.invariant
+    c.in_err-put_piece.ensures.err)

@@ -4,4 +4,5 @@ use Rattle.lfs_script.specs.Pieces.{piece_text}
 use Rattle.lfs_script.proofs.piece.put_all.Given as goal
 
 abbrev pub invariant-loop-piece : goal.invariant-loop-piece
-invariant-loop-piece g l = Appends (g.W.Write.contents l.initial.writer) (g.W.Write.contents l.writer) (flat_map piece_text (take l.piece-index l.pieces))
+invariant-loop-piece g l =
+    Appends (g.W.Write.contents l.initial.writer) (g.W.Write.contents l.writer) (flat_map piece_text (take l.piece-index l.pieces))

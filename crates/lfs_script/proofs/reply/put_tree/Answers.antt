@@ -11,9 +11,11 @@ returns-in_err-put_number_line-clause-err g c = on_err _ _ (some_front _ _ _ _ c
 pub returns-in_err-put_row-clause-err : goal.returns-in_err-put_row-clause-err
 returns-in_err-put_row-clause-err g c =
     let is : get_or c.args.rows.now c.loop-row.row-index c.row-item.result ≡ c.row-item.result = search rules in
-    on_err _ _ (after-some (λ row. row_line (row_of row)) (ok (decimal (length c.args.rows.now) ∷ [])) _ _ _ c.args.rows.now c.loop-row.row-index c.row-item.result c.loop-row-test.true is c.loop-row.invariant c.in_err-put_row.ensures.err)
+    on_err _ _ (after-some (λ row. row_line (row_of row)) (ok (decimal (length c.args.rows.now) ∷ [])) _ _ _ c.args.rows.now
+    c.loop-row.row-index c.row-item.result c.loop-row-test.true is c.loop-row.invariant c.in_err-put_row.ensures.err)
 
 pub loop-row-preserved : goal.loop-row-preserved
 loop-row-preserved g c =
     let is : get_or c.args.rows.now c.loop-row.row-index c.row-item.result ≡ c.row-item.result = search rules in
-    after-more (λ row. row_line (row_of row)) (ok (decimal (length c.args.rows.now) ∷ [])) _ _ _ c.args.rows.now c.loop-row.row-index c.row-item.result c.loop-row-test.true is c.loop-row.invariant c.in_ok-put_row.ensures.ok
+    after-more (λ row. row_line (row_of row)) (ok (decimal (length c.args.rows.now) ∷ [])) _ _ _ c.args.rows.now c.loop-row.row-index
+    c.row-item.result c.loop-row-test.true is c.loop-row.invariant c.in_ok-put_row.ensures.ok

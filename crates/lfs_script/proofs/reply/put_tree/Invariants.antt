@@ -5,4 +5,5 @@ use Rattle.lfs_fs.specs.Answers.{row_of}
 use Rattle.lfs_script.proofs.reply.put_tree.Given as goal
 
 abbrev pub invariant-loop-row : goal.invariant-loop-row
-invariant-loop-row g l = Appends (g.W.Write.contents l.fn.writer) (g.W.Write.contents l.writer) (ok (decimal (length l.rows) ∷ []) ++ flat_map (λ row. row_line (row_of row)) (take l.row-index l.rows))
+invariant-loop-row g l = Appends (g.W.Write.contents l.fn.writer) (g.W.Write.contents l.writer)
+    (ok (decimal (length l.rows) ∷ []) ++ flat_map (λ row. row_line (row_of row)) (take l.row-index l.rows))

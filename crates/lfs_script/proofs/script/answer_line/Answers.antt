@@ -5,7 +5,8 @@ use Rattle.lfs_script.proofs.ScriptTurns.{called_text, unknown_is_bad, without_m
 use Rattle.lfs_script.proofs.script.answer_line.Goals as goal
 
 pub returns-in-Ok : goal.returns-in-Ok
-returns-in-Ok g c = called_text g.D.SectorDevice.state _ _ c.args.line.now (line_for c.in-Ok.call) _ c.requires.short c.in-Ok.ensures.ok c.in-Ok.ensures.in_range (inl c.make.ensures)
+returns-in-Ok g c = called_text g.D.SectorDevice.state _ _ c.args.line.now (line_for c.in-Ok.call) _ c.requires.short c.in-Ok.ensures.ok
+    c.in-Ok.ensures.in_range (inl c.make.ensures)
 
 pub returns-in-Err-Memory : goal.returns-in-Err-Memory
 returns-in-Err-Memory g c =

@@ -6,20 +6,31 @@ use Rattle.lfs_script.proofs.session.use_each.Goals as goal
 
 pub loop-script-init : goal.loop-script-init
 loop-script-init g c = λ before calls given was.
-    uses_none device_state (record { written = g.W.Write.contents c.args.writer.now; device = c.args.device; points = before; calls = calls; given = given }) was
+    uses_none device_state (record {
+      written = g.W.Write.contents c.args.writer.now;
+      device = c.args.device;
+      points = before;
+      calls = calls;
+      given = given;
+    }) was
 
 pub loop-script-preserved : goal.loop-script-preserved
 loop-script-preserved g c = λ before calls given was.
-    in_turn device_state c.args.scripts.now c.loop-script.script-index c.script-item.result c.as_slice-reader.result.now c.loop-script-test.true (search rules) c.as_slice-reader.ensures.value _ _ _ _ _
-    (c.loop-script.invariant before calls given was) (let session = ok_of _ _ _ c.in-Ok-default.is-0 c.use_and_stop.ensures.ran in (_, _, session, session.uses tt)) c.use_and_stop.ensures.alone
+    in_turn device_state c.args.scripts.now c.loop-script.script-index c.script-item.result c.as_slice-reader.result.now
+    c.loop-script-test.true (search rules) c.as_slice-reader.ensures.value _ _ _ _ _
+    (c.loop-script.invariant before calls given was) (let session = ok_of _ _ _ c.in-Ok-default.is-0 c.use_and_stop.ensures.ran in
+    (_, _, session, session.uses tt)) c.use_and_stop.ensures.alone
 
 pub returns-in-Err-default-clause-stopped : goal.returns-in-Err-default-clause-stopped
 returns-in-Err-default-clause-stopped g c = λ before calls given was.
     let of = c.use_and_stop.ensures in
     let is = c.in-Err-default.is-0 in
-    stops device_state c.args.scripts.now c.loop-script.script-index _ _ _ _ _ _ c.loop-script-test.true (ap g.W.Write.contents (err_of _ _ _ is of.unwritten))
-    (c.loop-script.invariant before calls given was) (err_of _ _ _ is of.refused) (err_of _ _ _ is of.reason) (err_of _ _ _ is of.any_moment) (err_of _ _ _ is of.left_before)
+    stops device_state c.args.scripts.now c.loop-script.script-index _ _ _ _ _ _ c.loop-script-test.true
+    (ap g.W.Write.contents (err_of _ _ _ is of.unwritten))
+    (c.loop-script.invariant before calls given was) (err_of _ _ _ is of.refused) (err_of _ _ _ is of.reason)
+    (err_of _ _ _ is of.any_moment) (err_of _ _ _ is of.left_before)
 
 pub returns-clause-ran : goal.returns-clause-ran
 returns-clause-ran g c = λ before calls given was.
-    all_used device_state c.args.scripts.now c.loop-script.script-index _ _ _ c.loop-script-test.false (c.loop-script.invariant before calls given was)
+    all_used device_state c.args.scripts.now c.loop-script.script-index _ _ _ c.loop-script-test.false
+    (c.loop-script.invariant before calls given was)

@@ -8,6 +8,8 @@ use Rattle.lfs_script.proofs.session.use_each.Given as goal
 
 -- the scripts so far were used in turn
 abbrev pub invariant-loop-script : goal.invariant-loop-script
-invariant-loop-script g l = (before : List Point) (calls : List Call) (given : List Answer) → LeavesPrefix (device_state l.fn.device) before calls given
-    → UsesInTurn device_state (texts_of (take l.script-index l.scripts)) (record { written = g.W.Write.contents l.initial.writer; device = l.fn.device; points = before; calls = calls; given = given })
+invariant-loop-script g l = (before : List Point) (calls : List Call) (given : List Answer)
+    → LeavesPrefix (device_state l.fn.device) before calls given
+    → UsesInTurn device_state (texts_of (take l.script-index l.scripts))
+    (record { written = g.W.Write.contents l.initial.writer; device = l.fn.device; points = before; calls = calls; given = given })
     (g.W.Write.contents l.writer) l.current

@@ -9,6 +9,8 @@ use Rattle.lfs_script.proofs.told.use_each_told.Given as goal
 
 -- the scripts so far were used in turn
 abbrev pub invariant-loop-script : goal.invariant-loop-script
-invariant-loop-script g l = (before : List Point) (calls : List Call) (given : List Answer) → LeavesPrefix (device_state l.fn.device) before calls given
-    → UsesInTurnTold device_state l.fn.strict (texts_of (take l.script-index l.scripts)) (record { written = g.W.Write.contents l.initial.writer; device = l.fn.device; points = before; calls = calls; given = given })
+invariant-loop-script g l = (before : List Point) (calls : List Call) (given : List Answer)
+    → LeavesPrefix (device_state l.fn.device) before calls given
+    → UsesInTurnTold device_state l.fn.strict (texts_of (take l.script-index l.scripts))
+    (record { written = g.W.Write.contents l.initial.writer; device = l.fn.device; points = before; calls = calls; given = given })
     (g.W.Write.contents l.writer) l.current (g.S.Witness.looks l.initial.witness) (g.S.Witness.looks l.witness)

@@ -4,7 +4,8 @@ use Rattle.std.proofs.lemmas.List.Sums.{sum_by_push}
 use Rattle.lfs_segments.specs.Choosing.{IsChoiceBy, Precedes}
 use Rattle.lfs_segments.specs.Victims.{load_of, IsChoice}
 use Rattle.lfs_segments.proofs.Choosing.{Picked, length_pushed, none_left, picked_next}
-use Rattle.lfs_segments.proofs.Gaining.{Tried, choice_at_end, choice_at_once, exhausts, gain_pushed, on_none, on_some, tried_next_more, tried_next_still}
+use Rattle.lfs_segments.proofs.Gaining.{Tried, choice_at_end, choice_at_once, exhausts, gain_pushed, on_none, on_some, tried_next_more}
+use Rattle.lfs_segments.proofs.Gaining.{tried_next_still}
 use Rattle.lfs_segments.proofs.victims.choose.Goals as goal
 use Rattle.lfs_segments.proofs.victims.choose.Goals.{then-gain-best, else-gain-best}
 
@@ -18,7 +19,8 @@ returns-in_default-clause-some c =
     let long = c.loop-others.invariant.2 in
     let more = c.loop-others-test.true in
     on_some c.shortened.result _ _ (λ v is. subst (IsChoiceBy t c.args.meta c.args.most p) (sym is.1)
-    (choice_at_end t c.args.meta c.args.most p xs picked.first picked.each picked.apart c.loop-others.best c.loop-others.count tried (omega (arith, long, more))
+    (choice_at_end t c.args.meta c.args.most p xs picked.first picked.each picked.apart c.loop-others.best c.loop-others.count tried
+    (omega (arith, long, more))
     (inr (none_left t p c.loop-others.last xs picked (c.in_default.ensures.leads))) is.0))
     c.shortened.ensures.some
 
@@ -32,7 +34,8 @@ returns-in_default-clause-none c =
     let long = c.loop-others.invariant.2 in
     let more = c.loop-others-test.true in
     on_none c.shortened.result _ _ (λ none.
-    exhausts t c.args.meta c.args.most p xs picked.first picked.each picked.apart c.wanted-wanted.ensures.table c.loop-others.best c.loop-others.count tried (omega (arith, long, more))
+    exhausts t c.args.meta c.args.most p xs picked.first picked.each picked.apart c.wanted-wanted.ensures.table c.loop-others.best
+    c.loop-others.count tried (omega (arith, long, more))
     (inr (none_left t p c.loop-others.last xs picked (c.in_default.ensures.leads))) none)
     c.shortened.ensures.none
 
@@ -46,11 +49,13 @@ returns-then-gain-wanted-clause-some c =
     let long = c.loop-others.invariant.2 in
     let more = c.loop-others-test.true in
     let next = picked_next t p c.loop-others.last xs c.in-Some.next c.loop-others.invariant.0 c.in-Some.ensures.leads in
-    let gain = gain_pushed t c.args.meta xs x c.loop-others.blocks c.from-blocks.result c.loop-others.others c.gain-gain.result c.loop-others.invariant.3 (c.from-blocks.ensures ∙ c.in-Some.ensures.leads.known.load) long c.gain-gain.ensures in
+    let gain = gain_pushed t c.args.meta xs x c.loop-others.blocks c.from-blocks.result c.loop-others.others c.gain-gain.result
+    c.loop-others.invariant.3 (c.from-blocks.ensures ∙ c.in-Some.ensures.leads.known.load) long c.gain-gain.ensures in
     let enough = c.if-gain-wanted.true in
     let wanted = c.wanted-wanted.ensures.value in
     subst (IsChoice t c.args.meta c.args.most (Precedes t p)) (sym c.push.ensures.items)
-    (choice_at_once t c.args.meta c.args.most p xs x c.loop-others.best c.loop-others.count tried next.first next.each next.apart (omega (arith, long, more)) (omega (arith, gain, enough, wanted)))
+    (choice_at_once t c.args.meta c.args.most p xs x c.loop-others.best c.loop-others.count tried next.first next.each next.apart
+    (omega (arith, long, more)) (omega (arith, gain, enough, wanted)))
 
 pub loop-others-preserved : goal.loop-others-preserved
 loop-others-preserved c =
@@ -66,7 +71,8 @@ loop-others-preserved c =
     let few = c.in-Some.next.few in
     let own : c.from-blocks.result ≡ load_of t x = load ∙ c.in-Some.ensures.leads.known.load in
     let next = picked_next t p c.loop-others.last xs c.in-Some.next c.loop-others.invariant.0 c.in-Some.ensures.leads in
-    let gain = gain_pushed t c.args.meta xs x c.loop-others.blocks c.from-blocks.result c.loop-others.others c.gain-gain.result blocks own long c.gain-gain.ensures in
+    let gain = gain_pushed t c.args.meta xs x c.loop-others.blocks c.from-blocks.result c.loop-others.others c.gain-gain.result blocks own
+    long c.gain-gain.ensures in
     let lacks = c.if-gain-wanted.false in
     let wanted = c.wanted-wanted.ensures.value in
     let sum = sum_by_push (load_of t) xs x in
@@ -77,9 +83,12 @@ loop-others-preserved c =
       | then-gain-best w ↦
           let more = w.if-gain-best.true in
           let best = w.best-is in
-          tried_next_more t c.args.meta xs x c.loop-others.best c.loop-others.count tried c.if-gain-best.best c.if-gain-best.count (w.best-is ∙ gain) (let n = w.count-is in omega (arith, n, long)) (omega (arith, best, more)) (omega (arith, best, small, wanted))
+          tried_next_more t c.args.meta xs x c.loop-others.best c.loop-others.count tried c.if-gain-best.best c.if-gain-best.count
+          (w.best-is ∙ gain) (let n = w.count-is in omega (arith, n, long)) (omega (arith, best, more))
+          (omega (arith, best, small, wanted))
       | else-gain-best w ↦
-          tried_next_still t c.args.meta xs x c.loop-others.best c.loop-others.count tried c.if-gain-best.best c.if-gain-best.count c.gain-gain.result w.best-is w.count-is gain w.if-gain-best.false
+          tried_next_still t c.args.meta xs x c.loop-others.best c.loop-others.count tried c.if-gain-best.best c.if-gain-best.count
+          c.gain-gain.result w.best-is w.count-is gain w.if-gain-best.false
     ] in (
       subst (Picked t p (Some c.in-Some.next)) items next,
       subst (λ (l : List ℕ). Tried t c.args.meta l c.if-gain-best.best c.if-gain-best.count) items step,
@@ -100,7 +109,8 @@ returns-clause-some c =
     let over = c.loop-others-test.false in
     let full : length xs ≡ c.args.most = omega (arith, long, end, over) in
     on_some c.shortened-2.result _ _ (λ v is. subst (IsChoiceBy t c.args.meta c.args.most p) (sym is.1)
-    (choice_at_end t c.args.meta c.args.most p xs picked.first picked.each picked.apart c.loop-others.best c.loop-others.count tried (omega (arith, full)) (inl full) is.0))
+    (choice_at_end t c.args.meta c.args.most p xs picked.first picked.each picked.apart c.loop-others.best c.loop-others.count tried
+    (omega (arith, full)) (inl full) is.0))
     c.shortened-2.ensures.some
 
 pub returns-clause-none : goal.returns-clause-none
@@ -115,5 +125,6 @@ returns-clause-none c =
     let over = c.loop-others-test.false in
     let full : length xs ≡ c.args.most = omega (arith, long, end, over) in
     on_none c.shortened-2.result _ _ (λ none.
-    exhausts t c.args.meta c.args.most p xs picked.first picked.each picked.apart c.wanted-wanted.ensures.table c.loop-others.best c.loop-others.count tried (omega (arith, full)) (inl full) none)
+    exhausts t c.args.meta c.args.most p xs picked.first picked.each picked.apart c.wanted-wanted.ensures.table c.loop-others.best
+    c.loop-others.count tried (omega (arith, full)) (inl full) none)
     c.shortened-2.ensures.none

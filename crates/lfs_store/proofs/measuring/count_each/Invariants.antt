@@ -3,4 +3,5 @@ use Rattle.lfs_store.proofs.Measured.{CountedUpTo}
 use Rattle.lfs_store.proofs.measuring.count_each.Given as goal
 
 abbrev pub invariant-loop-index : goal.invariant-loop-index
-invariant-loop-index g l = CountedUpTo g.D.SectorDevice.state (λ m. is_stored m l.number.value) l.initial.log l.log l.draft.changes l.from l.index l.count
+invariant-loop-index g l =
+    CountedUpTo g.D.SectorDevice.state (λ m. is_stored m l.number.value) l.initial.log l.log l.draft.changes l.from l.index l.count

@@ -3,4 +3,5 @@ use Rattle.lfs_store.proofs.measuring.is_stored.Goals as goal
 
 pub returns-in-None-clause-answer : goal.returns-in-None-clause-answer
 returns-in-None-clause-answer g c =
-    log_stored g.D.SectorDevice.state c.args.log.now c.has_block.new.self c.args.draft.now.changes c.args.number.value c.args.index c.has_block.result c.in-None.ensures c.has_block.ensures.answer
+    log_stored g.D.SectorDevice.state c.args.log.now c.has_block.new.self c.args.draft.now.changes c.args.number.value c.args.index
+    c.has_block.result c.in-None.ensures c.has_block.ensures.answer

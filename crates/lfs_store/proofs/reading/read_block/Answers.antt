@@ -6,4 +6,5 @@ returns-in-Some-clause-answer g c k m0 m keeps is = c.in-Some.ensures.says m
 
 pub returns-in-None-clause-answer : goal.returns-in-None-clause-answer
 returns-in-None-clause-answer g c =
-    log_block g.D.SectorDevice.state c.args.log.now c.block-in-None.new.self c.args.draft.now.changes c.args.number.value c.args.index c.block-in-None.new.out c.block-in-None.result c.in-None.ensures.says c.block-in-None.ensures.answer
+    log_block g.D.SectorDevice.state c.args.log.now c.block-in-None.new.self c.args.draft.now.changes c.args.number.value c.args.index
+    c.block-in-None.new.out c.block-in-None.result c.in-None.ensures.says c.block-in-None.ensures.answer

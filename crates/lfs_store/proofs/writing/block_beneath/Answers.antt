@@ -7,5 +7,6 @@ returns-then-covers-clause-done g c k m0 m keeps is = inr (c.covers.ensures c.if
 
 pub returns-in-Ok-clause-done : goal.returns-in-Ok-clause-done
 returns-in-Ok-clause-done g c =
-    read_beneath g.D.SectorDevice.state c.args.log.now c.read_block.new.log c.args.draft.now.changes c.args.number.value c.args.index c.args.at c.args.bytes.now
+    read_beneath g.D.SectorDevice.state c.args.log.now c.read_block.new.log c.args.draft.now.changes c.args.number.value c.args.index
+    c.args.at c.args.bytes.now
     c.read_block.new.out c.in-Ok.field-0 c.read_block.array_long c.in-Ok.ensures.zeros c.in-Ok.ensures.answer

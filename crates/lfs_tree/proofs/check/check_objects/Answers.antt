@@ -9,10 +9,12 @@ use Rattle.lfs_tree.proofs.check.check_objects.Goals as goal
 
 pub returns-in-Ok-false-clause-reason : goal.returns-in-Ok-false-clause-reason
 returns-in-Ok-false-clause-reason g c k m sees leads told empty =
-    slots_fail refl (subst (SlotStage m c.args.headers.now c.stage_slots.new.tables) c.in-Ok-false.field-0-test (c.in-Ok-false.ensures.holds k m sees leads told empty))
+    slots_fail refl (subst (SlotStage m c.args.headers.now c.stage_slots.new.tables) c.in-Ok-false.field-0-test
+    (c.in-Ok-false.ensures.holds k m sees leads told empty))
 
 pub returns-in-Err-Device-clause-reason : goal.returns-in-Err-Device-clause-reason
-returns-in-Err-Device-clause-reason g c k m sees leads told empty = c.in-Err-Device.ensures.failed (ap Err c.in-Err-Device.field-0-is) k m sees leads told
+returns-in-Err-Device-clause-reason g c k m sees leads told empty =
+    c.in-Err-Device.ensures.failed (ap Err c.in-Err-Device.field-0-is) k m sees leads told
 
 pub returns-in-Ok-true-stage_texts-clause-done : goal.returns-in-Ok-true-stage_texts-clause-done
 returns-in-Ok-true-stage_texts-clause-done g c k m sees leads told empty =
@@ -20,10 +22,12 @@ returns-in-Ok-true-stage_texts-clause-done g c k m sees leads told empty =
     let mid = g.D.SectorDevice.state c.stage_slots.new.device in
     let new = g.D.SectorDevice.state c.stage_texts.new.device in
     let looks = c.stage_slots.ensures.looks in
-    let slots = subst (SlotStage m c.args.headers.now c.stage_slots.new.tables) c.in-Ok-true.field-0-test (c.in-Ok-true.ensures.holds k m (sees_first old mid new k m sees c.stage_texts.ensures.looks) leads told empty) in (
+    let slots = subst (SlotStage m c.args.headers.now c.stage_slots.new.tables) c.in-Ok-true.field-0-test
+    (c.in-Ok-true.ensures.holds k m (sees_first old mid new k m sees c.stage_texts.ensures.looks) leads told empty) in (
       slots.0,
       decided_true (AreTexts m) c.in-Ok-true-stage_texts.field-0 c.in-Ok-true-stage_texts.field-0-test
-          (c.in-Ok-true-stage_texts.ensures.holds k m (sees_then old mid new k m sees looks) (leads_then old mid k c.args.map.now leads looks) told),
+          (c.in-Ok-true-stage_texts.ensures.holds k m (sees_then old mid new k m sees looks)
+          (leads_then old mid k c.args.map.now leads looks) told),
       slots.1,
     )
 
@@ -33,10 +37,12 @@ returns-in-Ok-false-stage_texts-clause-reason g c k m sees leads told empty =
     let mid = g.D.SectorDevice.state c.stage_slots.new.device in
     let new = g.D.SectorDevice.state c.stage_texts.new.device in
     let looks = c.stage_slots.ensures.looks in
-    let slots = subst (SlotStage m c.args.headers.now c.stage_slots.new.tables) c.in-Ok-true.field-0-test (c.in-Ok-true.ensures.holds k m (sees_first old mid new k m sees c.stage_texts.ensures.looks) leads told empty) in
+    let slots = subst (SlotStage m c.args.headers.now c.stage_slots.new.tables) c.in-Ok-true.field-0-test
+    (c.in-Ok-true.ensures.holds k m (sees_first old mid new k m sees c.stage_texts.ensures.looks) leads told empty) in
     texts_fail refl slots.0
     (decided_false (AreTexts m) c.in-Ok-false-stage_texts.field-0 c.in-Ok-false-stage_texts.field-0-test
-    (c.in-Ok-false-stage_texts.ensures.holds k m (sees_then old mid new k m sees looks) (leads_then old mid k c.args.map.now leads looks) told))
+    (c.in-Ok-false-stage_texts.ensures.holds k m (sees_then old mid new k m sees looks) (leads_then old mid k c.args.map.now leads looks)
+    told))
 
 pub returns-in-Err-clause-reason : goal.returns-in-Err-clause-reason
 returns-in-Err-clause-reason g c k m sees leads told empty =

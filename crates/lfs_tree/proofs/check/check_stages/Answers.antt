@@ -15,7 +15,8 @@ returns-in-Err-check_objects-clause-reason g c k m sees of_log empty =
     let looks = c.read_headers.ensures.looks in
     let told = c.in-Ok.ensures.told k m (sees_first old mid new k m sees c.check_objects.ensures.looks) of_log.leads in
     fault_after old mid new looks (IsTreeDamage k.segments m) c.in-Err-check_objects.fault
-    (c.in-Err-check_objects.ensures.reason k m (sees_then old mid new k m sees looks) (leads_then old mid k c.args.tables.now.map of_log.leads looks) told empty)
+    (c.in-Err-check_objects.ensures.reason k m (sees_then old mid new k m sees looks)
+    (leads_then old mid k c.args.tables.now.map of_log.leads looks) told empty)
 
 pub returns-in-Ok-check_names-clause-done : goal.returns-in-Ok-check_names-clause-done
 returns-in-Ok-check_names-clause-done g c k m sees of_log empty =
@@ -24,9 +25,11 @@ returns-in-Ok-check_names-clause-done g c k m sees of_log empty =
     let new = g.D.SectorDevice.state c.check_objects.new.device in
     let looks = c.read_headers.ensures.looks in
     let told = c.in-Ok.ensures.told k m (sees_first old mid new k m sees c.check_objects.ensures.looks) of_log.leads in
-    let done = c.in-Ok-check_objects.ensures.done k m (sees_then old mid new k m sees looks) (leads_then old mid k c.args.tables.now.map of_log.leads looks) told empty in
+    let done = c.in-Ok-check_objects.ensures.done k m (sees_then old mid new k m sees looks)
+    (leads_then old mid k c.args.tables.now.map of_log.leads looks) told empty in
     c.in-Ok-check_names.ensures.done old.content k m
-    (gathered old.content k m c.read_headers.new.headers c.check_objects.new.names c.args.tables.now sees.holds sees.sized told done.0 done.1 done.2 of_log)
+    (gathered old.content k m c.read_headers.new.headers c.check_objects.new.names c.args.tables.now sees.holds sees.sized told done.0
+    done.1 done.2 of_log)
 
 pub returns-in-Err-check_names-clause-reason : goal.returns-in-Err-check_names-clause-reason
 returns-in-Err-check_names-clause-reason g c k m sees of_log empty =
@@ -35,7 +38,9 @@ returns-in-Err-check_names-clause-reason g c k m sees of_log empty =
     let new = g.D.SectorDevice.state c.check_objects.new.device in
     let looks = c.read_headers.ensures.looks in
     let told = c.in-Ok.ensures.told k m (sees_first old mid new k m sees c.check_objects.ensures.looks) of_log.leads in
-    let done = c.in-Ok-check_objects.ensures.done k m (sees_then old mid new k m sees looks) (leads_then old mid k c.args.tables.now.map of_log.leads looks) told empty in
+    let done = c.in-Ok-check_objects.ensures.done k m (sees_then old mid new k m sees looks)
+    (leads_then old mid k c.args.tables.now.map of_log.leads looks) told empty in
     no_failure (old.failures < new.failures) (IsTreeDamage k.segments m) c.in-Err-check_names.fault
     (c.in-Err-check_names.ensures.reason old.content k m
-    (gathered old.content k m c.read_headers.new.headers c.check_objects.new.names c.args.tables.now sees.holds sees.sized told done.0 done.1 done.2 of_log))
+    (gathered old.content k m c.read_headers.new.headers c.check_objects.new.names c.args.tables.now sees.holds sees.sized told done.0
+    done.1 done.2 of_log))

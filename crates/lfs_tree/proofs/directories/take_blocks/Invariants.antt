@@ -18,9 +18,11 @@ invariant-loop-index g l =
       low : per_block l.fn.header.form * l.index < slot_count l.fn.header + per_block l.fn.header.form;
       looks : Looks old now;
       no_failure : now.failures ≡ old.failures;
-      taken : (k : CheckpointValue) (m : LogMap) → Sees old now k m → l.inode ≡ block old.content (address old.content k (Inode l.fn.directory.value))
+      taken : (k : CheckpointValue) (m : LogMap) → Sees old now k m
+          → l.inode ≡ block old.content (address old.content k (Inode l.fn.directory.value))
           → (base : Base) → IsTaken l.fn.header.form l.headers l.fn.directory.value base [] l.initial.names l.initial.tables
-          → IsTaken l.fn.header.form l.headers l.fn.directory.value base (drop (per_block l.fn.header.form * l.index) (slots_at m l.fn.directory.value l.fn.header)) l.names l.tables;
+          → IsTaken l.fn.header.form l.headers l.fn.directory.value base
+          (drop (per_block l.fn.header.form * l.index) (slots_at m l.fn.directory.value l.fn.header)) l.names l.tables;
     }
 
 abbrev pub decreases-loop-index : goal.decreases-loop-index

@@ -8,7 +8,8 @@ use Rattle.lfs_tree.proofs.directories.take_directory.Goals as goal
 pub returns-in-Ok-false-clause-failed : goal.returns-in-Ok-false-clause-failed
 returns-in-Ok-false-clause-failed g c same k m sees leads there =
     let old = g.D.SectorDevice.state c.args.device.now in
-    let none = subst (λ (b : Bool). InodeAnswer old.content k m c.args.directory.value c.read_inode.new.out b) c.in-Ok-false.field-0-test (c.in-Ok-false.ensures.answer k m sees leads) in
+    let none = subst (λ (b : Bool). InodeAnswer old.content k m c.args.directory.value c.read_inode.new.out b) c.in-Ok-false.field-0-test
+    (c.in-Ok-false.ensures.answer k m sees leads) in
     let both : Some (as_header c.args.header) ≡ None = sym there ∙ none in
     absurd (cc)
 
@@ -21,9 +22,12 @@ returns-in-Ok-clause-takes g c k m sees leads base was =
     let mid = g.D.SectorDevice.state c.read_inode.new.device in
     let new = g.D.SectorDevice.state c.take_blocks.new.device in
     let looks = c.read_inode.ensures.looks in
-    let own = subst (λ (b : Bool). InodeAnswer old.content k m c.args.directory.value c.read_inode.new.out b) c.in-Ok-true.field-0-test (c.in-Ok-true.ensures.answer k m (sees_first old mid new k m sees c.take_blocks.ensures.looks) leads) in
-    c.in-Ok.ensures.takes k m (sees_then old mid new k m sees looks) (inode_then old mid k c.args.directory.value c.read_inode.new.out own.block looks) base
-    (nothing_taken c.args.header.form c.args.headers.now c.args.directory.value base c.new-names.result c.args.tables.now (names_none c.new-names.result c.new-names.ensures.empty) was)
+    let own = subst (λ (b : Bool). InodeAnswer old.content k m c.args.directory.value c.read_inode.new.out b) c.in-Ok-true.field-0-test
+    (c.in-Ok-true.ensures.answer k m (sees_first old mid new k m sees c.take_blocks.ensures.looks) leads) in
+    c.in-Ok.ensures.takes k m (sees_then old mid new k m sees looks)
+    (inode_then old mid k c.args.directory.value c.read_inode.new.out own.block looks) base
+    (nothing_taken c.args.header.form c.args.headers.now c.args.directory.value base c.new-names.result c.args.tables.now
+    (names_none c.new-names.result c.new-names.ensures.empty) was)
 
 pub returns-clause-failed : goal.returns-clause-failed
 returns-clause-failed g c same k m sees leads there =
@@ -31,7 +35,9 @@ returns-clause-failed g c same k m sees leads there =
     let mid = g.D.SectorDevice.state c.read_inode.new.device in
     let new = g.D.SectorDevice.state c.take_blocks.new.device in
     let looks = c.read_inode.ensures.looks in
-    let own = subst (λ (b : Bool). InodeAnswer old.content k m c.args.directory.value c.read_inode.new.out b) c.in-Ok-true.field-0-test (c.in-Ok-true.ensures.answer k m (sees_first old mid new k m sees c.take_blocks.ensures.looks) leads) in
-    let rose = c.in-Err-take_blocks.ensures.failed same k m (sees_then old mid new k m sees looks) (inode_then old mid k c.args.directory.value c.read_inode.new.out own.block looks) in
+    let own = subst (λ (b : Bool). InodeAnswer old.content k m c.args.directory.value c.read_inode.new.out b) c.in-Ok-true.field-0-test
+    (c.in-Ok-true.ensures.answer k m (sees_first old mid new k m sees c.take_blocks.ensures.looks) leads) in
+    let rose = c.in-Err-take_blocks.ensures.failed same k m (sees_then old mid new k m sees looks)
+    (inode_then old mid k c.args.directory.value c.read_inode.new.out own.block looks) in
     let earlier = looks.carries.failures in
     omega (arith, rose, earlier)

@@ -14,11 +14,13 @@ pub loop-number-preserved : goal.loop-number-preserved
 loop-number-preserved c =
     let here = c.loop-number.invariant in
     let number = c.loop-number.number in
-    let did = subst (MarksDirectory c.args.headers.now c.args.tables.now.up c.climb_directory.new.marks number) c.if-not-climb_directory.false (c.climb_directory.ensures here.marked) in
+    let did = subst (MarksDirectory c.args.headers.now c.args.tables.now.up c.climb_directory.new.marks number)
+    c.if-not-climb_directory.false (c.climb_directory.ensures here.marked) in
     record {
       marked = did.0;
       all = λ n low high on. ⊎_elim
-          (λ (same : n ≡ number). subst (Climbs (slice_index c.args.tables.now.up)) (sym same) (did.1 (subst (λ (x : ℕ). leads c.args.headers.now x ≡ true) same on)))
+          (λ (same : n ≡ number). subst (Climbs (slice_index c.args.tables.now.up)) (sym same)
+          (did.1 (subst (λ (x : ℕ). leads c.args.headers.now x ≡ true) same on)))
           (λ (other : n ≡ number → ⊥). here.all n low (omega (arith, high, other)) on)
           (cases_eq n number);
     }

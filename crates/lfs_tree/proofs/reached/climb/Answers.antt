@@ -3,7 +3,10 @@ use Rattle.lfs_tree.proofs.Climbing.{fewer_left, way_begins, way_done, way_goes_
 use Rattle.lfs_tree.proofs.reached.climb.Goals as goal
 
 pub loop-marks-init : goal.loop-marks-init
-loop-marks-init c = record { few = (let few = c.args.start.few in omega (arith, few)); way = way_begins c.args.tables.now.up c.args.marks.now c.args.start.value c.requires }
+loop-marks-init c = record {
+  few = (let few = c.args.start.few in omega (arith, few));
+  way = way_begins c.args.tables.now.up c.args.marks.now c.args.start.value c.requires;
+}
 
 pub loop-marks-smaller : goal.loop-marks-smaller
 loop-marks-smaller c =
@@ -11,7 +14,8 @@ loop-marks-smaller c =
     let whole = c.get.ensures.whole in
     let some = c.requires in
     let inside : c.loop-marks.at < length c.loop-marks.marks = omega (arith, whole, few) in
-    rw c.set.ensures (fewer_left c.loop-marks.marks c.loop-marks.at c.args.start.value inside (sym c.get.ensures.value ∙ c.loop-marks-test.true) (omega (arith, some)) few)
+    rw c.set.ensures (fewer_left c.loop-marks.marks c.loop-marks.at c.args.start.value inside
+    (sym c.get.ensures.value ∙ c.loop-marks-test.true) (omega (arith, some)) few)
 
 pub loop-marks-preserved : goal.loop-marks-preserved
 loop-marks-preserved c =
@@ -21,7 +25,8 @@ loop-marks-preserved c =
     record {
       few = c.up-at.ensures.inside;
       way = λ marked.
-          rw (c.set.ensures, c.up-at.ensures.value) (way_goes_on c.args.tables.now.up c.args.marks.now c.args.start.value c.requires c.loop-marks.marks c.loop-marks.at (c.loop-marks.invariant.way marked) inside
+          rw (c.set.ensures, c.up-at.ensures.value) (way_goes_on c.args.tables.now.up c.args.marks.now c.args.start.value c.requires
+          c.loop-marks.marks c.loop-marks.at (c.loop-marks.invariant.way marked) inside
           (sym c.get.ensures.value ∙ c.loop-marks-test.true));
     }
 
@@ -29,4 +34,5 @@ pub returns : goal.returns
 returns c marked =
     let first = c.get.ensures.value in
     let some = c.loop-marks-test.false in
-    way_done c.args.tables.now.up c.args.marks.now c.args.start.value c.requires c.loop-marks.marks c.loop-marks.at (c.loop-marks.invariant.way marked) (omega (arith, first, some)) c.get-2.result c.get-2.ensures.value
+    way_done c.args.tables.now.up c.args.marks.now c.args.start.value c.requires c.loop-marks.marks c.loop-marks.at
+    (c.loop-marks.invariant.way marked) (omega (arith, first, some)) c.get-2.result c.get-2.ensures.value

@@ -8,24 +8,28 @@ use Rattle.lfs_tree.proofs.reading.read_block.Goals as goal
 pub returns-in-Err-Unreadable-clause-failed : goal.returns-in-Err-Unreadable-clause-failed
 returns-in-Err-Unreadable-clause-failed g c k m n sees is =
     let old = g.D.SectorDevice.state c.args.device.now in
-    absurd (data_not_lost old.content k m sees.sized sees.holds n c.args.index c.args.inode.now is (c.in-Err-Unreadable.ensures.unreadable (ap Err c.in-Err-Unreadable.field-0-is) sees.keeps))
+    absurd (data_not_lost old.content k m sees.sized sees.holds n c.args.index c.args.inode.now is
+    (c.in-Err-Unreadable.ensures.unreadable (ap Err c.in-Err-Unreadable.field-0-is) sees.keeps))
 
 pub returns-then-address-eq0-clause-answer : goal.returns-then-address-eq0-clause-answer
 returns-then-address-eq0-clause-answer g c k m n sees is =
     let old = g.D.SectorDevice.state c.args.device.now in
     block_not old.content k m sees.sized sees.holds n c.args.index c.in-Ok.address _
-    (c.in-Ok.ensures.value sees.keeps ∙ data_is old.content k m sees.sized sees.holds n c.args.index c.args.inode.now is) c.if-address-eq0.true refl
+    (c.in-Ok.ensures.value sees.keeps ∙ data_is old.content k m sees.sized sees.holds n c.args.index c.args.inode.now is)
+    c.if-address-eq0.true refl
 
 pub returns-in-Ok-read_sector-clause-answer : goal.returns-in-Ok-read_sector-clause-answer
 returns-in-Ok-read_sector-clause-answer g c k m n sees is =
     let old = g.D.SectorDevice.state c.args.device.now in
     let mid = g.D.SectorDevice.state c.locate.new.device in
     let new = g.D.SectorDevice.state c.read_sector.new.device in
-    let looks = looks_call old mid (g.met.D.SectorDevice.lawful c.args.device.now) c.locate.ensures.carries c.locate.ensures.untouched c.locate.ensures.time in
+    let looks = looks_call old mid (g.met.D.SectorDevice.lawful c.args.device.now) c.locate.ensures.carries c.locate.ensures.untouched
+    c.locate.ensures.time in
     let before = sees_first old mid new k m sees c.in-Ok-read_sector.ensures.looks in
     let some = c.if-address-eq0.false in
     block_there old.content k m sees.sized sees.holds n c.args.index c.in-Ok.address c.read_sector.new.out
-    (c.in-Ok.ensures.value before.keeps ∙ data_is old.content k m sees.sized sees.holds n c.args.index c.args.inode.now is) (omega (arith, some))
+    (c.in-Ok.ensures.value before.keeps ∙ data_is old.content k m sees.sized sees.holds n c.args.index c.args.inode.now is)
+    (omega (arith, some))
     (c.in-Ok-read_sector.ensures.block old.content (reads_then old mid new old.content (reads_of old new k m sees) looks))
 
 pub returns-in-Err-clause-failed : goal.returns-in-Err-clause-failed
@@ -33,7 +37,8 @@ returns-in-Err-clause-failed g c k m n sees is =
     let old = g.D.SectorDevice.state c.args.device.now in
     let mid = g.D.SectorDevice.state c.locate.new.device in
     let new = g.D.SectorDevice.state c.read_sector.new.device in
-    let looks = looks_call old mid (g.met.D.SectorDevice.lawful c.args.device.now) c.locate.ensures.carries c.locate.ensures.untouched c.locate.ensures.time in
+    let looks = looks_call old mid (g.met.D.SectorDevice.lawful c.args.device.now) c.locate.ensures.carries c.locate.ensures.untouched
+    c.locate.ensures.time in
     let before = sees_first old mid new k m sees c.in-Err.ensures.looks in
     let some = c.if-address-eq0.false in
     let at = c.in-Ok.ensures.value before.keeps ∙ data_is old.content k m sees.sized sees.holds n c.args.index c.args.inode.now is in

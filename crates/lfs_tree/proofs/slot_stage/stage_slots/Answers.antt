@@ -13,7 +13,8 @@ loop-number-init g c = record {
   named = λ k m sees leads told empty.
       let are = held_headers (g.D.SectorDevice.state c.args.device.now).content k m sees.holds in
       let none = nobody m are in
-      named_first m c.args.headers.now c.args.tables.now empty (λ h at dir. (let both : None ≡ Some h = sym none ∙ at in absurd (cc))) (no_names m are 0 none);
+      named_first m c.args.headers.now c.args.tables.now empty (λ h at dir. (let both : None ≡ Some h = sym none ∙ at in absurd (cc)))
+      (no_names m are 0 none);
 }
 
 pub loop-number-preserved : goal.loop-number-preserved
@@ -30,7 +31,8 @@ loop-number-preserved g c =
       named = λ k m sees leads told empty.
           let was = here.named k m (sees_first old mid new k m sees c.in-Ok-true.ensures.looks) leads told empty in
           let base = base_at m headers c.loop-number.tables number in
-          let taken = c.in-Ok-true.ensures.takes k m (sees_then old mid new k m sees here.looks) (leads_then old mid k c.args.map.now leads here.looks) told base (noted_begin m headers c.loop-number.tables number was) in
+          let taken = c.in-Ok-true.ensures.takes k m (sees_then old mid new k m sees here.looks)
+          (leads_then old mid k c.args.map.now leads here.looks) told base (noted_begin m headers c.loop-number.tables number was) in
           let both = subst (TakesObject m headers number base c.take_object.new.tables) c.in-Ok-true.field-0-test taken in
           named_more m headers c.loop-number.tables number was c.take_object.new.tables both.0 both.1;
     }
@@ -45,7 +47,8 @@ returns-in-Ok-false-clause-holds g c k m sees leads told empty =
     let headers = c.args.headers.now in
     let was = here.named k m (sees_first old mid new k m sees c.in-Ok-false.ensures.looks) leads told empty in
     let base = base_at m headers c.loop-number.tables number in
-    let taken = c.in-Ok-false.ensures.takes k m (sees_then old mid new k m sees here.looks) (leads_then old mid k c.args.map.now leads here.looks) told base (noted_begin m headers c.loop-number.tables number was) in
+    let taken = c.in-Ok-false.ensures.takes k m (sees_then old mid new k m sees here.looks)
+    (leads_then old mid k c.args.map.now leads here.looks) told base (noted_begin m headers c.loop-number.tables number was) in
     let bad = subst (TakesObject m headers number base c.take_object.new.tables) c.in-Ok-false.field-0-test taken in
     λ stage. bad (good_if_stage m (held_headers old.content k m sees.holds) headers told stage number)
 
@@ -55,7 +58,8 @@ returns-in-Err-clause-failed g c same k m sees leads told =
     let mid = g.D.SectorDevice.state c.loop-number.device in
     let new = g.D.SectorDevice.state c.take_object.new.device in
     let looks = c.loop-number.invariant.looks in
-    let rose = c.in-Err.ensures.failed same k m (sees_then old mid new k m sees looks) (leads_then old mid k c.args.map.now leads looks) told in
+    let rose =
+    c.in-Err.ensures.failed same k m (sees_then old mid new k m sees looks) (leads_then old mid k c.args.map.now leads looks) told in
     let earlier = looks.carries.failures in
     omega (arith, rose, earlier)
 

@@ -6,7 +6,8 @@ use Rattle.lfs_tree.proofs.slots.take_slots.Given as goal
 abbrev pub invariant-loop-place : goal.invariant-loop-place
 invariant-loop-place l = record {
   low : l.place ≤ l.count;
-  takes : TakesSlots l.form l.headers l.directory.value (slots_in l.form l.block l.place (l.count - l.place)) l.initial.names l.names l.initial.tables l.tables true;
+  takes : TakesSlots l.form l.headers l.directory.value (slots_in l.form l.block l.place (l.count - l.place)) l.initial.names l.names
+      l.initial.tables l.tables true;
 }
 
 abbrev pub decreases-loop-place : goal.decreases-loop-place

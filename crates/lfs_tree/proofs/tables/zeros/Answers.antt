@@ -4,7 +4,9 @@ use Rattle.lfs_model.proofs.ObjectBytes.{get_or-zeros}
 use Rattle.lfs_tree.proofs.tables.zeros.Goals as goal
 
 pub returns-clause-len : goal.returns-clause-len
-returns-clause-len c = ap length (c.in_ok-numbers.ensures.items_if_clones_equal (λ y is. search rules)) ∙ (let nought : ℕ = 0 in length-replicate 4096 nought)
+returns-clause-len c = ap length (c.in_ok-numbers.ensures.items_if_clones_equal (λ y is. search rules))
+    ∙ (let nought : ℕ = 0 in length-replicate 4096 nought)
 
 pub returns-clause-empty : goal.returns-clause-empty
-returns-clause-empty c = λ n. ap (λ (xs : List ℕ). get_or xs n 0) (c.in_ok-numbers.ensures.items_if_clones_equal (λ y is. search rules)) ∙ get_or-zeros 4096 n
+returns-clause-empty c = λ n. ap (λ (xs : List ℕ). get_or xs n 0) (c.in_ok-numbers.ensures.items_if_clones_equal (λ y is. search rules))
+    ∙ get_or-zeros 4096 n

@@ -38,8 +38,10 @@ loop-index-preserved g c =
       no_failure = c.in-Ok.ensures.no_failure ∙ here.no_failure;
       none = λ k m n sees own.
           texts_go_on m n c.loop-index.index c.args.size c.min-count.result c.read_block.new.out
-          (c.in-Ok.ensures.answer k m n (sees_then old mid new k m sees here.looks) (inode_then old mid k n c.args.inode.now own here.looks))
-          low is (here.none k m n (sees_first old mid new k m sees c.in-Ok.ensures.looks) own) (c.is_nonzero.ensures.0 c.if-not-is_nonzero.false);
+          (c.in-Ok.ensures.answer k m n (sees_then old mid new k m sees here.looks)
+          (inode_then old mid k n c.args.inode.now own here.looks))
+          low is (here.none k m n (sees_first old mid new k m sees c.in-Ok.ensures.looks) own)
+          (c.is_nonzero.ensures.0 c.if-not-is_nonzero.false);
     }
 
 pub returns-then-not-is_nonzero-clause-holds : goal.returns-then-not-is_nonzero-clause-holds

@@ -17,5 +17,6 @@ invariant-loop-index g l =
     record {
       looks : Looks old now;
       no_failure : now.failures ≡ old.failures;
-      none : (k : CheckpointValue) (m : LogMap) (n : ℕ) → Sees old now k m → l.inode ≡ block old.content (address old.content k (Inode n)) → HasNoZero m n (min (512 * l.index) l.size);
+      none : (k : CheckpointValue) (m : LogMap) (n : ℕ) → Sees old now k m → l.inode ≡ block old.content (address old.content k (Inode n))
+          → HasNoZero m n (min (512 * l.index) l.size);
     }

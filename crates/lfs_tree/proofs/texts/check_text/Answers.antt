@@ -7,7 +7,8 @@ use Rattle.lfs_tree.proofs.texts.check_text.Goals as goal
 pub returns-in-Ok-false-clause-failed : goal.returns-in-Ok-false-clause-failed
 returns-in-Ok-false-clause-failed g c k m sees leads there =
     let old = g.D.SectorDevice.state c.args.device.now in
-    let none = subst (λ (b : Bool). InodeAnswer old.content k m c.args.number.value c.read_inode.new.out b) c.in-Ok-false.field-0-test (c.in-Ok-false.ensures.answer k m sees leads) in
+    let none = subst (λ (b : Bool). InodeAnswer old.content k m c.args.number.value c.read_inode.new.out b) c.in-Ok-false.field-0-test
+    (c.in-Ok-false.ensures.answer k m sees leads) in
     let both : Some (as_header c.args.header) ≡ None = sym there ∙ none in
     absurd (cc)
 
@@ -20,8 +21,10 @@ returns-in-Ok-clause-holds g c k m sees leads =
     let mid = g.D.SectorDevice.state c.read_inode.new.device in
     let new = g.D.SectorDevice.state c.check_bytes.new.device in
     let looks = c.read_inode.ensures.looks in
-    let own = subst (λ (b : Bool). InodeAnswer old.content k m c.args.number.value c.read_inode.new.out b) c.in-Ok-true.field-0-test (c.in-Ok-true.ensures.answer k m (sees_first old mid new k m sees c.check_bytes.ensures.looks) leads) in
-    c.in-Ok.ensures.holds k m c.args.number.value (sees_then old mid new k m sees looks) (inode_then old mid k c.args.number.value c.read_inode.new.out own.block looks)
+    let own = subst (λ (b : Bool). InodeAnswer old.content k m c.args.number.value c.read_inode.new.out b) c.in-Ok-true.field-0-test
+    (c.in-Ok-true.ensures.answer k m (sees_first old mid new k m sees c.check_bytes.ensures.looks) leads) in
+    c.in-Ok.ensures.holds k m c.args.number.value (sees_then old mid new k m sees looks)
+    (inode_then old mid k c.args.number.value c.read_inode.new.out own.block looks)
 
 pub returns-in-Err-check_bytes-clause-failed : goal.returns-in-Err-check_bytes-clause-failed
 returns-in-Err-check_bytes-clause-failed g c k m sees leads there =
@@ -29,7 +32,9 @@ returns-in-Err-check_bytes-clause-failed g c k m sees leads there =
     let mid = g.D.SectorDevice.state c.read_inode.new.device in
     let new = g.D.SectorDevice.state c.check_bytes.new.device in
     let looks = c.read_inode.ensures.looks in
-    let own = subst (λ (b : Bool). InodeAnswer old.content k m c.args.number.value c.read_inode.new.out b) c.in-Ok-true.field-0-test (c.in-Ok-true.ensures.answer k m (sees_first old mid new k m sees c.check_bytes.ensures.looks) leads) in
-    let rose = c.in-Err-check_bytes.ensures.failed k m c.args.number.value (sees_then old mid new k m sees looks) (inode_then old mid k c.args.number.value c.read_inode.new.out own.block looks) in
+    let own = subst (λ (b : Bool). InodeAnswer old.content k m c.args.number.value c.read_inode.new.out b) c.in-Ok-true.field-0-test
+    (c.in-Ok-true.ensures.answer k m (sees_first old mid new k m sees c.check_bytes.ensures.looks) leads) in
+    let rose = c.in-Err-check_bytes.ensures.failed k m c.args.number.value (sees_then old mid new k m sees looks)
+    (inode_then old mid k c.args.number.value c.read_inode.new.out own.block looks) in
     let earlier = looks.carries.failures in
     omega (arith, rose, earlier)

@@ -28,7 +28,8 @@ loop-number-preserved g c =
       no_failure = c.in-Ok-true.ensures.no_failure ∙ here.no_failure;
       good = λ k m sees leads told.
           below_more (IsGoodText m) number (here.good k m (sees_first old mid new k m sees c.in-Ok-true.ensures.looks) leads told)
-          (decided_true (IsGoodText m number) c.in-Ok-true.field-0 c.in-Ok-true.field-0-test (c.in-Ok-true.ensures.holds k m (sees_then old mid new k m sees here.looks) (leads_then old mid k c.args.map.now leads here.looks) told));
+          (decided_true (IsGoodText m number) c.in-Ok-true.field-0 c.in-Ok-true.field-0-test (c.in-Ok-true.ensures.holds k m
+          (sees_then old mid new k m sees here.looks) (leads_then old mid k c.args.map.now leads here.looks) told));
     }
 
 pub returns-in-Ok-false-clause-holds : goal.returns-in-Ok-false-clause-holds
@@ -38,7 +39,8 @@ returns-in-Ok-false-clause-holds g c k m sees leads told stage =
     let new = g.D.SectorDevice.state c.check_object.new.device in
     let here = c.loop-number.invariant in
     let number = c.loop-number.number in
-    decided_false (IsGoodText m number) c.in-Ok-false.field-0 c.in-Ok-false.field-0-test (c.in-Ok-false.ensures.holds k m (sees_then old mid new k m sees here.looks) (leads_then old mid k c.args.map.now leads here.looks) told)
+    decided_false (IsGoodText m number) c.in-Ok-false.field-0 c.in-Ok-false.field-0-test (c.in-Ok-false.ensures.holds k m
+    (sees_then old mid new k m sees here.looks) (leads_then old mid k c.args.map.now leads here.looks) told)
     (text_if_stage m (held_headers old.content k m sees.holds) stage number)
 
 pub returns-in-Err-clause-failed : goal.returns-in-Err-clause-failed
@@ -55,4 +57,5 @@ pub returns-clause-holds : goal.returns-clause-holds
 returns-clause-holds g c k m sees leads told =
     let old = g.D.SectorDevice.state c.args.device.now in
     let ended = c.loop-number-test.false in
-    stage_if_text m (held_headers old.content k m sees.holds) (λ n low. c.loop-number.invariant.good k m sees leads told n (omega (arith, ended, low)))
+    stage_if_text m (held_headers old.content k m sees.holds)
+    (λ n low. c.loop-number.invariant.good k m sees leads told n (omega (arith, ended, low)))

@@ -13,5 +13,6 @@ invariant-loop-number g l =
     record {
       looks : Looks old now;
       no_failure : now.failures ≡ old.failures;
-      good : (k : CheckpointValue) (m : LogMap) → Sees old now k m → Leads old.content k l.map → TellsHeaders m l.headers 4096 → (n : ℕ) → n < l.number → IsGoodText m n;
+      good : (k : CheckpointValue) (m : LogMap) → Sees old now k m → Leads old.content k l.map → TellsHeaders m l.headers 4096 → (n : ℕ)
+          → n < l.number → IsGoodText m n;
     }

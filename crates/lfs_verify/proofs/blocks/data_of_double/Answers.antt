@@ -25,7 +25,8 @@ returns-then-not-branch-2-clause-goes g c = λ d k reads is sized w.
     let s0 = g.D.SectorDevice.state c.args.device.now in
     let s1 = g.D.SectorDevice.state c.fetch.new.device in
     let s2 = g.D.SectorDevice.state c.data_of_leaves.new.device in
-    let root = ap (block d) (sym is) ∙ read_in d c.args.address _ _ (c.in_ok-fetch.ensures.block d (reads_first s0 s1 s2 d reads c.data_of_leaves.ensures.looks)) c.if-not-branch.false in
+    let root = ap (block d) (sym is) ∙ read_in d c.args.address _ _
+    (c.in_ok-fetch.ensures.block d (reads_first s0 s1 s2 d reads c.data_of_leaves.ensures.looks)) c.if-not-branch.false in
     goes_false (view d k) _ _ _ _ (Blocks (view d k)) _ c.if-not-branch-2.true
     (c.in_ok-data_of_leaves.ensures.goes d k (reads_then s0 s1 s2 d reads c.fetch.ensures.looks) root sized) w
 
@@ -34,6 +35,7 @@ returns-clause-goes g c = λ d k reads is sized w.
     let s0 = g.D.SectorDevice.state c.args.device.now in
     let s1 = g.D.SectorDevice.state c.fetch.new.device in
     let s2 = g.D.SectorDevice.state c.data_of_leaves.new.device in
-    let root = ap (block d) (sym is) ∙ read_in d c.args.address _ _ (c.in_ok-fetch.ensures.block d (reads_first s0 s1 s2 d reads c.data_of_leaves.ensures.looks)) c.if-not-branch.false in
+    let root = ap (block d) (sym is) ∙ read_in d c.args.address _ _
+    (c.in_ok-fetch.ensures.block d (reads_first s0 s1 s2 d reads c.data_of_leaves.ensures.looks)) c.if-not-branch.false in
     goes_true (view d k) _ _ _ _ (Blocks (view d k)) _ c.if-not-branch-2.false
     (c.in_ok-data_of_leaves.ensures.goes d k (reads_then s0 s1 s2 d reads c.fetch.ensures.looks) root sized) w

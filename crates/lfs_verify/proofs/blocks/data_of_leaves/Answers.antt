@@ -12,7 +12,8 @@ loop-place-init g c = record {
   no_failure = refl;
   len = refl;
   walked = λ d k reads is sized w.
-      let e : 536624 + 16624 * c.args.file + 240 ≡ 536624 + 16624 * c.args.file + (112 + 128 * (0 + 1)) = omega arith in subst (Walked (view d k) c.args.marks.now) e w;
+      let e : 536624 + 16624 * c.args.file + 240 ≡ 536624 + 16624 * c.args.file + (112 + 128 * (0 + 1)) = omega arith in
+      subst (Walked (view d k) c.args.marks.now) e w;
 }
 
 pub returns-then-not-branch-clause-goes : goal.returns-then-not-branch-clause-goes

@@ -17,5 +17,6 @@ invariant-loop-place g l =
       len : length l.marks ≡ length l.initial.marks;
       walked : (c : Content) (k : CheckpointValue) → ReadsContent old now c → block c (address c k (Double l.file)) ≡ l.root
           → l.size ≡ (header (block c (address c k (Inode l.file)))).size
-          → Walked (view c k) l.initial.marks (536624 + 16624 * l.file + 240) → Walked (view c k) l.marks (536624 + 16624 * l.file + (112 + 128 * (l.place + 1)));
+          → Walked (view c k) l.initial.marks (536624 + 16624 * l.file + 240)
+          → Walked (view c k) l.marks (536624 + 16624 * l.file + (112 + 128 * (l.place + 1)));
     }

@@ -24,7 +24,8 @@ returns-then-not-branch-clause-goes g c = λ d k reads lists keeps w.
     let here = c.loop-file.invariant in
     let step = c.in_ok-data_of_file.ensures in
     goes_false (view d k) _ _ _ _ (Blocks (view d k)) _ c.if-not-branch.true
-    (step.goes d k (reads_then old mid new d reads here.looks) (lists c.loop-file.file (omega arith)) (keeps_here d c.args.map.now c.args.inodes.now keeps c.loop-file.file (omega arith) c.loop-file.place here.place))
+    (step.goes d k (reads_then old mid new d reads here.looks) (lists c.loop-file.file (omega arith))
+    (keeps_here d c.args.map.now c.args.inodes.now keeps c.loop-file.file (omega arith) c.loop-file.place here.place))
     (here.walked d k (reads_first old mid new d reads step.looks) lists keeps w)
 
 pub loop-file-preserved : goal.loop-file-preserved
@@ -42,7 +43,8 @@ loop-file-preserved g c =
       place = let next = there_next c.args.map.now c.loop-file.file in omega (arith, next, here.place, c.inodes_at.ensures.number);
       walked = λ d k reads lists keeps w.
           goes_true (view d k) _ _ _ _ (Blocks (view d k)) _ c.if-not-branch.false
-          (step.goes d k (reads_then old mid new d reads here.looks) (lists c.loop-file.file (omega arith)) (keeps_here d c.args.map.now c.args.inodes.now keeps c.loop-file.file (omega arith) c.loop-file.place here.place))
+          (step.goes d k (reads_then old mid new d reads here.looks) (lists c.loop-file.file (omega arith))
+          (keeps_here d c.args.map.now c.args.inodes.now keeps c.loop-file.file (omega arith) c.loop-file.place here.place))
           (here.walked d k (reads_first old mid new d reads step.looks) lists keeps w);
     }
 

@@ -8,6 +8,14 @@ loop-place-init c = record { few = omega arith; so_far = sym (marked_none c.args
 
 pub loop-place-preserved : goal.loop-place-preserved
 loop-place-preserved c = elim c.if-marks-segment-ne0.branch [
-  | then-marks-segment-ne0 w ↦ record { few = omega arith; so_far = let h = marked_on c.args.marks.now c.args.segment c.loop-place.place (c.loop-place.place + 1) (omega arith) (omega arith) in omega (arith, h) }
-  | else-marks-segment-ne0 w ↦ record { few = omega arith; so_far = let h = marked_off c.args.marks.now c.args.segment c.loop-place.place (c.loop-place.place + 1) (omega arith) (omega arith) in omega (arith, h) }
+  | then-marks-segment-ne0 w ↦ record {
+    few = omega arith;
+    so_far = let h = marked_on c.args.marks.now c.args.segment c.loop-place.place
+        (c.loop-place.place + 1) (omega arith) (omega arith) in omega (arith, h);
+  }
+  | else-marks-segment-ne0 w ↦ record {
+    few = omega arith;
+    so_far = let h = marked_off c.args.marks.now c.args.segment c.loop-place.place
+        (c.loop-place.place + 1) (omega arith) (omega arith) in omega (arith, h);
+  }
 ]

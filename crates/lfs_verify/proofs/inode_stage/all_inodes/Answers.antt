@@ -27,7 +27,8 @@ returns-then-not-branch-clause-goes g c = λ d k same reads lists w inodes.
     let here = c.loop-file.invariant in
     let step = c.in_ok-take_inode.ensures in
     inode_refused d k c.loop-file.file (omega arith) _ _ _ (lists c.loop-file.file (omega arith)) _ _ same
-    (step.takes d (reads_then old mid new d reads here.looks)) (here.walked d k same (reads_first old mid new d reads step.looks) lists w) c.if-not-branch.true inodes
+    (step.takes d (reads_then old mid new d reads here.looks)) (here.walked d k same (reads_first old mid new d reads step.looks) lists w)
+    c.if-not-branch.true inodes
 
 pub keep_inode-requires : goal.keep_inode-requires
 keep_inode-requires g c = record {
@@ -51,13 +52,17 @@ loop-file-preserved g c =
       len = step.len ∙ here.len;
       at = below_more _ _ here.at (in_marks _ _ _ here.len (step.at c.if-not-branch.false));
       room = omega (arith, here.room, c.keep_inode.ensures.room);
-      count = count_next c.args.map.now c.loop-file.file c.loop-file.inodes.items c.keep_inode.new.inodes.items here.count _ c.keep_inode.ensures.kept c.keep_inode.ensures.none;
+      count = count_next c.args.map.now c.loop-file.file c.loop-file.inodes.items c.keep_inode.new.inodes.items here.count _
+          c.keep_inode.ensures.kept c.keep_inode.ensures.none;
       kept = λ d reads.
-          keeps_next c.args.map.now c.loop-file.file c.loop-file.inodes.items c.keep_inode.new.inodes.items here.count _ c.keep_inode.ensures.kept c.keep_inode.ensures.none
-          d (λ some. step.read c.if-not-branch.false some d (reads_then old mid new d reads here.looks)) (here.kept d (reads_first old mid new d reads step.looks));
+          keeps_next c.args.map.now c.loop-file.file c.loop-file.inodes.items c.keep_inode.new.inodes.items here.count _
+          c.keep_inode.ensures.kept c.keep_inode.ensures.none
+          d (λ some. step.read c.if-not-branch.false some d (reads_then old mid new d reads here.looks))
+          (here.kept d (reads_first old mid new d reads step.looks));
       walked = λ d k same reads lists w.
           inode_took d k c.loop-file.file (omega arith) _ _ _ (lists c.loop-file.file (omega arith)) _ _ same
-          (step.takes d (reads_then old mid new d reads here.looks)) (here.walked d k same (reads_first old mid new d reads step.looks) lists w) c.if-not-branch.false;
+          (step.takes d (reads_then old mid new d reads here.looks))
+          (here.walked d k same (reads_first old mid new d reads step.looks) lists w) c.if-not-branch.false;
     }
 
 pub returns-clause-goes : goal.returns-clause-goes

@@ -19,7 +19,8 @@ returns-then-not-branch-2-clause-goes g c = λ d k same reads lists w.
     let s0 = g.D.SectorDevice.state c.args.device.now in
     let s1 = g.D.SectorDevice.state c.all_inodes.new.device in
     let s2 = g.D.SectorDevice.state c.fetch.new.device in
-    rootless d k c.args.map.now lists _ refl (unread d _ _ _ (c.in_ok-fetch.ensures.block d (reads_then s0 s1 s2 d reads c.all_inodes.ensures.looks)) c.if-not-branch-2.true)
+    rootless d k c.args.map.now lists _ refl
+    (unread d _ _ _ (c.in_ok-fetch.ensures.block d (reads_then s0 s1 s2 d reads c.all_inodes.ensures.looks)) c.if-not-branch-2.true)
 
 pub returns-then-not-is_directory-clause-goes : goal.returns-then-not-is_directory-clause-goes
 returns-then-not-is_directory-clause-goes g c = λ d k same reads lists w.
@@ -27,7 +28,8 @@ returns-then-not-is_directory-clause-goes g c = λ d k same reads lists w.
     let s1 = g.D.SectorDevice.state c.all_inodes.new.device in
     let s2 = g.D.SectorDevice.state c.fetch.new.device in
     other_kind d k c.args.map.now lists _ refl c.if-root-eq0.false _
-    (read_in d _ _ _ (c.in_ok-fetch.ensures.block d (reads_then s0 s1 s2 d reads c.all_inodes.ensures.looks)) c.if-not-branch-2.false) (λ is. let e = c.if-not-is_directory.ensures.1 is in absurd (cc))
+    (read_in d _ _ _ (c.in_ok-fetch.ensures.block d (reads_then s0 s1 s2 d reads c.all_inodes.ensures.looks)) c.if-not-branch-2.false)
+    (λ is. let e = c.if-not-is_directory.ensures.1 is in absurd (cc))
 
 pub returns-clause-goes : goal.returns-clause-goes
 returns-clause-goes g c = λ d k same reads lists w.
@@ -45,12 +47,14 @@ returns-clause-holds g c = λ is d k same reads lists bounded w.
     let w4 = goes_true (view d k) _ _ _ _ (Inodes (view d k)) _ c.if-not-branch.false
     (c.in_ok-all_inodes.ensures.goes d k same (reads_first s0 s1 s2 d reads c.fetch.ensures.looks) lists) w in
     inodes_of (view d k) _ w4 bounded (root_kind d k c.args.map.now lists _ refl _
-    (read_in d _ _ _ (c.in_ok-fetch.ensures.block d (reads_then s0 s1 s2 d reads c.all_inodes.ensures.looks)) c.if-not-branch-2.false) (c.if-not-is_directory.ensures.0 refl))
+    (read_in d _ _ _ (c.in_ok-fetch.ensures.block d (reads_then s0 s1 s2 d reads c.all_inodes.ensures.looks)) c.if-not-branch-2.false)
+    (c.if-not-is_directory.ensures.0 refl))
 
 pub returns-clause-at : goal.returns-clause-at
 returns-clause-at g c = λ is i lt.
     let at = c.in_ok-all_inodes.ensures.at c.if-not-branch.false in
-    ⊎_elim (λ none. ⊎_elim (λ e. absurd (c.if-root-eq0.false e)) (λ some. omega (arith, none, some)) (at 1 (omega arith))) (λ some. some) (at i lt)
+    ⊎_elim (λ none. ⊎_elim (λ e. absurd (c.if-root-eq0.false e)) (λ some. omega (arith, none, some)) (at 1 (omega arith))) (λ some. some)
+    (at i lt)
 
 pub returns-clause-kept : goal.returns-clause-kept
 returns-clause-kept g c = λ is d reads.

@@ -5,4 +5,8 @@ pub returns-then-mark-eq0 : goal.returns-then-mark-eq0
 returns-then-mark-eq0 c = (λ on. inl c.if-mark-eq0.true, λ has. refl)
 
 pub returns : goal.returns
-returns c = (λ on. inr (eqb-true c.args.mark c.args.label on), λ has. ⊎_elim (λ none. absurd (c.if-mark-eq0.false none)) (λ same. eq-eqb c.args.mark c.args.label same) has)
+returns c = (
+  λ on. inr (eqb-true c.args.mark c.args.label on),
+  λ has.
+      ⊎_elim (λ none. absurd (c.if-mark-eq0.false none)) (λ same. eq-eqb c.args.mark c.args.label same) has,
+)

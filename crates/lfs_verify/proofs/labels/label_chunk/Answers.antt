@@ -14,10 +14,12 @@ loop-place-preserved c =
     let was = c.loop-place.invariant.puts in
     let n = c.len-place-end.ensures in
     let size = was.size in
-    let inside : c.args.first + c.loop-place.place < length c.loop-place.labels = omega (arith, n, size, c.requires.inside, c.loop-place-test.true) in
+    let inside : c.args.first + c.loop-place.place < length c.loop-place.labels =
+    omega (arith, n, size, c.requires.inside, c.loop-place-test.true) in
     let step : c.step_of_name.result + 1 ≡ suc (step_of (entry_of c.get.result)) = omega (arith, c.step_of_name.ensures.step) in
     record {
-      puts = puts_more c.args.names.now c.args.labels.now c.loop-place.labels c.args.first c.loop-place.place (c.step_of_name.result + 1) inside
+      puts = puts_more c.args.names.now c.args.labels.now c.loop-place.labels c.args.first c.loop-place.place
+          (c.step_of_name.result + 1) inside
           (step ∙ ap (λ (b : BlockNameValue). suc (step_of (entry_of b))) c.get.ensures) was;
     }
 

@@ -10,7 +10,8 @@ loop-leaf-init g c = record {
   looks = looks_none (g.D.SectorDevice.state c.args.device.now) (g.met.D.SectorDevice.lawful c.args.device.now);
   no_failure = refl;
   len = refl;
-  walked = λ d k reads is w. let e : 12336 + 128 * c.args.file ≡ 12336 + 128 * c.args.file + 0 = omega arith in subst (Walked (view d k) c.args.marks.now) e w;
+  walked = λ d k reads is w. let e : 12336 + 128 * c.args.file ≡ 12336 + 128 * c.args.file + 0 = omega arith in
+      subst (Walked (view d k) c.args.marks.now) e w;
 }
 
 pub returns-then-not-branch-clause-goes : goal.returns-then-not-branch-clause-goes
@@ -21,7 +22,8 @@ returns-then-not-branch-clause-goes g c = λ d k reads is w leaves.
     let here = c.loop-leaf.invariant in
     let step = c.in_ok-take_pointers.ensures in
     leaf_refused d k c.args.file c.requires.file c.args.root.now is c.loop-leaf.leaf (omega arith) _ _ _ c.word_at-address.ensures _
-    (step.takes d (reads_then old mid new d reads here.looks)) (here.walked d k (reads_first old mid new d reads step.looks) is w) c.if-not-branch.true leaves
+    (step.takes d (reads_then old mid new d reads here.looks)) (here.walked d k (reads_first old mid new d reads step.looks) is w)
+    c.if-not-branch.true leaves
 
 pub loop-leaf-preserved : goal.loop-leaf-preserved
 loop-leaf-preserved g c =
@@ -36,7 +38,8 @@ loop-leaf-preserved g c =
       len = step.len ∙ here.len;
       walked = λ d k reads is w.
           leaf_took d k c.args.file c.requires.file c.args.root.now is c.loop-leaf.leaf (omega arith) _ _ _ c.word_at-address.ensures _
-          (step.takes d (reads_then old mid new d reads here.looks)) (here.walked d k (reads_first old mid new d reads step.looks) is w) c.if-not-branch.false;
+          (step.takes d (reads_then old mid new d reads here.looks)) (here.walked d k (reads_first old mid new d reads step.looks) is w)
+          c.if-not-branch.false;
     }
 
 pub returns-clause-goes : goal.returns-clause-goes

@@ -10,5 +10,6 @@ loop-place-preserved c =
     let inside : 128 * c.args.index + c.loop-place.place < length c.loop-place.map =
     omega (arith, c.loop-place.auto.map, c.requires.files, c.requires.index, c.loop-place-test.true) in
     record {
-      copies = copies_more c.args.block.now c.args.map.now c.loop-place.map (128 * c.args.index) c.loop-place.place c.word_at.result inside c.word_at.ensures c.loop-place.invariant.copies;
+      copies = copies_more c.args.block.now c.args.map.now c.loop-place.map (128 * c.args.index) c.loop-place.place c.word_at.result inside
+          c.word_at.ensures c.loop-place.invariant.copies;
     }

@@ -27,7 +27,8 @@ returns-then-not-branch-clause-goes g c = λ d reads w.
     let v = view d c.args.checkpoint.now in
     let here = c.loop-index.invariant in
     let step = c.in_ok-take_map.ensures in
-    goes_false v _ _ _ _ (Maps v) _ c.if-not-branch.true (step.goes d (reads_then old mid new d reads here.looks)) (here.walked d (reads_first old mid new d reads step.looks) w)
+    goes_false v _ _ _ _ (Maps v) _ c.if-not-branch.true (step.goes d (reads_then old mid new d reads here.looks))
+    (here.walked d (reads_first old mid new d reads step.looks) w)
 
 pub loop-index-preserved : goal.loop-index-preserved
 loop-index-preserved g c =
@@ -42,23 +43,27 @@ loop-index-preserved g c =
       len = step.len ∙ here.len;
       files = step.files ∙ here.files;
       empty = step.empty c.if-not-branch.false;
-      lists = λ d reads. step.lists c.if-not-branch.false d (reads_then old mid new d reads here.looks) (here.lists d (reads_first old mid new d reads step.looks));
+      lists = λ d reads. step.lists c.if-not-branch.false d (reads_then old mid new d reads here.looks)
+          (here.lists d (reads_first old mid new d reads step.looks));
       walked = λ d reads w.
           let v = view d c.args.checkpoint.now in
-          goes_true v _ _ _ _ (Maps v) _ c.if-not-branch.false (step.goes d (reads_then old mid new d reads here.looks)) (here.walked d (reads_first old mid new d reads step.looks) w);
+          goes_true v _ _ _ _ (Maps v) _ c.if-not-branch.false (step.goes d (reads_then old mid new d reads here.looks))
+          (here.walked d (reads_first old mid new d reads step.looks) w);
     }
 
 pub returns-then-map-ne0-clause-goes : goal.returns-then-map-ne0-clause-goes
 returns-then-map-ne0-clause-goes g c = λ d reads w.
     let e : c.loop-index.index ≡ 32 = omega arith in
     let v = view d c.args.checkpoint.now in
-    none_fails d c.args.checkpoint.now c.loop-index.map (subst (ListsUpTo v c.loop-index.map) e (c.loop-index.invariant.lists d reads)) c.if-map-ne0.true
+    none_fails d c.args.checkpoint.now c.loop-index.map (subst (ListsUpTo v c.loop-index.map) e (c.loop-index.invariant.lists d reads))
+    c.if-map-ne0.true
 
 pub returns-then-map-eq0-clause-goes : goal.returns-then-map-eq0-clause-goes
 returns-then-map-eq0-clause-goes g c = λ d reads w.
     let e : c.loop-index.index ≡ 32 = omega arith in
     let v = view d c.args.checkpoint.now in
-    root_fails d c.args.checkpoint.now c.loop-index.map (subst (ListsUpTo v c.loop-index.map) e (c.loop-index.invariant.lists d reads)) c.if-map-eq0.true
+    root_fails d c.args.checkpoint.now c.loop-index.map (subst (ListsUpTo v c.loop-index.map) e (c.loop-index.invariant.lists d reads))
+    c.if-map-eq0.true
 
 pub returns-clause-goes : goal.returns-clause-goes
 returns-clause-goes g c = λ d reads w.
@@ -78,4 +83,5 @@ returns-clause-holds g c = λ is d reads bounded w.
     let v = view d c.args.checkpoint.now in
     let lists = subst (ListsUpTo v c.loop-index.map) e (c.loop-index.invariant.lists d reads) in
     maps_of v c.loop-index.marks (subst (Walked v c.loop-index.marks) last (c.loop-index.invariant.walked d reads w)) bounded
-    (none_holds d c.args.checkpoint.now c.loop-index.map lists c.if-map-ne0.false) (root_reached d c.args.checkpoint.now c.loop-index.map lists c.if-map-eq0.false)
+    (none_holds d c.args.checkpoint.now c.loop-index.map lists c.if-map-ne0.false)
+    (root_reached d c.args.checkpoint.now c.loop-index.map lists c.if-map-eq0.false)

@@ -17,5 +17,6 @@ invariant-loop-index g l =
       files : length l.map ≡ length l.initial.map;
       empty : IsEmptyFrom l.map l.index;
       lists : (c : Content) → ReadsContent old now c → ListsUpTo (view c l.checkpoint) l.map l.index;
-      walked : (c : Content) → ReadsContent old now c → Walked (view c l.checkpoint) l.initial.marks 16 → Walked (view c l.checkpoint) l.marks (16 + l.index);
+      walked : (c : Content) → ReadsContent old now c → Walked (view c l.checkpoint) l.initial.marks 16
+          → Walked (view c l.checkpoint) l.marks (16 + l.index);
     }

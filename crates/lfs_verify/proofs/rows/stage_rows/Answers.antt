@@ -19,7 +19,8 @@ loop-segment-init g c = record {
 }
 
 pub returns-then-count-gt64-clause-rows : goal.returns-then-count-gt64-clause-rows
-returns-then-count-gt64-clause-rows g c = λ d k reads table. absurd (too_many (view d k) c.args.used.now table c.loop-segment.segment (omega arith) (omega arith))
+returns-then-count-gt64-clause-rows g c =
+    λ d k reads table. absurd (too_many (view d k) c.args.used.now table c.loop-segment.segment (omega arith) (omega arith))
 
 pub returns-then-not-branch-clause-rows : goal.returns-then-not-branch-clause-rows
 returns-then-not-branch-clause-rows g c = λ d k reads table.
@@ -27,8 +28,11 @@ returns-then-not-branch-clause-rows g c = λ d k reads table.
     let mid = g.D.SectorDevice.state c.loop-segment.device in
     let new = g.D.SectorDevice.state c.label_row.new.device in
     let here = c.loop-segment.invariant in
-    let is = c.in_ok-label_row.ensures.row d (reads_then old mid new d reads here.looks) in
-    (λ on. absurd (cc), λ rows. absurd (no_rows d k c.args.used.now table c.loop-segment.segment (omega arith) (λ row. let e : true ≡ false = sym (is.1 row) ∙ c.if-not-branch.true in absurd (cc)) rows))
+    let is = c.in_ok-label_row.ensures.row d (reads_then old mid new d reads here.looks) in (
+      λ on. absurd (cc),
+      λ rows. absurd (no_rows d k c.args.used.now table c.loop-segment.segment (omega arith)
+          (λ row. let e : true ≡ false = sym (is.1 row) ∙ c.if-not-branch.true in absurd (cc)) rows),
+    )
 
 pub loop-segment-preserved : goal.loop-segment-preserved
 loop-segment-preserved g c =
@@ -44,13 +48,15 @@ loop-segment-preserved g c =
       empty = λ i le. step.behind i (omega (arith, le));
       labels = λ d k reads table s lt. ⊎_elim
           (λ (before : s < c.loop-segment.segment).
-          labels_stay ((view d k).row s) c.loop-segment.labels c.label_row.new.labels s (λ o small. step.before (2 + 64 * s + o) (omega (arith, small, before)))
+          labels_stay ((view d k).row s) c.loop-segment.labels c.label_row.new.labels s
+          (λ o small. step.before (2 + 64 * s + o) (omega (arith, small, before)))
           (here.labels d k (reads_first old mid new d reads step.looks) table s before))
           (λ (now : c.loop-segment.segment ≤ s).
           let e : c.loop-segment.segment ≡ s = omega (arith, lt, now) in
           let inside : c.loop-segment.segment < length c.args.used.now = omega arith in
           subst (λ (x : ℕ). HasLabels ((view d k).row x) c.label_row.new.labels x) e
-          (labels_there d k c.args.used.now table c.loop-segment.segment inside c.label_row.new.labels (step.labels c.if-not-branch.false d (reads_then old mid new d reads here.looks))))
+          (labels_there d k c.args.used.now table c.loop-segment.segment inside c.label_row.new.labels
+          (step.labels c.if-not-branch.false d (reads_then old mid new d reads here.looks))))
           (cases_lt s c.loop-segment.segment);
       rows = λ d reads s lt. ⊎_elim
           (λ (before : s < c.loop-segment.segment). here.rows d (reads_first old mid new d reads step.looks) s before)

@@ -17,6 +17,7 @@ invariant-loop-segment g l =
       no_failure : now.failures ≡ old.failures;
       len : length l.labels ≡ length l.initial.labels;
       empty : (i : ℕ) → 2 + 64 * l.segment ≤ i → get_or l.labels i 0 ≡ 0;
-      labels : (c : Content) (k : CheckpointValue) → ReadsContent old now c → IsUsedTable (view c k) l.used → (s : ℕ) → s < l.segment → HasLabels ((view c k).row s) l.labels s;
+      labels : (c : Content) (k : CheckpointValue) → ReadsContent old now c → IsUsedTable (view c k) l.used → (s : ℕ) → s < l.segment
+          → HasLabels ((view c k).row s) l.labels s;
       rows : (c : Content) → ReadsContent old now c → (s : ℕ) → s < l.segment → HasRow (row_by c (get_or l.used s 0) s);
     }

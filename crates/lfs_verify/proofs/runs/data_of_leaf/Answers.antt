@@ -11,12 +11,14 @@ returns-then-address-eq0-clause-goes g c = λ d k reads is sized w.
 
 pub returns-then-address-marks-clause-goes : goal.returns-then-address-marks-clause-goes
 returns-then-address-marks-clause-goes g c = λ d k reads is sized w blocks.
-    let lt = leaf_inside d k c.args.file c.requires.file c.args.leaf c.requires.leaf c.args.marks.now _ (omega arith) c.args.address is c.if-address-eq0.false w in
+    let lt = leaf_inside d k c.args.file c.requires.file c.args.leaf c.requires.leaf c.args.marks.now _
+    (omega arith) c.args.address is c.if-address-eq0.false w in
     omega arith
 
 pub returns-then-not-branch-clause-goes : goal.returns-then-not-branch-clause-goes
 returns-then-not-branch-clause-goes g c = λ d k reads is sized w blocks.
-    leaf_readable d k c.args.file c.requires.file c.args.leaf c.requires.leaf c.args.marks.now _ (omega arith) c.args.address is c.if-address-eq0.false w
+    leaf_readable d k c.args.file c.requires.file c.args.leaf c.requires.leaf c.args.marks.now _
+    (omega arith) c.args.address is c.if-address-eq0.false w
     (unread d c.args.address _ _ (c.in_ok-fetch.ensures.block d reads) c.if-not-branch.true)
 
 pub returns-then-not-branch-2-clause-goes : goal.returns-then-not-branch-2-clause-goes
@@ -24,7 +26,8 @@ returns-then-not-branch-2-clause-goes g c = λ d k reads is sized w.
     let s0 = g.D.SectorDevice.state c.args.device.now in
     let s1 = g.D.SectorDevice.state c.fetch.new.device in
     let s2 = g.D.SectorDevice.state c.data_run.new.device in
-    let words = leaf_words d k c.args.file c.args.leaf c.args.address is _ (read_in d c.args.address _ _ (c.in_ok-fetch.ensures.block d (reads_first s0 s1 s2 d reads c.data_run.ensures.looks)) c.if-not-branch.false) in
+    let words = leaf_words d k c.args.file c.args.leaf c.args.address is _ (read_in d c.args.address _ _
+    (c.in_ok-fetch.ensures.block d (reads_first s0 s1 s2 d reads c.data_run.ensures.looks)) c.if-not-branch.false) in
     goes_false (view d k) _ _ _ _ (Blocks (view d k)) _ c.if-not-branch-2.true
     (c.in_ok-data_run.ensures.goes d k (reads_then s0 s1 s2 d reads c.fetch.ensures.looks) words sized) w
 
@@ -33,7 +36,8 @@ returns-clause-goes g c = λ d k reads is sized.
     let s0 = g.D.SectorDevice.state c.args.device.now in
     let s1 = g.D.SectorDevice.state c.fetch.new.device in
     let s2 = g.D.SectorDevice.state c.data_run.new.device in
-    let words = leaf_words d k c.args.file c.args.leaf c.args.address is _ (read_in d c.args.address _ _ (c.in_ok-fetch.ensures.block d (reads_first s0 s1 s2 d reads c.data_run.ensures.looks)) c.if-not-branch.false) in
+    let words = leaf_words d k c.args.file c.args.leaf c.args.address is _ (read_in d c.args.address _ _
+    (c.in_ok-fetch.ensures.block d (reads_first s0 s1 s2 d reads c.data_run.ensures.looks)) c.if-not-branch.false) in
     goes_true (view d k) _ _ _ _ (Blocks (view d k)) _ c.if-not-branch-2.false
     (goes_as (view d k) _ _ _ _ _ _ (Blocks (view d k)) _ (omega arith) (omega arith)
     (c.in_ok-data_run.ensures.goes d k (reads_then s0 s1 s2 d reads c.fetch.ensures.looks) words sized))

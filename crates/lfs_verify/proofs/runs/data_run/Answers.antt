@@ -11,7 +11,8 @@ loop-place-init g c = record {
   no_failure = refl;
   len = refl;
   walked = λ d k reads is sized w.
-      let e : 536624 + 16624 * c.args.file + c.args.index ≡ 536624 + 16624 * c.args.file + c.args.index + 0 = omega arith in subst (Walked (view d k) c.args.marks.now) e w;
+      let e : 536624 + 16624 * c.args.file + c.args.index ≡ 536624 + 16624 * c.args.file + c.args.index + 0 = omega arith in
+      subst (Walked (view d k) c.args.marks.now) e w;
 }
 
 pub returns-then-not-branch-clause-goes : goal.returns-then-not-branch-clause-goes
@@ -21,8 +22,10 @@ returns-then-not-branch-clause-goes g c = λ d k reads is sized w blocks.
     let new = g.D.SectorDevice.state c.take_data.new.device in
     let here = c.loop-place.invariant in
     let step = c.in_ok-take_data.ensures in
-    (run_next d k c.args.file c.args.index c.loop-place.place c.requires.file (omega arith) c.args.size sized _ _ _ (c.word_at-address.ensures ∙ is c.loop-place.place (omega arith)) _
-    (step.takes d (reads_then old mid new d reads here.looks)) (here.walked d k (reads_first old mid new d reads step.looks) is sized w)).0 c.if-not-branch.true blocks
+    (run_next d k c.args.file c.args.index c.loop-place.place c.requires.file (omega arith) c.args.size sized _ _ _
+    (c.word_at-address.ensures ∙ is c.loop-place.place (omega arith)) _
+    (step.takes d (reads_then old mid new d reads here.looks)) (here.walked d k (reads_first old mid new d reads step.looks) is sized w)).0
+    c.if-not-branch.true blocks
 
 pub loop-place-preserved : goal.loop-place-preserved
 loop-place-preserved g c =
@@ -36,11 +39,14 @@ loop-place-preserved g c =
       no_failure = step.no_failure ∙ here.no_failure;
       len = step.len ∙ here.len;
       walked = λ d k reads is sized w.
-          (run_next d k c.args.file c.args.index c.loop-place.place c.requires.file (omega arith) c.args.size sized _ _ _ (c.word_at-address.ensures ∙ is c.loop-place.place (omega arith)) _
-          (step.takes d (reads_then old mid new d reads here.looks)) (here.walked d k (reads_first old mid new d reads step.looks) is sized w)).1 c.if-not-branch.false;
+          (run_next d k c.args.file c.args.index c.loop-place.place c.requires.file (omega arith) c.args.size sized _ _ _
+          (c.word_at-address.ensures ∙ is c.loop-place.place (omega arith)) _
+          (step.takes d (reads_then old mid new d reads here.looks))
+          (here.walked d k (reads_first old mid new d reads step.looks) is sized w)).1 c.if-not-branch.false;
     }
 
 pub returns-clause-goes : goal.returns-clause-goes
 returns-clause-goes g c = λ d k reads is sized w.
-    let e : 536624 + 16624 * c.args.file + c.args.index + c.loop-place.place ≡ 536624 + 16624 * c.args.file + c.args.index + c.args.count = omega arith in
+    let e : 536624 + 16624 * c.args.file + c.args.index + c.loop-place.place ≡ 536624 + 16624 * c.args.file + c.args.index + c.args.count =
+    omega arith in
     subst (Walked (view d k) c.loop-place.marks) e (c.loop-place.invariant.walked d k reads is sized w)

@@ -18,5 +18,6 @@ invariant-loop-place g l =
       walked : (c : Content) (k : CheckpointValue) → ReadsContent old now c
           → ((j : ℕ) → j < l.count → word l.words (l.first + j) ≡ address c k (Data l.file (l.index + j)))
           → l.size ≡ (header (block c (address c k (Inode l.file)))).size
-          → Walked (view c k) l.initial.marks (536624 + 16624 * l.file + l.index) → Walked (view c k) l.marks (536624 + 16624 * l.file + l.index + l.place);
+          → Walked (view c k) l.initial.marks (536624 + 16624 * l.file + l.index)
+          → Walked (view c k) l.marks (536624 + 16624 * l.file + l.index + l.place);
     }

@@ -11,5 +11,6 @@ returns-in_err-load_map-clause-cause g c =
     let mid = g.D.SectorDevice.state c.load_usage.new.device in
     let new = g.D.SectorDevice.state c.load_map.new.device in
     let e = c.in_err-load_map.field-0.0 in
-    as_given c.from_residual-in_err-load_map.result e (λ f. (f ≡ fault.NoMemory → ⊥) → IsTableFault old new c.args.checkpoint.now f) c.from_residual-in_err-load_map.ensures.1
+    as_given c.from_residual-in_err-load_map.result e (λ f. (f ≡ fault.NoMemory → ⊥) → IsTableFault old new c.args.checkpoint.now f)
+    c.from_residual-in_err-load_map.ensures.1
     (λ other. fault_then old mid new c.args.checkpoint.now c.in_ok-load_usage.ensures.looks e c.in_err-load_map.ensures.cause)

@@ -22,7 +22,8 @@ loop-index-preserved g c =
     let now = c.in_ok-load_usage_block.ensures in
     record {
       upto = now.after;
-      says = λ keeps. says_then old mid c.args.checkpoint.now c.loop-index.index (c.loop-index.index + 1) c.loop-index.usage c.load_usage_block.new.usage was.looks
+      says = λ keeps. says_then old mid c.args.checkpoint.now c.loop-index.index
+          (c.loop-index.index + 1) c.loop-index.usage c.load_usage_block.new.usage was.looks
           (was.says (now.looks.carries.kept_before keeps)) (now.says keeps);
       looks = looks_then old mid new was.looks now.looks;
       no_failure = now.no_failure ∙ was.no_failure;

@@ -6,6 +6,7 @@ loop-entry-init c = record { taken = taken_none c.args.usage.now c.args.block.no
 
 pub loop-entry-preserved : goal.loop-entry-preserved
 loop-entry-preserved c = record {
-  taken = taken_more c.args.usage.now c.loop-entry.usage c.take_entry.new.usage c.args.block.now c.args.index c.loop-entry.entry c.loop-entry.invariant.taken
+  taken = taken_more c.args.usage.now c.loop-entry.usage c.take_entry.new.usage c.args.block.now c.args.index c.loop-entry.entry
+      c.loop-entry.invariant.taken
       c.take_entry.ensures.own c.take_entry.ensures.past c.take_entry.ensures.blocks c.take_entry.ensures.last;
 }

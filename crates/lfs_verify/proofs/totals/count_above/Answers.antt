@@ -8,6 +8,14 @@ loop-sector-init c = record { few = omega arith; so_far = sym (above_start c.arg
 
 pub loop-sector-preserved : goal.loop-sector-preserved
 loop-sector-preserved c = elim c.if-marks-sector.branch [
-  | then-marks-sector w ↦ record { few = omega arith; so_far = let h = above_on c.args.marks.now c.args.mark c.loop-sector.sector (c.loop-sector.sector + 1) (omega arith) (omega arith) in omega (arith, h) }
-  | else-marks-sector w ↦ record { few = omega arith; so_far = let h = above_off c.args.marks.now c.args.mark c.loop-sector.sector (c.loop-sector.sector + 1) (omega arith) (omega arith) in omega (arith, h) }
+  | then-marks-sector w ↦ record {
+    few = omega arith;
+    so_far = let h = above_on c.args.marks.now c.args.mark c.loop-sector.sector
+        (c.loop-sector.sector + 1) (omega arith) (omega arith) in omega (arith, h);
+  }
+  | else-marks-sector w ↦ record {
+    few = omega arith;
+    so_far = let h = above_off c.args.marks.now c.args.mark c.loop-sector.sector
+        (c.loop-sector.sector + 1) (omega arith) (omega arith) in omega (arith, h);
+  }
 ]

@@ -16,12 +16,15 @@ loop-place-preserved c =
         | then-segment-used w ↦
             let used_is : w.entry.inside.used ≡ (get_or c.args.block.now c.loop-place.place no_use).used = search rules in
             let live_is : w.entry.inside.live ≡ (get_or c.args.block.now c.loop-place.place no_use).live = search rules in
-            let inside_live : 64 * c.args.index + c.loop-place.place < length c.loop-place.live = omega (arith, w.if-segment-used.true, was.used_size, was.live_size, same) in
+            let inside_live : 64 * c.args.index + c.loop-place.place < length c.loop-place.live =
+            omega (arith, w.if-segment-used.true, was.used_size, was.live_size, same) in
             uses_same c.args.block.now c.args.used.now c.args.live.now _ _ _ _ (64 * c.args.index) _ w.used-is w.live-is
-            (uses_more c.args.block.now c.args.used.now c.args.live.now c.loop-place.used c.loop-place.live (64 * c.args.index) c.loop-place.place was _ _
+            (uses_more c.args.block.now c.args.used.now c.args.live.now c.loop-place.used c.loop-place.live
+            (64 * c.args.index) c.loop-place.place was _ _
             w.if-segment-used.true inside_live used_is live_is)
         | else-segment-used w ↦
             uses_same c.args.block.now c.args.used.now c.args.live.now _ _ _ _ (64 * c.args.index) _ w.used-is w.live-is
-            (uses_past c.args.block.now c.args.used.now c.args.live.now c.loop-place.used c.loop-place.live (64 * c.args.index) c.loop-place.place was w.if-segment-used.false)
+            (uses_past c.args.block.now c.args.used.now c.args.live.now c.loop-place.used c.loop-place.live
+            (64 * c.args.index) c.loop-place.place was w.if-segment-used.false)
       ];
     }

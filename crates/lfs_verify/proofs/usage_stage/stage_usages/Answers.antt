@@ -26,7 +26,8 @@ returns-then-not-branch-clause-goes g c = λ d reads w.
     let v = view d c.args.checkpoint.now in
     let here = c.loop-index.invariant in
     let step = c.in_ok-take_usage.ensures in
-    goes_false v _ _ _ _ (Usages v) _ c.if-not-branch.true (step.goes d (reads_then old mid new d reads here.looks)) (here.walked d (reads_first old mid new d reads step.looks) w)
+    goes_false v _ _ _ _ (Usages v) _ c.if-not-branch.true (step.goes d (reads_then old mid new d reads here.looks))
+    (here.walked d (reads_first old mid new d reads step.looks) w)
 
 pub loop-index-preserved : goal.loop-index-preserved
 loop-index-preserved g c =
@@ -42,10 +43,12 @@ loop-index-preserved g c =
       used = step.used ∙ here.used;
       live = step.live ∙ here.live;
       is_there = below_more _ _ here.is_there (step.is_there c.if-not-branch.false);
-      says = λ d reads. step.says c.if-not-branch.false d (reads_then old mid new d reads here.looks) (here.says d (reads_first old mid new d reads step.looks));
+      says = λ d reads. step.says c.if-not-branch.false d (reads_then old mid new d reads here.looks)
+          (here.says d (reads_first old mid new d reads step.looks));
       walked = λ d reads w.
           let v = view d c.args.checkpoint.now in
-          goes_true v _ _ _ _ (Usages v) _ c.if-not-branch.false (step.goes d (reads_then old mid new d reads here.looks)) (here.walked d (reads_first old mid new d reads step.looks) w);
+          goes_true v _ _ _ _ (Usages v) _ c.if-not-branch.false (step.goes d (reads_then old mid new d reads here.looks))
+          (here.walked d (reads_first old mid new d reads step.looks) w);
     }
 
 pub returns-clause-goes : goal.returns-clause-goes

@@ -18,5 +18,6 @@ invariant-loop-index g l =
       live : length l.live ≡ length l.initial.live;
       is_there : (j : ℕ) → j < l.index → (0 < get_or l.checkpoint.usage j 0) ↔ (j < (l.checkpoint.segments + 63) / 64);
       says : (c : Content) → ReadsContent old now c → SaysUpTo (view c l.checkpoint) l.used l.live l.index;
-      walked : (c : Content) → ReadsContent old now c → Walked (view c l.checkpoint) l.initial.marks 0 → Walked (view c l.checkpoint) l.marks l.index;
+      walked : (c : Content) → ReadsContent old now c → Walked (view c l.checkpoint) l.initial.marks 0
+          → Walked (view c l.checkpoint) l.marks l.index;
     }

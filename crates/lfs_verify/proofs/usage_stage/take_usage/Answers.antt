@@ -1,43 +1,52 @@
 use Rattle.std.proofs.Common.{refl}
 use Rattle.lfs_verify.proofs.Takes.{read_in, unread}
-use Rattle.lfs_verify.proofs.UsageSteps.{read_bytes, usage_passed, says_passed, usage_extra, usage_missing, usage_refused, usage_unread, usage_undecoded, usage_taken, says_taken, is_extra, is_needed}
+use Rattle.lfs_verify.proofs.UsageSteps.{read_bytes, usage_passed, says_passed, usage_extra, usage_missing, usage_refused, usage_unread}
+use Rattle.lfs_verify.proofs.UsageSteps.{usage_undecoded, usage_taken, says_taken, is_extra, is_needed}
 use Rattle.lfs_verify.proofs.usage_stage.take_usage.Goals as goal
 
 pub returns-then-address-ne0-clause-goes : goal.returns-then-address-ne0-clause-goes
 returns-then-address-ne0-clause-goes g c = λ d reads w.
-    usage_extra d c.args.checkpoint.now c.args.index c.requires.index _ c.segments_of-segments.ensures _ c.usage_address-address.ensures c.if-index-segments.true c.if-address-ne0.true
+    usage_extra d c.args.checkpoint.now c.args.index c.requires.index _ c.segments_of-segments.ensures _ c.usage_address-address.ensures
+    c.if-index-segments.true c.if-address-ne0.true
 
 pub returns-then-index-segments-clause-goes : goal.returns-then-index-segments-clause-goes
 returns-then-index-segments-clause-goes g c = λ d reads w.
-    usage_passed d c.args.checkpoint.now c.args.index c.requires.index _ c.segments_of-segments.ensures _ c.usage_address-address.ensures c.if-address-ne0.false c.args.marks.now w
+    usage_passed d c.args.checkpoint.now c.args.index c.requires.index _ c.segments_of-segments.ensures _ c.usage_address-address.ensures
+    c.if-address-ne0.false c.args.marks.now w
 
 pub returns-then-index-segments-clause-is_there : goal.returns-then-index-segments-clause-is_there
 returns-then-index-segments-clause-is_there g c = λ is.
-    is_extra c.args.index _ _ c.args.checkpoint.now c.segments_of-segments.ensures c.usage_address-address.ensures c.if-index-segments.true c.if-address-ne0.false
+    is_extra c.args.index _ _ c.args.checkpoint.now c.segments_of-segments.ensures c.usage_address-address.ensures c.if-index-segments.true
+    c.if-address-ne0.false
 
 pub returns-then-index-segments-clause-says : goal.returns-then-index-segments-clause-says
 returns-then-index-segments-clause-says g c = λ is d reads.
-    says_passed d c.args.checkpoint.now c.args.index c.requires.index _ c.segments_of-segments.ensures _ c.usage_address-address.ensures c.if-index-segments.true c.args.used.now c.args.live.now
+    says_passed d c.args.checkpoint.now c.args.index c.requires.index _ c.segments_of-segments.ensures _ c.usage_address-address.ensures
+    c.if-index-segments.true c.args.used.now c.args.live.now
 
 pub returns-then-address-eq0-clause-goes : goal.returns-then-address-eq0-clause-goes
 returns-then-address-eq0-clause-goes g c = λ d reads w.
-    usage_missing d c.args.checkpoint.now c.args.index c.requires.index _ c.segments_of-segments.ensures _ c.usage_address-address.ensures c.if-index-segments.false c.if-address-eq0.true
+    usage_missing d c.args.checkpoint.now c.args.index c.requires.index _ c.segments_of-segments.ensures _ c.usage_address-address.ensures
+    c.if-index-segments.false c.if-address-eq0.true
 
 pub returns-then-not-claim-clause-goes : goal.returns-then-not-claim-clause-goes
 returns-then-not-claim-clause-goes g c = λ d reads.
-    usage_refused d c.args.checkpoint.now c.args.index c.requires.index _ c.segments_of-segments.ensures _ c.usage_address-address.ensures c.if-address-eq0.false c.args.marks.now c.args.marks.now
+    usage_refused d c.args.checkpoint.now c.args.index c.requires.index _ c.segments_of-segments.ensures _ c.usage_address-address.ensures
+    c.if-address-eq0.false c.args.marks.now c.args.marks.now
     (λ o is. let e = c.if-not-claim.ensures.is_open.1 o in absurd (cc))
 
 pub returns-then-not-branch-clause-goes : goal.returns-then-not-branch-clause-goes
 returns-then-not-branch-clause-goes g c = λ d reads.
-    usage_unread d c.args.checkpoint.now c.args.index c.requires.index _ c.segments_of-segments.ensures _ c.usage_address-address.ensures c.if-address-eq0.false c.args.marks.now c.args.marks.now
+    usage_unread d c.args.checkpoint.now c.args.index c.requires.index _ c.segments_of-segments.ensures _ c.usage_address-address.ensures
+    c.if-address-eq0.false c.args.marks.now c.args.marks.now
     (unread d _ _ _ (c.in_ok-fetch.ensures.block d reads) c.if-not-branch.true)
 
 pub returns-in_default-clause-goes : goal.returns-in_default-clause-goes
 returns-in_default-clause-goes g c = λ d reads.
     let read = read_in d _ _ _ (c.in_ok-fetch.ensures.block d reads) c.if-not-branch.false in
     let bytes = read_bytes _ _ d _ _ (g.met.D.SectorDevice.lawful c.args.device.now).now reads read in
-    usage_undecoded d c.args.checkpoint.now c.args.index c.requires.index _ c.segments_of-segments.ensures _ c.usage_address-address.ensures _
+    usage_undecoded d c.args.checkpoint.now c.args.index c.requires.index _ c.segments_of-segments.ensures _ c.usage_address-address.ensures
+    _
     read c.fetch.array_long bytes c.if-address-eq0.false c.args.marks.now c.args.marks.now c.in_default.ensures.exact
 
 pub returns-clause-goes : goal.returns-clause-goes
@@ -50,7 +59,8 @@ returns-clause-goes g c = λ d reads.
 
 pub returns-clause-is_there : goal.returns-clause-is_there
 returns-clause-is_there g c = λ is.
-    is_needed c.args.index _ _ c.args.checkpoint.now c.segments_of-segments.ensures c.usage_address-address.ensures c.if-index-segments.false c.if-address-eq0.false
+    is_needed c.args.index _ _ c.args.checkpoint.now c.segments_of-segments.ensures c.usage_address-address.ensures
+    c.if-index-segments.false c.if-address-eq0.false
 
 pub returns-clause-says : goal.returns-clause-says
 returns-clause-says g c = λ is d reads.

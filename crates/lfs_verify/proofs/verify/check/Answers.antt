@@ -21,4 +21,5 @@ returns-in-Ok-clause-holds g c = λ keeps.
     let lawful = g.met.D.SectorDevice.lawful c.args.device.now in
     let k = c.args.checkpoint.now in
     let read = read_content old new lawful k c.requires.inside keeps in
-    holds_counted old new lawful k c.requires.inside keeps c.in-Ok.found.0 (c.in-Ok.ensures.holds old.content read) c.in-Ok.found.1 (c.in-Ok.ensures.counts old.content read)
+    holds_counted old new lawful k c.requires.inside keeps c.in-Ok.found.0 (c.in-Ok.ensures.holds old.content read) c.in-Ok.found.1
+    (c.in-Ok.ensures.counts old.content read)

@@ -7,7 +7,8 @@ use Rattle.lfs_verify.proofs.walk.walk_all.Goals as goal
 
 pub returns-in-Err-clause-damaged : goal.returns-in-Err-clause-damaged
 returns-in-Err-clause-damaged g c = λ code is d reads.
-    let passed = passed_start _ _ (g.met.D.SectorDevice.lawful c.args.device.now) d reads c.args.checkpoint.now c.requires.fits c.args.marks.now c.requires.marks c.requires.unmarked in
+    let passed = passed_start _ _ (g.met.D.SectorDevice.lawful c.args.device.now) d reads c.args.checkpoint.now c.requires.fits
+    c.args.marks.now c.requires.marks c.requires.unmarked in
     c.in-Err.ensures.damaged code is d reads passed
 
 pub returns-in-Err-walk_inodes-clause-damaged : goal.returns-in-Err-walk_inodes-clause-damaged
@@ -22,7 +23,8 @@ returns-in-Err-walk_inodes-clause-damaged g c = λ code is d reads.
     let r2 = reads in
     let r1 = reads_first s0 s1 s2 d r2 l2 in
     let q2 = reads_then s0 s1 s2 d r2 m1 in
-    let p0 = passed_start _ _ (g.met.D.SectorDevice.lawful c.args.device.now) d reads c.args.checkpoint.now c.requires.fits c.args.marks.now c.requires.marks c.requires.unmarked in
+    let p0 = passed_start _ _ (g.met.D.SectorDevice.lawful c.args.device.now) d reads c.args.checkpoint.now c.requires.fits c.args.marks.now
+    c.requires.marks c.requires.unmarked in
     let p1 = c.in-Ok.ensures.holds d r1 p0 in
     let tables = c.in-Ok.ensures.tables d r1 p0 in
     let labels = c.in-Ok.ensures.labels d r1 p0 in
@@ -45,7 +47,8 @@ returns-in-Err-walk_files-clause-damaged g c = λ code is d reads.
     let r1 = reads_first s0 s1 s2 d r2 l2 in
     let q2 = reads_then s0 s1 s2 d r2 m1 in
     let q3 = reads_then s0 s2 s3 d r3 m2 in
-    let p0 = passed_start _ _ (g.met.D.SectorDevice.lawful c.args.device.now) d reads c.args.checkpoint.now c.requires.fits c.args.marks.now c.requires.marks c.requires.unmarked in
+    let p0 = passed_start _ _ (g.met.D.SectorDevice.lawful c.args.device.now) d reads c.args.checkpoint.now c.requires.fits c.args.marks.now
+    c.requires.marks c.requires.unmarked in
     let p1 = c.in-Ok.ensures.holds d r1 p0 in
     let tables = c.in-Ok.ensures.tables d r1 p0 in
     let labels = c.in-Ok.ensures.labels d r1 p0 in
@@ -71,7 +74,8 @@ returns-in-Err-walk_segments-clause-damaged g c = λ code is d reads.
     let r1 = reads_first s0 s1 s2 d r2 l2 in
     let q2 = reads_then s0 s1 s2 d r2 m1 in
     let q3 = reads_then s0 s2 s3 d r3 m2 in
-    let p0 = passed_start _ _ (g.met.D.SectorDevice.lawful c.args.device.now) d reads c.args.checkpoint.now c.requires.fits c.args.marks.now c.requires.marks c.requires.unmarked in
+    let p0 = passed_start _ _ (g.met.D.SectorDevice.lawful c.args.device.now) d reads c.args.checkpoint.now c.requires.fits c.args.marks.now
+    c.requires.marks c.requires.unmarked in
     let p1 = c.in-Ok.ensures.holds d r1 p0 in
     let tables = c.in-Ok.ensures.tables d r1 p0 in
     let labels = c.in-Ok.ensures.labels d r1 p0 in
@@ -98,7 +102,8 @@ returns-clause-holds g c = λ d reads.
     let r1 = reads_first s0 s1 s2 d r2 l2 in
     let q2 = reads_then s0 s1 s2 d r2 m1 in
     let q3 = reads_then s0 s2 s3 d r3 m2 in
-    let p0 = passed_start _ _ (g.met.D.SectorDevice.lawful c.args.device.now) d reads c.args.checkpoint.now c.requires.fits c.args.marks.now c.requires.marks c.requires.unmarked in
+    let p0 = passed_start _ _ (g.met.D.SectorDevice.lawful c.args.device.now) d reads c.args.checkpoint.now c.requires.fits c.args.marks.now
+    c.requires.marks c.requires.unmarked in
     let p1 = c.in-Ok.ensures.holds d r1 p0 in
     let tables = c.in-Ok.ensures.tables d r1 p0 in
     let labels = c.in-Ok.ensures.labels d r1 p0 in
@@ -126,7 +131,8 @@ returns-clause-counts g c = λ d reads.
     let r1 = reads_first s0 s1 s2 d r2 l2 in
     let q2 = reads_then s0 s1 s2 d r2 m1 in
     let q3 = reads_then s0 s2 s3 d r3 m2 in
-    let p0 = passed_start _ _ (g.met.D.SectorDevice.lawful c.args.device.now) d reads c.args.checkpoint.now c.requires.fits c.args.marks.now c.requires.marks c.requires.unmarked in
+    let p0 = passed_start _ _ (g.met.D.SectorDevice.lawful c.args.device.now) d reads c.args.checkpoint.now c.requires.fits c.args.marks.now
+    c.requires.marks c.requires.unmarked in
     let p1 = c.in-Ok.ensures.holds d r1 p0 in
     let tables = c.in-Ok.ensures.tables d r1 p0 in
     let labels = c.in-Ok.ensures.labels d r1 p0 in
@@ -134,4 +140,5 @@ returns-clause-counts g c = λ d reads.
     let lists = c.in-Ok-walk_inodes.ensures.lists d q2 in
     let keeps = subst (KeepsInodes d c.walk_inodes.new.map) (sym c.deref.ensures.value) (c.in-Ok-walk_inodes.ensures.kept d q2) in
     let p3 = c.in-Ok-walk_files.ensures.holds d c.args.checkpoint.now q3 lists keeps p2 in
-    λ m st. c.count_totals-totals.ensures d c.args.checkpoint.now (sized_content s0 s3 (g.met.D.SectorDevice.lawful c.args.device.now) d reads) m st p3.walked
+    λ m st. c.count_totals-totals.ensures d c.args.checkpoint.now
+    (sized_content s0 s3 (g.met.D.SectorDevice.lawful c.args.device.now) d reads) m st p3.walked

@@ -37,7 +37,8 @@ returns-in-Ok-true-stage_inodes-clause-holds g c = λ d reads passed.
     (λ w bounded. c.in-Ok-true.ensures.holds c.in-Ok-true.field-0-test d reads1 bounded passed.walked) in
     walk_pass v 4 (Inodes v) (stage_4 v) _ _ one _ _ _ c.in-Ok-true-stage_inodes.field-0-test
     (c.in-Ok-true-stage_inodes.ensures.goes d c.args.checkpoint.now (sym c.version_of-version.ensures) reads2 lists)
-    (λ w bounded. c.in-Ok-true-stage_inodes.ensures.holds c.in-Ok-true-stage_inodes.field-0-test d c.args.checkpoint.now (sym c.version_of-version.ensures) reads2 lists bounded one.walked)
+    (λ w bounded. c.in-Ok-true-stage_inodes.ensures.holds c.in-Ok-true-stage_inodes.field-0-test d c.args.checkpoint.now
+    (sym c.version_of-version.ensures) reads2 lists bounded one.walked)
 
 pub returns-in-Ok-true-stage_inodes-clause-lists : goal.returns-in-Ok-true-stage_inodes-clause-lists
 returns-in-Ok-true-stage_inodes-clause-lists g c = λ d reads.

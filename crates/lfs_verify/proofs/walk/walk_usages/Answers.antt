@@ -20,7 +20,8 @@ returns-in-Ok-false-stage_rows-clause-damaged g c = λ code is d reads passed.
     let usages = c.in-Ok-true.ensures.holds c.in-Ok-true.field-0-test d reads1 passed.bounded passed.walked in
     let says = c.in-Ok-true.ensures.says c.in-Ok-true.field-0-test d reads1 in
     let used = used_says v _ _ usages (c.stage_usages.ensures.used ∙ c.requires.used) says in
-    let one = walk_pass v 1 (Usages v) (stage_1 v) _ _ passed _ _ _ c.in-Ok-true.field-0-test (c.in-Ok-true.ensures.goes d reads1) (λ w bounded. usages) in
+    let one = walk_pass v 1 (Usages v) (stage_1 v) _ _ passed _ _ _ c.in-Ok-true.field-0-test (c.in-Ok-true.ensures.goes d reads1)
+    (λ w bounded. usages) in
     look_fails v 2 (IsRows v) (stage_2 v) _ _ one _ c.in-Ok-false-stage_rows.field-0-test
     (c.in-Ok-false-stage_rows.ensures.rows d c.args.checkpoint.now (reads_then s0 s1 s2 d reads c.stage_usages.ensures.looks) used) code is
 
@@ -34,7 +35,8 @@ returns-in-Ok-true-stage_rows-clause-holds g c = λ d reads passed.
     let usages = c.in-Ok-true.ensures.holds c.in-Ok-true.field-0-test d reads1 passed.bounded passed.walked in
     let says = c.in-Ok-true.ensures.says c.in-Ok-true.field-0-test d reads1 in
     let used = used_says v _ _ usages (c.stage_usages.ensures.used ∙ c.requires.used) says in
-    let one = walk_pass v 1 (Usages v) (stage_1 v) _ _ passed _ _ _ c.in-Ok-true.field-0-test (c.in-Ok-true.ensures.goes d reads1) (λ w bounded. usages) in
+    let one = walk_pass v 1 (Usages v) (stage_1 v) _ _ passed _ _ _ c.in-Ok-true.field-0-test (c.in-Ok-true.ensures.goes d reads1)
+    (λ w bounded. usages) in
     look_pass v 2 (IsRows v) (stage_2 v) _ _ one _ c.in-Ok-true-stage_rows.field-0-test
     (c.in-Ok-true-stage_rows.ensures.rows d c.args.checkpoint.now (reads_then s0 s1 s2 d reads c.stage_usages.ensures.looks) used)
 
@@ -60,4 +62,5 @@ returns-in-Ok-true-stage_rows-clause-labels g c = λ d reads passed.
     let usages = c.in-Ok-true.ensures.holds c.in-Ok-true.field-0-test d reads1 passed.bounded passed.walked in
     let says = c.in-Ok-true.ensures.says c.in-Ok-true.field-0-test d reads1 in
     let used = used_says v _ _ usages (c.stage_usages.ensures.used ∙ c.requires.used) says in
-    c.in-Ok-true-stage_rows.ensures.labels c.in-Ok-true-stage_rows.field-0-test d c.args.checkpoint.now (reads_then s0 s1 s2 d reads c.stage_usages.ensures.looks) used
+    c.in-Ok-true-stage_rows.ensures.labels c.in-Ok-true-stage_rows.field-0-test d c.args.checkpoint.now
+    (reads_then s0 s1 s2 d reads c.stage_usages.ensures.looks) used

@@ -2,7 +2,8 @@ use Rattle.lfs_device.proofs.Carried.{call_carries}
 use Rattle.lfs_device.proofs.file.FileDeviceInSectorDevice.write.Goals as goal
 
 pub returns-then-is_err-clause-carries : goal.returns-then-is_err-clause-carries
-returns-then-is_err-clause-carries g c = call_carries (g.W.World.fate c.args.self.now.opened.value c.args.self.now.sectors) _ _ _ c.note.ensures
+returns-then-is_err-clause-carries g c =
+    call_carries (g.W.World.fate c.args.self.now.opened.value c.args.self.now.sectors) _ _ _ c.note.ensures
 
 pub returns-clause-carries : goal.returns-clause-carries
 returns-clause-carries g c = call_carries (g.W.World.fate c.args.self.now.opened.value c.args.self.now.sectors) _ _ _ c.note-2.ensures

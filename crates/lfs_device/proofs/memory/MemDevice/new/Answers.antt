@@ -8,11 +8,13 @@ use Rattle.lfs_device.proofs.memory.MemDevice.new.Goals as goal
 
 pub returns-clause-zeros : goal.returns-clause-zeros
 returns-clause-zeros c =
-    present_if_new _ _ _ (c.in_ok-from_elem.ensures.items_if_clones_equal (λ y is. search rules) ∙ ap (λ (r : Row). replicate c.args.sectors r) c.stands.ensures)
+    present_if_new _ _ _ (c.in_ok-from_elem.ensures.items_if_clones_equal (λ y is. search rules)
+    ∙ ap (λ (r : Row). replicate c.args.sectors r) c.stands.ensures)
 
 pub returns-clause-durable : goal.returns-clause-durable
 returns-clause-durable c =
-    only_if_new _ _ _ _ (c.in_ok-from_elem.ensures.items_if_clones_equal (λ y is. search rules) ∙ ap (λ (r : Row). replicate c.args.sectors r) c.stands.ensures)
+    only_if_new _ _ _ _ (c.in_ok-from_elem.ensures.items_if_clones_equal (λ y is. search rules)
+    ∙ ap (λ (r : Row). replicate c.args.sectors r) c.stands.ensures)
 
 pub invariant_of-result-clause-whole : goal.invariant_of-result-clause-whole
 invariant_of-result-clause-whole c =

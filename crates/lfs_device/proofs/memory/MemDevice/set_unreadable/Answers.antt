@@ -15,7 +15,8 @@ pub invariant_of-self-clause-listed : goal.invariant_of-self-clause-listed
 invariant_of-self-clause-listed c = let_go_of _ _ _ c.args.self.now.listed c.requires _ _ c.let_go.ensures.others c.stands.ensures
 
 pub invariant_of-self-clause-room : goal.invariant_of-self-clause-room
-invariant_of-self-clause-room c = room_set _ _ _ _ (let room = c.args.self.now.room in let kept = c.let_go.ensures.room in omega (arith, room, kept))
+invariant_of-self-clause-room c =
+    room_set _ _ _ _ (let room = c.args.self.now.room in let kept = c.let_go.ensures.room in omega (arith, room, kept))
 
 pub invariant_of-self-clause-fits : goal.invariant_of-self-clause-fits
 invariant_of-self-clause-fits c = fits_set _ _ _ c.args.self.now.fits

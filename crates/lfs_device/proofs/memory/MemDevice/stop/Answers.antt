@@ -9,7 +9,15 @@ pub invariant_of-self : goal.invariant_of-self
 invariant_of-self c =
     let same : length c.stop_rows.new.rows.items ≡ length c.args.self.now.rows.items =
     ap (λ (l : List Row). length l) c.stop_rows.ensures ∙ length-stopped _ _ _ in
-    record { sized = c.args.self.now.sized ∙ sym same; fits = omega (arith, same, c.args.self.now.fits); whole = whole_after_stop _ _ _ _ c.stop_rows.ensures c.args.self.now.whole; were_whole = were_whole _ _ _ c.note.ensures c.args.self.now.whole c.args.self.now.were_whole; listed = none_after_stop _ _ _ _ _ c.clear.ensures.items c.stop_rows.ensures; room = (let kept = c.clear.ensures.capacity in let room = c.args.self.now.room in omega (arith, same, kept, room)) }
+    record {
+      sized = c.args.self.now.sized ∙ sym same;
+      fits = omega (arith, same, c.args.self.now.fits);
+      whole = whole_after_stop _ _ _ _ c.stop_rows.ensures c.args.self.now.whole;
+      were_whole = were_whole _ _ _ c.note.ensures
+          c.args.self.now.whole c.args.self.now.were_whole;
+      listed = none_after_stop _ _ _ _ _ c.clear.ensures.items c.stop_rows.ensures;
+      room = (let kept = c.clear.ensures.capacity in let room = c.args.self.now.room in omega (arith, same, kept, room));
+    }
 
 pub returns-clause-chosen : goal.returns-clause-chosen
 returns-clause-chosen c = chosen_by_stop _ _ _ _ _ c.stop_rows.ensures

@@ -5,12 +5,19 @@ use Rattle.lfs_fs.proofs.fs.Fs.accept.Goals as goal
 
 pub returns-in-Err-accept-clause-refused : goal.returns-in-Err-accept-clause-refused
 returns-in-Err-accept-clause-refused g c =
-    turned_down g.D.SectorDevice.state c.args.self.now record { alloc = c.args.self.now.alloc; store = c.accept.new.self; handles = c.args.self.now.handles } c.in-Err-accept.fault c.from.result c.from.ensures
+    turned_down g.D.SectorDevice.state c.args.self.now record {
+      alloc = c.args.self.now.alloc;
+      store = c.accept.new.self;
+      handles = c.args.self.now.handles;
+    } c.in-Err-accept.fault c.from.result c.from.ensures
     c.requires.running c.in-Ok.ensures.young c.in-Err-accept.ensures.kept
-    record { room = c.in-Err-accept.ensures.told; one_commit = c.in-Err-accept.ensures.one_commit } (λ e. c.in-Err-accept.ensures.full (ap Err e)) (λ e. c.in-Err-accept.ensures.never (ap Err e))
-    (λ e. c.in-Err-accept.ensures.memory (ap Err e)) (λ e. c.in-Err-accept.ensures.device (ap Err e)) (λ e. c.in-Err-accept.ensures.failed (ap Err e))
+    record { room = c.in-Err-accept.ensures.told; one_commit = c.in-Err-accept.ensures.one_commit }
+    (λ e. c.in-Err-accept.ensures.full (ap Err e)) (λ e. c.in-Err-accept.ensures.never (ap Err e))
+    (λ e. c.in-Err-accept.ensures.memory (ap Err e)) (λ e. c.in-Err-accept.ensures.device (ap Err e))
+    (λ e. c.in-Err-accept.ensures.failed (ap Err e))
     (λ e. c.in-Err-accept.ensures.halted (ap Err e))
 
 pub returns-in-Err-accept-clause-fits : goal.returns-in-Err-accept-clause-fits
 returns-in-Err-accept-clause-fits g c memory rest =
-    never_large c.in-Err-accept.fault c.from.result _ c.from.ensures c.requires.room (λ e. c.in-Err-accept.ensures.fits (ap Err e) rest) memory
+    never_large c.in-Err-accept.fault c.from.result _ c.from.ensures c.requires.room (λ e. c.in-Err-accept.ensures.fits (ap Err e) rest)
+    memory

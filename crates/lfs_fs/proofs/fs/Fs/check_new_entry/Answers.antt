@@ -12,7 +12,8 @@ same_some (Some n) = refl
 -- it isn't looked at, or has no such name
 pub returns-in-Err-clause-refused : goal.returns-in-Err-clause-refused
 returns-in-Err-clause-refused g c =
-    new_unseen g.D.SectorDevice.state c.args.self.now c.look_in.new.self c.args.directory.value c.args.last.name.now c.args.last.slash c.args.is_mkdir (sym c.is_dots.ensures ∙ c.if-is_dots.false) c.in-Err.fault
+    new_unseen g.D.SectorDevice.state c.args.self.now c.look_in.new.self c.args.directory.value c.args.last.name.now c.args.last.slash
+    c.args.is_mkdir (sym c.is_dots.ensures ∙ c.if-is_dots.false) c.in-Err.fault
     c.in-Err.ensures.missing
 
 pub returns-then-not-is_name-clause-refused : goal.returns-then-not-is_name-clause-refused
@@ -33,7 +34,8 @@ returns-then-is_some-clause-refused g c =
       (
         c.in-Ok.found.0,
         c.in-Ok.ensures.short,
-        some_is g.D.SectorDevice.state c.args.self.now c.look_in.new.self c.args.directory.value c.args.last.name.now c.in-Ok.found.0 (value_of c.in-Ok.found.1) (same_some c.in-Ok.found.1 ∙ sym c.is_some.ensures ∙ c.if-is_some.true) c.in-Ok.ensures.answer,
+        some_is g.D.SectorDevice.state c.args.self.now c.look_in.new.self c.args.directory.value c.args.last.name.now c.in-Ok.found.0
+            (value_of c.in-Ok.found.1) (same_some c.in-Ok.found.1 ∙ sym c.is_some.ensures ∙ c.if-is_some.true) c.in-Ok.ensures.answer,
       ),
     )
 
@@ -44,7 +46,8 @@ returns-then-refuses_slash-clause-refused g c = (
   (
     c.in-Ok.found.0,
     c.in-Ok.ensures.short,
-    none_is g.D.SectorDevice.state c.args.self.now c.look_in.new.self c.args.directory.value c.args.last.name.now c.in-Ok.found.0 (value_of c.in-Ok.found.1) (same_some c.in-Ok.found.1 ∙ sym c.is_some.ensures ∙ c.if-is_some.false) c.in-Ok.ensures.answer,
+    none_is g.D.SectorDevice.state c.args.self.now c.look_in.new.self c.args.directory.value c.args.last.name.now c.in-Ok.found.0
+        (value_of c.in-Ok.found.1) (same_some c.in-Ok.found.1 ∙ sym c.is_some.ensures ∙ c.if-is_some.false) c.in-Ok.ensures.answer,
   ),
 )
 
@@ -56,14 +59,16 @@ returns-then-is_full-clause-refused g c = (
     c.in-Ok.found.0,
     c.in-Ok.ensures.short,
     c.is_full.ensures.full c.if-is_full.true,
-    none_is g.D.SectorDevice.state c.args.self.now c.look_in.new.self c.args.directory.value c.args.last.name.now c.in-Ok.found.0 (value_of c.in-Ok.found.1) (same_some c.in-Ok.found.1 ∙ sym c.is_some.ensures ∙ c.if-is_some.false) c.in-Ok.ensures.answer,
+    none_is g.D.SectorDevice.state c.args.self.now c.look_in.new.self c.args.directory.value c.args.last.name.now c.in-Ok.found.0
+        (value_of c.in-Ok.found.1) (same_some c.in-Ok.found.1 ∙ sym c.is_some.ensures ∙ c.if-is_some.false) c.in-Ok.ensures.answer,
   ),
 )
 
 pub returns-clause-taken : goal.returns-clause-taken
 returns-clause-taken g c =
     record {
-      looks = none_is g.D.SectorDevice.state c.args.self.now c.look_in.new.self c.args.directory.value c.args.last.name.now c.in-Ok.found.0 (value_of c.in-Ok.found.1) (same_some c.in-Ok.found.1 ∙ sym c.is_some.ensures ∙ c.if-is_some.false) c.in-Ok.ensures.answer;
+      looks = none_is g.D.SectorDevice.state c.args.self.now c.look_in.new.self c.args.directory.value c.args.last.name.now c.in-Ok.found.0
+          (value_of c.in-Ok.found.1) (same_some c.in-Ok.found.1 ∙ sym c.is_some.ensures ∙ c.if-is_some.false) c.in-Ok.ensures.answer;
       named = sym c.is_dots.ensures ∙ c.if-is_dots.false;
       is_name = c.is_name.ensures.0 c.if-not-is_name.false;
       plain = sym c.refuses_slash.ensures ∙ c.if-refuses_slash.false;

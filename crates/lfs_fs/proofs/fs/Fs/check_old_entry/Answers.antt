@@ -6,7 +6,8 @@ use Rattle.lfs_fs.proofs.fs.Fs.check_old_entry.Goals as goal
 -- the name isn't looked up
 pub returns-in-Err-clause-refused : goal.returns-in-Err-clause-refused
 returns-in-Err-clause-refused g c =
-    old_unseen g.D.SectorDevice.state c.args.self.now c.look_in.new.self c.args.directory.value c.args.last.name.now c.args.last.slash (sym c.is_dots.ensures ∙ c.if-is_dots.false) c.in-Err.fault
+    old_unseen g.D.SectorDevice.state c.args.self.now c.look_in.new.self c.args.directory.value c.args.last.name.now c.args.last.slash
+    (sym c.is_dots.ensures ∙ c.if-is_dots.false) c.in-Err.fault
     c.in-Err.ensures.missing
 
 -- the directory has no such name

@@ -15,7 +15,8 @@ use Rattle.lfs_fs.proofs.fs.Fs.create.Goals as goal
 
 pub returns-in-Err : goal.returns-in-Err
 returns-in-Err g c =
-    halted_serves g.D.SectorDevice.state c.args.self.now c.begin.new.self (Create c.args.path.now) c.in-Err.fault (g.met.D.SectorDevice.lawful c.args.self.now.store.log.device) c.in-Err.ensures.same c.in-Err.ensures.halted
+    halted_serves g.D.SectorDevice.state c.args.self.now c.begin.new.self (Create c.args.path.now) c.in-Err.fault
+    (g.met.D.SectorDevice.lawful c.args.self.now.store.log.device) c.in-Err.ensures.same c.in-Err.ensures.halted
     c.in-Err.ensures.fault
 
 pub returns-in-Ok-parent : goal.returns-in-Ok-parent
@@ -26,23 +27,31 @@ returns-in-Ok-parent g c =
     let reads = log_reads state c.begin.new.self.store c.parent.new.files walk.reads in
     let totals = same_totals state c.begin.new.self.store c.parent.new.files walk.reads in
     let drafted = same_drafted state c.begin.new.self.store c.parent.new.files walk.reads in
-    begun_serves state c.args.self.now c.begin.new.self (seen c.create_at.new.self) (Create c.args.path.now) (answer_by Handle c.create_at.result) begun
+    begun_serves state c.args.self.now c.begin.new.self (seen c.create_at.new.self) (Create c.args.path.now)
+    (answer_by Handle c.create_at.result) begun
     (c.create_at.ensures (seen c.begin.new.self) c.args.path.now
-    (reaches state g.met.D.SectorDevice.lawful c.args.self.now c.begin.new.self begun c.parent.new.files reads walk.reads.saved totals walk.reads.draft drafted
+    (reaches state g.met.D.SectorDevice.lawful c.args.self.now c.begin.new.self begun c.parent.new.files reads walk.reads.saved totals
+    walk.reads.draft drafted
     c.args.path.now (bytes_of c.args.path.now c.type_inv.path) c.directory.result.value c.in-Ok-parent.place.last walk.last
-    (ends_parent state c.begin.new.self.store c.parent.new.files c.args.path.now c.in-Ok-parent.place.chain c.directory.result.value c.directory.ensures.value walk.answer)))
+    (ends_parent state c.begin.new.self.store c.parent.new.files c.args.path.now c.in-Ok-parent.place.chain c.directory.result.value
+    c.directory.ensures.value walk.answer)))
 
 pub returns-in-Err-parent : goal.returns-in-Err-parent
 returns-in-Err-parent g c =
     let state = g.D.SectorDevice.state in
     let begun = c.in-Ok.ensures.done in
     let walk = c.in-Err-parent.ensures in
-    let mid : Fs g.row.D.Denot = record { alloc = c.begin.new.self.alloc; store = c.parent.new.files; handles = c.begin.new.self.handles } in
-    let first = store_reads state c.begin.new.self mid (log_reads state c.begin.new.self.store c.parent.new.files walk.reads) walk.reads.draft walk.reads.saved (same_totals state c.begin.new.self.store c.parent.new.files walk.reads) (same_drafted state c.begin.new.self.store c.parent.new.files walk.reads) refl in
+    let mid : Fs g.row.D.Denot =
+    record { alloc = c.begin.new.self.alloc; store = c.parent.new.files; handles = c.begin.new.self.handles } in
+    let first = store_reads state c.begin.new.self mid (log_reads state c.begin.new.self.store c.parent.new.files walk.reads)
+    walk.reads.draft walk.reads.saved (same_totals state c.begin.new.self.store c.parent.new.files walk.reads)
+    (same_drafted state c.begin.new.self.store c.parent.new.files walk.reads) refl in
     begun_serves state c.args.self.now c.begin.new.self (seen mid) (Create c.args.path.now) (Refuse (refusal_of c.from.result)) begun
-    (path_without state c.begin.new.self mid (g.met.D.SectorDevice.lawful c.begin.new.self.store.log.device) (begun_running state c.args.self.now c.begin.new.self begun) begun.empty first
+    (path_without state c.begin.new.self mid (g.met.D.SectorDevice.lawful c.begin.new.self.store.log.device)
+    (begun_running state c.args.self.now c.begin.new.self begun) begun.empty first
     (EndsParent c.args.path.now) (Create c.args.path.now) refl refl refl (λ N s r w. create_refused N s c.args.path.now r w)
-    c.in-Err-parent.fault c.from.result c.from.ensures (ends_refused state c.begin.new.self.store c.parent.new.files (EndsParent c.args.path.now) c.in-Err-parent.fault walk.refused) (λ e. walk.halted (ap Err e)) (λ e. walk.other (ap Err e)))
+    c.in-Err-parent.fault c.from.result c.from.ensures (ends_refused state c.begin.new.self.store c.parent.new.files
+    (EndsParent c.args.path.now) c.in-Err-parent.fault walk.refused) (λ e. walk.halted (ap Err e)) (λ e. walk.other (ap Err e)))
 
 pub create_at-requires-clause-empty : goal.create_at-requires-clause-empty
 create_at-requires-clause-empty g c =

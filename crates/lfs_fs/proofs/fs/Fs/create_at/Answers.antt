@@ -10,17 +10,21 @@ use Rattle.lfs_fs.proofs.fs.Fs.create_at.Goals as goal
 -- the path has no piece
 pub returns-in_default : goal.returns-in_default
 returns-in_default g c v path reached =
-    no_piece_ends g.D.SectorDevice.state g.met.D.SectorDevice.lawful v c.args.self.now path c.args.directory.value (create_call v.log.version (segments_of v) path c.args.directory.value reached.bytes) c.args.last reached c.requires.running c.in_default.is
+    no_piece_ends g.D.SectorDevice.state g.met.D.SectorDevice.lawful v c.args.self.now path c.args.directory.value (create_call
+    v.log.version (segments_of v) path c.args.directory.value reached.bytes) c.args.last reached c.requires.running c.in_default.is
 
 pub returns-in-Err : goal.returns-in-Err
 returns-in-Err g c v path reached =
-    entry_refused g.D.SectorDevice.state g.met.D.SectorDevice.lawful v c.args.self.now path c.args.directory.value (create_call v.log.version (segments_of v) path c.args.directory.value reached.bytes) c.args.last reached c.requires.running c.in-Some.last c.in-Some.is c.check_new_entry.new.self
+    entry_refused g.D.SectorDevice.state g.met.D.SectorDevice.lawful v c.args.self.now path c.args.directory.value
+    (create_call v.log.version (segments_of v) path c.args.directory.value reached.bytes) c.args.last reached c.requires.running
+    c.in-Some.last c.in-Some.is c.check_new_entry.new.self
     c.in-Err.ensures.reads c.in-Err.fault c.in-Err.ensures.refused
 
 -- no handle is free
 pub returns-in_default-least_free : goal.returns-in_default-least_free
 returns-in_default-least_free g c v path reached =
-    handle_refused g.D.SectorDevice.state g.met.D.SectorDevice.lawful v c.args.self.now path c.args.directory.value c.args.last reached c.requires.running c.in-Some.last c.in-Some.is c.check_new_entry.new.self
+    handle_refused g.D.SectorDevice.state g.met.D.SectorDevice.lawful v c.args.self.now path c.args.directory.value c.args.last reached
+    c.requires.running c.in-Some.last c.in-Some.is c.check_new_entry.new.self
     c.in-Ok.ensures.reads c.in-Ok.header c.in-Ok.ensures.taken c.in_default-least_free.ensures.full
 
 -- no number is free
@@ -28,22 +32,29 @@ pub returns-in_default-least_free-2 : goal.returns-in_default-least_free-2
 returns-in_default-least_free-2 g c v path reached =
     let first = c.in-Some-least_free.ensures.first in
     let found = c.in-Some-least_free.ensures.found in
-    number_refused g.D.SectorDevice.state g.met.D.SectorDevice.lawful v c.args.self.now path c.args.directory.value (create_call v.log.version (segments_of v) path c.args.directory.value reached.bytes) c.args.last reached c.requires.running c.in-Some.last c.in-Some.is c.check_new_entry.new.self
+    number_refused g.D.SectorDevice.state g.met.D.SectorDevice.lawful v c.args.self.now path c.args.directory.value
+    (create_call v.log.version (segments_of v) path c.args.directory.value reached.bytes) c.args.last reached c.requires.running
+    c.in-Some.last c.in-Some.is c.check_new_entry.new.self
     c.in-Ok.ensures.reads c.in-Ok.header c.in-Ok.ensures.taken
-    (handle_allowed g.D.SectorDevice.state g.met.D.SectorDevice.lawful v c.args.self.now path c.args.directory.value c.args.last reached c.requires.running c.in-Some.last c.in-Some.is c.check_new_entry.new.self
+    (handle_allowed g.D.SectorDevice.state g.met.D.SectorDevice.lawful v c.args.self.now path c.args.directory.value c.args.last reached
+    c.requires.running c.in-Some.last c.in-Some.is c.check_new_entry.new.self
     c.in-Ok.ensures.reads c.in-Ok.header c.in-Ok.ensures.taken (omega (arith, first, found)))
     (c.in_default-least_free-2).ensures.none
 
 pub returns-in-Err-make_entry : goal.returns-in-Err-make_entry
 returns-in-Err-make_entry g c v path reached =
-    create_unmade g.D.SectorDevice.state g.met.D.SectorDevice.lawful v c.args.self.now c.check_new_entry.new.self path c.args.directory.value c.args.last reached c.requires.running c.in-Some.last c.in-Some.is
-    c.in-Ok.ensures.reads c.in-Ok.header c.in-Ok.ensures.taken c.in-Some-least_free.handle c.in-Some-least_free.ensures.found.0 c.in-Some-least_free.ensures.first c.in-Some-least_free-2.number.value c.in-Some-least_free-2.ensures.some
+    create_unmade g.D.SectorDevice.state g.met.D.SectorDevice.lawful v c.args.self.now c.check_new_entry.new.self path
+    c.args.directory.value c.args.last reached c.requires.running c.in-Some.last c.in-Some.is
+    c.in-Ok.ensures.reads c.in-Ok.header c.in-Ok.ensures.taken c.in-Some-least_free.handle c.in-Some-least_free.ensures.found.0
+    c.in-Some-least_free.ensures.first c.in-Some-least_free-2.number.value c.in-Some-least_free-2.ensures.some
     c.make_entry.new.self c.in-Err-make_entry.fault c.in-Err-make_entry.ensures.refused
 
 pub returns : goal.returns
 returns g c v path reached =
-    create_made g.D.SectorDevice.state g.met.D.SectorDevice.lawful v c.args.self.now c.check_new_entry.new.self path c.args.directory.value c.args.last reached c.requires.running c.in-Some.last c.in-Some.is
-    c.in-Ok.ensures.reads c.in-Ok.header c.in-Ok.ensures.taken c.in-Some-least_free.handle c.in-Some-least_free.ensures.found.0 c.in-Some-least_free.ensures.first c.in-Some-least_free-2.number.value c.in-Some-least_free-2.ensures.some
+    create_made g.D.SectorDevice.state g.met.D.SectorDevice.lawful v c.args.self.now c.check_new_entry.new.self path c.args.directory.value
+    c.args.last reached c.requires.running c.in-Some.last c.in-Some.is
+    c.in-Ok.ensures.reads c.in-Ok.header c.in-Ok.ensures.taken c.in-Some-least_free.handle c.in-Some-least_free.ensures.found.0
+    c.in-Some-least_free.ensures.first c.in-Some-least_free-2.number.value c.in-Some-least_free-2.ensures.some
     c.make_entry.new.self c.in-Ok-make_entry.ensures.made c.open.new.self.numbers.items (λ _. c.open.ensures.opened)
 
 pub make_entry-requires-clause-empty : goal.make_entry-requires-clause-empty

@@ -12,13 +12,16 @@ set_len-requires-clause-empty g c = subst (λ (d : Draft). IsNoChange d.changes)
 
 pub returns-in-Err : goal.returns-in-Err
 returns-in-Err g c handle opens =
-    headerless_serves g.D.SectorDevice.state g.met.D.SectorDevice.lawful c.args.self.now c.header.new.self _ handle c.args.number.value opens c.requires.running c.requires.empty
+    headerless_serves g.D.SectorDevice.state g.met.D.SectorDevice.lawful c.args.self.now c.header.new.self _ handle c.args.number.value
+    opens c.requires.running c.requires.empty
     c.in-Err.ensures.reads.still refl c.in-Err.fault c.in-Err.ensures.missing
 
 pub returns-in-Ok-set_len : goal.returns-in-Ok-set_len
 returns-in-Ok-set_len g c handle opens =
-    cut_ends g.D.SectorDevice.state g.met.D.SectorDevice.lawful c.args.self.now c.header.new.self record { alloc = c.header.new.self.alloc; store = c.set_len.new.self; handles = c.header.new.self.handles }
-    handle c.args.number.value opens c.requires.running c.requires.empty c.requires.counted c.in-Ok.ensures.reads c.in-Ok.header c.in-Ok.ensures.answer
+    cut_ends g.D.SectorDevice.state g.met.D.SectorDevice.lawful c.args.self.now c.header.new.self
+    record { alloc = c.header.new.self.alloc; store = c.set_len.new.self; handles = c.header.new.self.handles }
+    handle c.args.number.value opens c.requires.running c.requires.empty c.requires.counted c.in-Ok.ensures.reads c.in-Ok.header
+    c.in-Ok.ensures.answer
     record {
       reads = c.in-Ok-set_len.ensures.reads;
       saved = c.in-Ok-set_len.ensures.saved;
@@ -26,14 +29,18 @@ returns-in-Ok-set_len g c handle opens =
       others = ap (λ (t : BlockTotals). t.meta_blocks) c.in-Ok-set_len.ensures.reads.totals;
       table = refl;
     }
-    c.accept.new.self c.accept.ensures.rest c.accept.result c.accept.ensures.done c.accept.ensures.refused c.in-Ok-set_len.ensures.counted c.args.len c.requires.most c.in-Ok-set_len.ensures.done
+    c.accept.new.self c.accept.ensures.rest c.accept.result c.accept.ensures.done c.accept.ensures.refused c.in-Ok-set_len.ensures.counted
+    c.args.len c.requires.most c.in-Ok-set_len.ensures.done
 
 pub returns-in-Err-set_len : goal.returns-in-Err-set_len
 returns-in-Err-set_len g c handle opens =
-    given_up_serves g.D.SectorDevice.state g.met.D.SectorDevice.lawful c.args.self.now c.header.new.self c.set_len.new.self c.give_up.new.self _ c.requires.running c.in-Ok.ensures.reads.still
+    given_up_serves g.D.SectorDevice.state g.met.D.SectorDevice.lawful c.args.self.now c.header.new.self c.set_len.new.self
+    c.give_up.new.self _ c.requires.running c.in-Ok.ensures.reads.still
     c.in-Err-set_len.ensures.reads c.in-Err-set_len.ensures.saved c.give_up.ensures.log c.give_up.ensures.saved
-    refl refl c.in-Err-set_len.fault c.in-Err-set_len.ensures.failed (λ on. c.in-Err-set_len.ensures.halted (ap Err on)) (λ full. c.in-Err-set_len.ensures.other (ap Err full)) c.from.result c.from.ensures
+    refl refl c.in-Err-set_len.fault c.in-Err-set_len.ensures.failed (λ on. c.in-Err-set_len.ensures.halted (ap Err on))
+    (λ full. c.in-Err-set_len.ensures.other (ap Err full)) c.from.result c.from.ensures
 
 pub accept-requires-clause-room : goal.accept-requires-clause-room
 accept-requires-clause-room g c =
-    cut_fits g.D.SectorDevice.state c.header.new.self.store.log c.set_len.new.self.log c.set_len.new.self.draft.changes c.args.number.value c.in-Ok.header c.args.len c.in-Ok-set_len.ensures.done
+    cut_fits g.D.SectorDevice.state c.header.new.self.store.log c.set_len.new.self.log c.set_len.new.self.draft.changes c.args.number.value
+    c.in-Ok.header c.args.len c.in-Ok-set_len.ensures.done

@@ -14,17 +14,20 @@ use Rattle.lfs_fs.specs.Seen.{seen}
 use Rattle.lfs_fs.proofs.CreateEnds.{still_more}
 use Rattle.lfs_fs.proofs.NameLooks.{none_drafted}
 use Rattle.lfs_fs.proofs.NewObjects.{kind_back, object_later}
-use Rattle.lfs_fs.proofs.StoreCalls.{adds_after, counts_after, log_adds, log_counts, log_redrafts, still_drafted, still_logged, still_with, store_failed}
+use Rattle.lfs_fs.proofs.StoreCalls.{adds_after, counts_after, log_adds, log_counts, log_redrafts, still_drafted, still_logged, still_with}
+use Rattle.lfs_fs.proofs.StoreCalls.{store_failed}
 use Rattle.lfs_store.proofs.Growths.{grows_then}
 use Rattle.lfs_fs.proofs.GrownDrafts.{adds_grow}
 use Rattle.lfs_fs.proofs.fs.Fs.draft_entry.Goals as goal
 
 pub add-requires-clause-room : goal.add-requires-clause-room
 add-requires-clause-room g c =
-    subst (λ (h : Header). h.size + slot_len h.form ≤ 1024 * slot_len h.form) (sym c.in-Ok-relink_parent.ensures.header) (let room = c.requires.room in omega (arith, room))
+    subst (λ (h : Header). h.size + slot_len h.form ≤ 1024 * slot_len h.form) (sym c.in-Ok-relink_parent.ensures.header)
+    (let room = c.requires.room in omega (arith, room))
 
 pub add-requires-clause-name : goal.add-requires-clause-name
-add-requires-clause-name g c = subst (λ (h : Header). IsName (name_len h.form) c.args.name.now) (sym c.in-Ok-relink_parent.ensures.header) c.requires.name
+add-requires-clause-name g c =
+    subst (λ (h : Header). IsName (name_len h.form) c.args.name.now) (sym c.in-Ok-relink_parent.ensures.header) c.requires.name
 
 pub returns-in-Ok-add-clause-drafted : goal.returns-in-Ok-add-clause-drafted
 returns-in-Ok-add-clause-drafted g c =
@@ -36,23 +39,36 @@ returns-in-Ok-add-clause-drafted g c =
     let files = c.add.new.files in
     let added = c.in-Ok-add.ensures in
     let back = sym (kind_back c.args.self.now.store.log.version c.args.kind c.args.text.now) in
-    let later : Reads state object.log files.log = subst (λ (h : Held g.row.D.Denot). Reads state h files.log) links.log (log_redrafts state store files c.add.ensures.redrafts) in
+    let later : Reads state object.log files.log =
+    subst (λ (h : Held g.row.D.Denot). Reads state h files.log) links.log (log_redrafts state store files c.add.ensures.redrafts) in
     record {
       between = object.draft.changes;
       linked = store.draft.changes;
       half = object.drafted;
-      object = object_later state c.args.self.now.store.log object.log files.log c.args.self.now.store.draft.changes object.draft.changes c.args.self.now.store.drafted object.drafted c.args.number.value
+      object = object_later state c.args.self.now.store.log object.log files.log c.args.self.now.store.draft.changes object.draft.changes
+          c.args.self.now.store.drafted object.drafted c.args.number.value
           (new_kind c.args.self.now.store.log.version c.args.kind c.args.text.now) later made.drafted;
-      relinks = subst (λ (k : Kind). RelinksParent object.draft.changes store.draft.changes c.args.directory.value c.args.header object.drafted k) back
-          (subst (λ (t : BlockTotals). RelinksParent object.draft.changes store.draft.changes c.args.directory.value c.args.header t c.args.kind) links.drafted links.done);
-      adds = subst (λ (k : Kind). Adds state c.args.self.now.store.log files.log store.draft.changes files.draft.changes c.args.directory.value (relinked c.args.header (more_links k c.args.header.links)) c.args.number.value c.args.name.now) back
-          (adds_after state c.args.self.now.store.log object.log files.log made.still.reads store.draft.changes files.draft.changes c.args.directory.value (relinked c.args.header (more_links c.args.kind c.args.header.links)) c.args.number.value c.args.name.now
-          (subst (λ (h : Header). Adds state object.log files.log store.draft.changes files.draft.changes c.args.directory.value h c.args.number.value c.args.name.now) links.header
-          (subst (λ (h : Held g.row.D.Denot). Adds state h files.log store.draft.changes files.draft.changes c.args.directory.value c.in-Ok-relink_parent.header c.args.number.value c.args.name.now) links.log
-          (log_adds state store files c.args.directory.value c.in-Ok-relink_parent.header c.args.number.value c.args.name.now added.done))));
-      recounts = counts_after state c.args.self.now.store.log object.log files.log made.still.reads store.draft.changes files.draft.changes object.drafted files.drafted
-          (subst (λ (t : BlockTotals). Counts state object.log files.log store.draft.changes files.draft.changes t files.drafted) links.drafted
-          (subst (λ (h : Held g.row.D.Denot). Counts state h files.log store.draft.changes files.draft.changes store.drafted files.drafted) links.log
+      relinks = subst
+          (λ (k : Kind). RelinksParent object.draft.changes store.draft.changes c.args.directory.value c.args.header object.drafted k) back
+          (subst (λ (t : BlockTotals). RelinksParent object.draft.changes store.draft.changes c.args.directory.value c.args.header t
+          c.args.kind) links.drafted links.done);
+      adds = subst (λ (k : Kind). Adds state c.args.self.now.store.log files.log store.draft.changes files.draft.changes
+          c.args.directory.value (relinked c.args.header (more_links k c.args.header.links)) c.args.number.value c.args.name.now) back
+          (adds_after state c.args.self.now.store.log object.log files.log made.still.reads store.draft.changes files.draft.changes
+          c.args.directory.value (relinked c.args.header (more_links c.args.kind c.args.header.links)) c.args.number.value
+          c.args.name.now
+          (subst (λ (h : Header). Adds state object.log files.log store.draft.changes files.draft.changes c.args.directory.value h
+          c.args.number.value c.args.name.now) links.header
+          (subst (λ (h : Held g.row.D.Denot). Adds state h files.log store.draft.changes files.draft.changes c.args.directory.value
+          c.in-Ok-relink_parent.header c.args.number.value c.args.name.now) links.log
+          (log_adds state store files c.args.directory.value c.in-Ok-relink_parent.header c.args.number.value c.args.name.now
+          added.done))));
+      recounts = counts_after state c.args.self.now.store.log object.log files.log made.still.reads store.draft.changes files.draft.changes
+          object.drafted files.drafted
+          (subst (λ (t : BlockTotals). Counts state object.log files.log store.draft.changes files.draft.changes t files.drafted)
+          links.drafted
+          (subst (λ (h : Held g.row.D.Denot). Counts state h files.log store.draft.changes files.draft.changes store.drafted files.drafted)
+          links.log
           (log_counts state store files c.add.ensures.redrafts added.counted)));
     }
 
@@ -62,32 +78,43 @@ returns-in-Err-add-clause-refused g c =
     let made = c.in-Ok.ensures in
     let links = c.in-Ok-relink_parent.ensures in
     let failed = c.in-Err-add.ensures in
-    none_drafted state c.args.self.now record { alloc = c.relink_parent.new.self.alloc; store = c.add.new.files; handles = c.relink_parent.new.self.handles } c.requires.running c.in-Err-add.fault
+    none_drafted state c.args.self.now record {
+      alloc = c.relink_parent.new.self.alloc;
+      store = c.add.new.files;
+      handles = c.relink_parent.new.self.handles;
+    } c.requires.running c.in-Err-add.fault
     (λ device. fault_more state c.args.self.now.store.log c.draft_object.new.self.store.log c.add.new.files.log made.still.reads
-    (subst (λ (h : Held g.row.D.Denot). IsReadFault state h c.add.new.files.log) links.log (store_failed state c.relink_parent.new.self.store c.add.new.files (failed.failed device))))
-    (λ on. sym made.still.reads.halted ∙ sym (ap (λ (h : Held g.row.D.Denot). h.halted) links.log) ∙ failed.halted (ap Err on)) (λ full. failed.other (ap Err full)) c.from.result c.from.ensures
+    (subst (λ (h : Held g.row.D.Denot). IsReadFault state h c.add.new.files.log) links.log
+    (store_failed state c.relink_parent.new.self.store c.add.new.files (failed.failed device))))
+    (λ on. sym made.still.reads.halted ∙ sym (ap (λ (h : Held g.row.D.Denot). h.halted) links.log) ∙ failed.halted (ap Err on))
+    (λ full. failed.other (ap Err full)) c.from.result c.from.ensures
 
 pub returns-in-Ok-add-clause-still : goal.returns-in-Ok-add-clause-still
 returns-in-Ok-add-clause-still g c =
     let made = c.in-Ok.ensures in
     let links = c.in-Ok-relink_parent.ensures in
-    still_more g.D.SectorDevice.state (seen c.args.self.now) (seen c.draft_object.new.self) _ (g.met.D.SectorDevice.lawful c.args.self.now.store.log.device) made.still
+    still_more g.D.SectorDevice.state (seen c.args.self.now) (seen c.draft_object.new.self) _
+    (g.met.D.SectorDevice.lawful c.args.self.now.store.log.device) made.still
     (still_with g.D.SectorDevice.state c.draft_object.new.self c.relink_parent.new.self c.add.new.files links.handles
-    (still_drafted g.D.SectorDevice.state c.draft_object.new.self c.relink_parent.new.self.store c.add.new.files links.log links.saved c.add.ensures.redrafts))
+    (still_drafted g.D.SectorDevice.state c.draft_object.new.self c.relink_parent.new.self.store c.add.new.files links.log links.saved
+    c.add.ensures.redrafts))
 
 pub returns-in-Err-add-clause-still : goal.returns-in-Err-add-clause-still
 returns-in-Err-add-clause-still g c =
     let made = c.in-Ok.ensures in
     let links = c.in-Ok-relink_parent.ensures in
-    still_more g.D.SectorDevice.state (seen c.args.self.now) (seen c.draft_object.new.self) _ (g.met.D.SectorDevice.lawful c.args.self.now.store.log.device) made.still
+    still_more g.D.SectorDevice.state (seen c.args.self.now) (seen c.draft_object.new.self) _
+    (g.met.D.SectorDevice.lawful c.args.self.now.store.log.device) made.still
     (still_with g.D.SectorDevice.state c.draft_object.new.self c.relink_parent.new.self c.add.new.files links.handles
-    (still_drafted g.D.SectorDevice.state c.draft_object.new.self c.relink_parent.new.self.store c.add.new.files links.log links.saved c.add.ensures.redrafts))
+    (still_drafted g.D.SectorDevice.state c.draft_object.new.self c.relink_parent.new.self.store c.add.new.files links.log links.saved
+    c.add.ensures.redrafts))
 
 pub returns-in-Err-relink_parent-clause-still : goal.returns-in-Err-relink_parent-clause-still
 returns-in-Err-relink_parent-clause-still g c =
     let made = c.in-Ok.ensures in
     let links = c.in-Err-relink_parent.ensures in
-    still_more g.D.SectorDevice.state (seen c.args.self.now) (seen c.draft_object.new.self) (seen c.relink_parent.new.self) (g.met.D.SectorDevice.lawful c.args.self.now.store.log.device) made.still
+    still_more g.D.SectorDevice.state (seen c.args.self.now) (seen c.draft_object.new.self) (seen c.relink_parent.new.self)
+    (g.met.D.SectorDevice.lawful c.args.self.now.store.log.device) made.still
     (still_logged g.D.SectorDevice.state c.draft_object.new.self c.relink_parent.new.self links.log links.saved links.handles)
 
 pub returns-in-Err-relink_parent-clause-refused : goal.returns-in-Err-relink_parent-clause-refused
@@ -97,5 +124,6 @@ pub returns-in-Ok-add-clause-small : goal.returns-in-Ok-add-clause-small
 returns-in-Ok-add-clause-small g c =
     let object = c.draft_object.new.self.store.draft.changes in
     let linked = c.relink_parent.new.self.store in
-    grows_then c.args.self.now.store.draft.changes linked.draft.changes c.add.new.files.draft.changes 3 2 1 2 (grows_then c.args.self.now.store.draft.changes object linked.draft.changes 2 2 1 0 c.in-Ok.ensures.small c.in-Ok-relink_parent.ensures.small)
+    grows_then c.args.self.now.store.draft.changes linked.draft.changes c.add.new.files.draft.changes 3 2 1 2 (grows_then
+    c.args.self.now.store.draft.changes object linked.draft.changes 2 2 1 0 c.in-Ok.ensures.small c.in-Ok-relink_parent.ensures.small)
     (adds_grow g.D.SectorDevice.state linked c.add.new.files 1 2 c.in-Ok-add.ensures.small)

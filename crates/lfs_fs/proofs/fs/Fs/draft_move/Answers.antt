@@ -13,21 +13,25 @@ use Rattle.lfs_fs.proofs.fs.Fs.draft_move.Goals as goal
 pub returns-in-Err-take_name-clause-refused : goal.returns-in-Err-take_name-clause-refused
 returns-in-Err-take_name-clause-refused g c =
     of_take c.draft_links.new.self c.in-Ok.ensures.drafted
-    (subst (λ (h : Header). FailsOver g.D.SectorDevice.state c.draft_links.new.self c.take_name.new.self c.args.source.directory.value h c.args.source.name.now c.in-Err-take_name.fault) c.in-Ok.ensures.first
+    (subst (λ (h : Header). FailsOver g.D.SectorDevice.state c.draft_links.new.self c.take_name.new.self c.args.source.directory.value h
+    c.args.source.name.now c.in-Err-take_name.fault) c.in-Ok.ensures.first
     c.in-Err-take_name.ensures.refused)
 
 -- the header that is written to fits
 pub draft_target-requires-clause-size : goal.draft_target-requires-clause-size
 draft_target-requires-clause-size g c =
-    (later_fits c.args.source c.args.target c.requires.may _ _ c.later_holder-holder.result c.in-Ok.ensures.first c.in-Ok.ensures.second c.later_holder-holder.ensures).size
+    (later_fits c.args.source c.args.target c.requires.may _ _ c.later_holder-holder.result c.in-Ok.ensures.first c.in-Ok.ensures.second
+    c.later_holder-holder.ensures).size
 
 pub draft_target-requires-clause-room : goal.draft_target-requires-clause-room
 draft_target-requires-clause-room g c =
-    (later_fits c.args.source c.args.target c.requires.may _ _ c.later_holder-holder.result c.in-Ok.ensures.first c.in-Ok.ensures.second c.later_holder-holder.ensures).room
+    (later_fits c.args.source c.args.target c.requires.may _ _ c.later_holder-holder.result c.in-Ok.ensures.first c.in-Ok.ensures.second
+    c.later_holder-holder.ensures).room
 
 pub draft_target-requires-clause-name : goal.draft_target-requires-clause-name
 draft_target-requires-clause-name g c =
-    (later_fits c.args.source c.args.target c.requires.may _ _ c.later_holder-holder.result c.in-Ok.ensures.first c.in-Ok.ensures.second c.later_holder-holder.ensures).name
+    (later_fits c.args.source c.args.target c.requires.may _ _ c.later_holder-holder.result c.in-Ok.ensures.first c.in-Ok.ensures.second
+    c.later_holder-holder.ensures).name
 
 pub returns-clause-drafted : goal.returns-clause-drafted
 returns-clause-drafted g c =
@@ -38,18 +42,21 @@ returns-clause-drafted g c =
       mid = c.draft_links.new.self;
       links = c.in-Ok.ensures.drafted;
       still = c.in-Ok-take_name.ensures.still;
-      takes = subst (λ (h : Header). TakesOut state mid.log taken.log mid.draft.changes taken.draft.changes c.args.source.directory.value h c.args.source.name.now mid.drafted taken.drafted) c.in-Ok.ensures.first
+      takes = subst (λ (h : Header). TakesOut state mid.log taken.log mid.draft.changes taken.draft.changes c.args.source.directory.value h
+          c.args.source.name.now mid.drafted taken.drafted) c.in-Ok.ensures.first
           c.in-Ok-take_name.ensures.taken;
       apart = c.in-Ok-take_name.ensures.apart;
     } in
     let holder : c.later_holder-holder.result ≡ second_holder c.args.source c.args.target = c.later_holder-holder.ensures
-    ∙ (λ i. if c.args.source.directory.value == c.args.target.directory.value then shrunk (c.in-Ok.ensures.first i) else c.in-Ok.ensures.second i) in
+    ∙ (λ i. if c.args.source.directory.value == c.args.target.directory.value then shrunk (c.in-Ok.ensures.first i)
+    else c.in-Ok.ensures.second i) in
     ok_then2 c.draft_target.result _ _ _
     (λ named counted. record {
       taken = c.take_name.new.self;
       takes = takes;
       still = c.draft_target.ensures.still;
-      names = subst (λ (h : Header). NamesFound state c.args.target.replaced taken.log c.draft_target.new.self.store.log taken.draft.changes c.draft_target.new.self.store.draft.changes c.args.target.directory.value h
+      names = subst (λ (h : Header). NamesFound state c.args.target.replaced taken.log c.draft_target.new.self.store.log taken.draft.changes
+          c.draft_target.new.self.store.draft.changes c.args.target.directory.value h
           c.args.source.object.number.value c.args.target.name.now) holder named;
       recounts = counted;
     })
@@ -64,20 +71,25 @@ returns-clause-refused g c =
       mid = c.draft_links.new.self;
       links = c.in-Ok.ensures.drafted;
       still = c.in-Ok-take_name.ensures.still;
-      takes = subst (λ (h : Header). TakesOut state mid.log taken.log mid.draft.changes taken.draft.changes c.args.source.directory.value h c.args.source.name.now mid.drafted taken.drafted) c.in-Ok.ensures.first
+      takes = subst (λ (h : Header). TakesOut state mid.log taken.log mid.draft.changes taken.draft.changes c.args.source.directory.value h
+          c.args.source.name.now mid.drafted taken.drafted) c.in-Ok.ensures.first
           c.in-Ok-take_name.ensures.taken;
       apart = c.in-Ok-take_name.ensures.apart;
     } in
     let holder : c.later_holder-holder.result ≡ second_holder c.args.source c.args.target = c.later_holder-holder.ensures
-    ∙ (λ i. if c.args.source.directory.value == c.args.target.directory.value then shrunk (c.in-Ok.ensures.first i) else c.in-Ok.ensures.second i) in
+    ∙ (λ i. if c.args.source.directory.value == c.args.target.directory.value then shrunk (c.in-Ok.ensures.first i)
+    else c.in-Ok.ensures.second i) in
     fault_then c.draft_target.result _ _
     (λ fault fails. of_name c.take_name.new.self takes c.draft_target.ensures.still
-    (subst (λ (h : Header). FailsName state c.take_name.new.self c.draft_target.new.self c.args.target.directory.value h c.args.target.name.now c.args.target.replaced fault) holder fails))
+    (subst (λ (h : Header). FailsName state c.take_name.new.self c.draft_target.new.self c.args.target.directory.value h
+    c.args.target.name.now c.args.target.replaced fault) holder fails))
     c.draft_target.ensures.refused
 
 pub returns-clause-small : goal.returns-clause-small
 returns-clause-small g c =
     ok_then c.draft_target.result _ _
-    (grows_then c.args.self.now.store.draft.changes c.take_name.new.self.store.draft.changes c.draft_target.new.self.store.draft.changes 5 2 1 2
-    (grows_then c.args.self.now.store.draft.changes c.draft_links.new.self.store.draft.changes c.take_name.new.self.store.draft.changes 3 0 2 2 c.in-Ok.ensures.small c.in-Ok-take_name.ensures.small))
+    (grows_then c.args.self.now.store.draft.changes c.take_name.new.self.store.draft.changes c.draft_target.new.self.store.draft.changes 5 2
+    1 2
+    (grows_then c.args.self.now.store.draft.changes c.draft_links.new.self.store.draft.changes c.take_name.new.self.store.draft.changes 3 0
+    2 2 c.in-Ok.ensures.small c.in-Ok-take_name.ensures.small))
     c.draft_target.ensures.small

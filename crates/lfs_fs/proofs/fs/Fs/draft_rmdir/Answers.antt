@@ -19,7 +19,8 @@ use Rattle.lfs_fs.proofs.GrownDrafts.{takes_grow}
 use Rattle.lfs_fs.proofs.fs.Fs.draft_rmdir.Goals as goal
 
 pub take-requires : goal.take-requires
-take-requires g c = record { size = subst (λ (h : Header). h.size ≤ 1024 * slot_len h.form) (sym c.in-Ok-drop_subdirectory.ensures.header) c.requires.size }
+take-requires g c =
+    record { size = subst (λ (h : Header). h.size ≤ 1024 * slot_len h.form) (sym c.in-Ok-drop_subdirectory.ensures.header) c.requires.size }
 
 -- ---- the object stays
 pub returns-in-Err-clause-refused : goal.returns-in-Err-clause-refused
@@ -142,6 +143,7 @@ returns-in-Ok-true-clause-small g c =
     let gone = c.drop_object.new.self.store.draft.changes in
     let mid = c.drop_subdirectory.new.self.store in
     grows_then c.args.self.now.store.draft.changes mid.draft.changes c.take.new.files.draft.changes 1 0 2 2
-    (grows_then c.args.self.now.store.draft.changes gone mid.draft.changes 0 0 1 0 c.in-Ok.ensures.small c.in-Ok-drop_subdirectory.ensures.small)
+    (grows_then c.args.self.now.store.draft.changes gone mid.draft.changes 0 0 1 0 c.in-Ok.ensures.small
+    c.in-Ok-drop_subdirectory.ensures.small)
     (takes_grow g.D.SectorDevice.state mid c.take.new.files c.args.directory.value c.in-Ok-drop_subdirectory.holder c.args.name.now
     (c.in-Ok-true.ensures.done c.in-Ok-true.field-0-test))

@@ -8,7 +8,8 @@ use Rattle.lfs_fs.proofs.fs.Fs.draft_unlink.Goals as goal
 
 pub returns-in-Err-clause-refused : goal.returns-in-Err-clause-refused
 returns-in-Err-clause-refused g c =
-    none_lost g.D.SectorDevice.state c.args.self.now c.drop_link.new.self c.args.directory.value c.args.entry.holder c.args.entry.number.value c.args.name.now
+    none_lost g.D.SectorDevice.state c.args.self.now c.drop_link.new.self c.args.directory.value c.args.entry.holder
+    c.args.entry.number.value c.args.name.now
     c.in-Err.fault c.in-Err.ensures.refused
 
 pub returns-in-Ok-true-clause-drafted : goal.returns-in-Ok-true-clause-drafted
@@ -20,7 +21,8 @@ returns-in-Ok-true-clause-drafted g c =
       mid = c.drop_link.new.self;
       loses = c.in-Ok.ensures.lost;
       reads = log_redrafts state mid files c.take.ensures.redrafts;
-      takes = takes_behind state c.args.self.now.store.log mid.log files.log mid.draft.changes files.draft.changes c.args.directory.value c.args.entry.holder c.args.name.now mid.drafted files.drafted
+      takes = takes_behind state c.args.self.now.store.log mid.log files.log mid.draft.changes files.draft.changes c.args.directory.value
+          c.args.entry.holder c.args.name.now mid.drafted files.drafted
           c.in-Ok.ensures.still.reads
           (log_takes state mid files c.take.ensures.redrafts c.args.directory.value c.args.entry.holder c.args.name.now
           (c.in-Ok-true.ensures.done c.in-Ok-true.field-0-test) (c.in-Ok-true.ensures.counted c.in-Ok-true.field-0-test));
@@ -28,22 +30,28 @@ returns-in-Ok-true-clause-drafted g c =
 
 pub returns-in-Ok-false-clause-refused : goal.returns-in-Ok-false-clause-refused
 returns-in-Ok-false-clause-refused g c =
-    let after : Fs g.row.D.Denot = record { alloc = c.drop_link.new.self.alloc; store = c.take.new.files; handles = c.drop_link.new.self.handles } in
+    let after : Fs g.row.D.Denot =
+    record { alloc = c.drop_link.new.self.alloc; store = c.take.new.files; handles = c.drop_link.new.self.handles } in
     inr (
       refl,
-      never_lacks g.D.SectorDevice.state c.args.self.now c.drop_link.new.self after c.args.entry.number.value c.args.entry.header c.requires.empty c.in-Ok.ensures.lost c.in-Ok.ensures.still.reads
+      never_lacks g.D.SectorDevice.state c.args.self.now c.drop_link.new.self after c.args.entry.number.value c.args.entry.header
+          c.requires.empty c.in-Ok.ensures.lost c.in-Ok.ensures.still.reads
           c.args.directory.value c.args.entry.holder c.args.name.now (c.in-Ok-false.ensures.none c.in-Ok-false.field-0-test),
     )
 
 pub returns-in-Err-take-clause-refused : goal.returns-in-Err-take-clause-refused
 returns-in-Err-take-clause-refused g c =
-    let after : Fs g.row.D.Denot = record { alloc = c.drop_link.new.self.alloc; store = c.take.new.files; handles = c.drop_link.new.self.handles } in
-    fails_unlink g.D.SectorDevice.state c.args.self.now c.drop_link.new.self after c.args.entry.number.value c.args.entry.header c.requires.empty c.in-Ok.ensures.lost c.in-Ok.ensures.still.reads
+    let after : Fs g.row.D.Denot =
+    record { alloc = c.drop_link.new.self.alloc; store = c.take.new.files; handles = c.drop_link.new.self.handles } in
+    fails_unlink g.D.SectorDevice.state c.args.self.now c.drop_link.new.self after c.args.entry.number.value c.args.entry.header
+    c.requires.empty c.in-Ok.ensures.lost c.in-Ok.ensures.still.reads
     c.args.directory.value c.args.entry.holder c.args.name.now c.in-Err-take.fault (c.in-Ok.ensures.still.reads.halted ∙ c.requires.running)
-    c.in-Err-take.ensures.failed (λ on. c.in-Err-take.ensures.halted (ap Err on)) (λ full. c.in-Err-take.ensures.other (ap Err full)) c.from.result c.from.ensures
+    c.in-Err-take.ensures.failed (λ on. c.in-Err-take.ensures.halted (ap Err on)) (λ full. c.in-Err-take.ensures.other (ap Err full))
+    c.from.result c.from.ensures
 
 pub returns-in-Ok-true-clause-small : goal.returns-in-Ok-true-clause-small
 returns-in-Ok-true-clause-small g c =
     let mid = c.drop_link.new.self.store in
     grows_then c.args.self.now.store.draft.changes mid.draft.changes c.take.new.files.draft.changes 1 0 2 2 c.in-Ok.ensures.small
-    (takes_grow g.D.SectorDevice.state mid c.take.new.files c.args.directory.value c.args.entry.holder c.args.name.now (c.in-Ok-true.ensures.done c.in-Ok-true.field-0-test))
+    (takes_grow g.D.SectorDevice.state mid c.take.new.files c.args.directory.value c.args.entry.holder c.args.name.now
+    (c.in-Ok-true.ensures.done c.in-Ok-true.field-0-test))

@@ -5,10 +5,12 @@ use Rattle.lfs_fs.proofs.fs.Fs.drop_link.Goals as goal
 
 pub returns-then-gives-clause-lost : goal.returns-then-gives-clause-lost
 returns-then-gives-clause-lost g c =
-    unlinked_open g.D.SectorDevice.state c.args.self.now c.relink-then-gives.new.self c.args.number.value c.args.header c.requires.empty c.if-header-gt1.false
+    unlinked_open g.D.SectorDevice.state c.args.self.now c.relink-then-gives.new.self c.args.number.value c.args.header c.requires.empty
+    c.if-header-gt1.false
     (c.gives.ensures.«open» c.if-gives.true) c.relink-then-gives.result
     c.relink-then-gives.ensures.sets c.relink-then-gives.ensures.counted c.relink-then-gives.ensures.drafted
 
 pub returns-in-Ok-clause-small : goal.returns-in-Ok-clause-small
 returns-in-Ok-clause-small g c =
-    grows_weaker c.args.self.now.store.draft.changes c.remove.new.self.draft.changes 0 0 1 0 (omega arith) (omega arith) (removes_grows c.args.self.now.store.draft.changes c.remove.new.self.draft.changes c.args.number.value c.in-Ok.ensures.done)
+    grows_weaker c.args.self.now.store.draft.changes c.remove.new.self.draft.changes 0 0 1 0 (omega arith) (omega arith)
+    (removes_grows c.args.self.now.store.draft.changes c.remove.new.self.draft.changes c.args.number.value c.in-Ok.ensures.done)

@@ -10,4 +10,5 @@ returns-in-None-clause-small g c =
 
 pub returns-then-is_directory-clause-small : goal.returns-then-is_directory-clause-small
 returns-then-is_directory-clause-small g c =
-    ok_then c.drop_directory.result _ _ (grows_weaker c.args.self.now.store.draft.changes c.drop_directory.new.self.store.draft.changes 0 0 1 0 (omega arith) (omega arith)) c.drop_directory.ensures.small
+    ok_then c.drop_directory.result _ _ (grows_weaker c.args.self.now.store.draft.changes c.drop_directory.new.self.store.draft.changes 0 0
+    1 0 (omega arith) (omega arith)) c.drop_directory.ensures.small

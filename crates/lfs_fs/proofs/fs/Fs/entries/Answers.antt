@@ -6,25 +6,31 @@ use Rattle.lfs_fs.proofs.fs.Fs.entries.Goals as goal
 
 pub loop-name-init : goal.loop-name-init
 loop-name-init g c =
-    entries_none g.D.SectorDevice.state c.args.self.now c.args.names.items (into_iter_items c.into_iter-name-iterator.result) (into_iter_len c.into_iter-name-iterator.result) c.in-Ok.entries.items
-    c.into_iter-name-iterator.ensures.into_iter_gives.0 (c.into_iter-name-iterator.ensures.into_iter_gives.1 ∙ c.args.names.ok.0 ∙ sym (ap length c.into_iter-name-iterator.ensures.into_iter_gives.0)) c.in-Ok.ensures.items
+    entries_none g.D.SectorDevice.state c.args.self.now c.args.names.items (into_iter_items c.into_iter-name-iterator.result)
+    (into_iter_len c.into_iter-name-iterator.result) c.in-Ok.entries.items
+    c.into_iter-name-iterator.ensures.into_iter_gives.0 (c.into_iter-name-iterator.ensures.into_iter_gives.1 ∙ c.args.names.ok.0
+    ∙ sym (ap length c.into_iter-name-iterator.ensures.into_iter_gives.0)) c.in-Ok.ensures.items
 
 pub loop-name-preserved : goal.loop-name-preserved
 loop-name-preserved g c =
     let at = c.loop-name in
     let put = c.in-Ok-push_entry.ensures.answer in
-    entries_more g.D.SectorDevice.state c.args.self.now at.self c.push_entry.new.self c.args.names.items at.yielded (into_iter_items at.name-iterator) (into_iter_items c.next.new.self) (into_iter_len at.name-iterator)
-    at.entries.items at.invariant c.in-Some.name c.in-Some.ensures.steps.0 (g.met.D.SectorDevice.lawful c.args.self.now.store.log.device) c.in-Ok-push_entry.ensures.reads (into_iter_len c.next.new.self) (let gone = c.in-Some.ensures.steps.1 in omega (arith, gone)) put.0
+    entries_more g.D.SectorDevice.state c.args.self.now at.self c.push_entry.new.self c.args.names.items at.yielded
+    (into_iter_items at.name-iterator) (into_iter_items c.next.new.self) (into_iter_len at.name-iterator)
+    at.entries.items at.invariant c.in-Some.name c.in-Some.ensures.steps.0 (g.met.D.SectorDevice.lawful c.args.self.now.store.log.device)
+    c.in-Ok-push_entry.ensures.reads (into_iter_len c.next.new.self) (let gone = c.in-Some.ensures.steps.1 in omega (arith, gone)) put.0
     c.push_entry.new.entries.items put.1 put.2
 
 pub returns-in-Err-clause-reads : goal.returns-in-Err-clause-reads
 returns-in-Err-clause-reads g c =
-    reads_again g.D.SectorDevice.state c.args.self.now c.loop-name.self c.push_entry.new.self c.loop-name.invariant.reads (g.met.D.SectorDevice.lawful c.args.self.now.store.log.device) c.in-Err.ensures.reads
+    reads_again g.D.SectorDevice.state c.args.self.now c.loop-name.self c.push_entry.new.self c.loop-name.invariant.reads
+    (g.met.D.SectorDevice.lawful c.args.self.now.store.log.device) c.in-Err.ensures.reads
 
 pub returns-in-Err-clause-missing : goal.returns-in-Err-clause-missing
 returns-in-Err-clause-missing g c =
     let at = c.loop-name in
-    entries_lack g.D.SectorDevice.state c.args.self.now at.self c.push_entry.new.self c.args.names.items at.yielded (into_iter_items at.name-iterator) (into_iter_items c.next.new.self) (into_iter_len at.name-iterator)
+    entries_lack g.D.SectorDevice.state c.args.self.now at.self c.push_entry.new.self c.args.names.items at.yielded
+    (into_iter_items at.name-iterator) (into_iter_items c.next.new.self) (into_iter_len at.name-iterator)
     at.entries.items at.invariant c.in-Some.name c.in-Some.ensures.steps.0 c.in-Err.fault c.in-Err.ensures.reads c.in-Err.ensures.missing
 
 pub returns-clause-reads : goal.returns-clause-reads
@@ -33,4 +39,5 @@ returns-clause-reads g c = c.loop-name.invariant.reads
 pub returns-clause-answer : goal.returns-clause-answer
 returns-clause-answer g c =
     let at = c.loop-name in
-    entries_all g.D.SectorDevice.state c.args.self.now at.self c.args.names.items at.yielded (into_iter_items at.name-iterator) (into_iter_len at.name-iterator) at.entries.items at.invariant c.in-None.ensures.steps.0
+    entries_all g.D.SectorDevice.state c.args.self.now at.self c.args.names.items at.yielded (into_iter_items at.name-iterator)
+    (into_iter_len at.name-iterator) at.entries.items at.invariant c.in-None.ensures.steps.0

@@ -12,17 +12,23 @@ returns-in-Ok-clause-reads g c =
     let state = g.D.SectorDevice.state in
     let list = c.in-Ok.ensures in
     let listed : Fs g.row.D.Denot = record { alloc = c.args.self.now.alloc; store = c.list.new.files; handles = c.args.self.now.handles } in
-    let first = store_reads state c.args.self.now listed (log_reads state c.args.self.now.store c.list.new.files list.reads) list.reads.draft list.reads.saved (same_totals state c.args.self.now.store c.list.new.files list.reads) (same_drafted state c.args.self.now.store c.list.new.files list.reads) refl in
-    reads_again state c.args.self.now listed c.entries.new.self first (g.met.D.SectorDevice.lawful c.args.self.now.store.log.device) c.entries.ensures.reads
+    let first = store_reads state c.args.self.now listed (log_reads state c.args.self.now.store c.list.new.files list.reads)
+    list.reads.draft list.reads.saved (same_totals state c.args.self.now.store c.list.new.files list.reads)
+    (same_drafted state c.args.self.now.store c.list.new.files list.reads) refl in
+    reads_again state c.args.self.now listed c.entries.new.self first (g.met.D.SectorDevice.lawful c.args.self.now.store.log.device)
+    c.entries.ensures.reads
 
 pub returns-in-Ok-clause-answer : goal.returns-in-Ok-clause-answer
 returns-in-Ok-clause-answer g c =
     let state = g.D.SectorDevice.state in
     let list = c.in-Ok.ensures in
     let listed : Fs g.row.D.Denot = record { alloc = c.args.self.now.alloc; store = c.list.new.files; handles = c.args.self.now.handles } in
-    let first = store_reads state c.args.self.now listed (log_reads state c.args.self.now.store c.list.new.files list.reads) list.reads.draft list.reads.saved (same_totals state c.args.self.now.store c.list.new.files list.reads) (same_drafted state c.args.self.now.store c.list.new.files list.reads) refl in
+    let first = store_reads state c.args.self.now listed (log_reads state c.args.self.now.store c.list.new.files list.reads)
+    list.reads.draft list.reads.saved (same_totals state c.args.self.now.store c.list.new.files list.reads)
+    (same_drafted state c.args.self.now.store c.list.new.files list.reads) refl in
     answer_then c.entries.result _ _
-    (λ entries told. listing_tells state c.args.self.now listed first c.args.directory.value c.args.header c.in-Ok.names.items (each_drafted state c.args.self.now.store c.list.new.files _ list.answer) c.entries.new.self c.entries.ensures.reads entries.items told)
+    (λ entries told. listing_tells state c.args.self.now listed first c.args.directory.value c.args.header c.in-Ok.names.items (each_drafted
+    state c.args.self.now.store c.list.new.files _ list.answer) c.entries.new.self c.entries.ensures.reads entries.items told)
     c.entries.ensures.answer
 
 pub returns-in-Ok-clause-missing : goal.returns-in-Ok-clause-missing
@@ -30,9 +36,12 @@ returns-in-Ok-clause-missing g c =
     let state = g.D.SectorDevice.state in
     let list = c.in-Ok.ensures in
     let listed : Fs g.row.D.Denot = record { alloc = c.args.self.now.alloc; store = c.list.new.files; handles = c.args.self.now.handles } in
-    let first = store_reads state c.args.self.now listed (log_reads state c.args.self.now.store c.list.new.files list.reads) list.reads.draft list.reads.saved (same_totals state c.args.self.now.store c.list.new.files list.reads) (same_drafted state c.args.self.now.store c.list.new.files list.reads) refl in
+    let first = store_reads state c.args.self.now listed (log_reads state c.args.self.now.store c.list.new.files list.reads)
+    list.reads.draft list.reads.saved (same_totals state c.args.self.now.store c.list.new.files list.reads)
+    (same_drafted state c.args.self.now.store c.list.new.files list.reads) refl in
     fault_then c.entries.result _ _
-    (λ fault lacks. listing_lacks state c.args.self.now listed first c.args.directory.value c.args.header c.in-Ok.names.items (each_drafted state c.args.self.now.store c.list.new.files _ list.answer) c.entries.new.self c.entries.ensures.reads fault lacks)
+    (λ fault lacks. listing_lacks state c.args.self.now listed first c.args.directory.value c.args.header c.in-Ok.names.items
+    (each_drafted state c.args.self.now.store c.list.new.files _ list.answer) c.entries.new.self c.entries.ensures.reads fault lacks)
     c.entries.ensures.missing
 
 pub returns-in-Err-clause-reads : goal.returns-in-Err-clause-reads
@@ -40,13 +49,18 @@ returns-in-Err-clause-reads g c =
     let state = g.D.SectorDevice.state in
     let list = c.in-Err.ensures in
     let listed : Fs g.row.D.Denot = record { alloc = c.args.self.now.alloc; store = c.list.new.files; handles = c.args.self.now.handles } in
-    store_reads state c.args.self.now listed (log_reads state c.args.self.now.store c.list.new.files list.reads) list.reads.draft list.reads.saved (same_totals state c.args.self.now.store c.list.new.files list.reads) (same_drafted state c.args.self.now.store c.list.new.files list.reads) refl
+    store_reads state c.args.self.now listed (log_reads state c.args.self.now.store c.list.new.files list.reads) list.reads.draft
+    list.reads.saved (same_totals state c.args.self.now.store c.list.new.files list.reads)
+    (same_drafted state c.args.self.now.store c.list.new.files list.reads) refl
 
 pub returns-in-Err-clause-missing : goal.returns-in-Err-clause-missing
 returns-in-Err-clause-missing g c =
     let state = g.D.SectorDevice.state in
     let list = c.in-Err.ensures in
     let listed : Fs g.row.D.Denot = record { alloc = c.args.self.now.alloc; store = c.list.new.files; handles = c.args.self.now.handles } in
-    let first = store_reads state c.args.self.now listed (log_reads state c.args.self.now.store c.list.new.files list.reads) list.reads.draft list.reads.saved (same_totals state c.args.self.now.store c.list.new.files list.reads) (same_drafted state c.args.self.now.store c.list.new.files list.reads) refl in
+    let first = store_reads state c.args.self.now listed (log_reads state c.args.self.now.store c.list.new.files list.reads)
+    list.reads.draft list.reads.saved (same_totals state c.args.self.now.store c.list.new.files list.reads)
+    (same_drafted state c.args.self.now.store c.list.new.files list.reads) refl in
     list_lacks state c.args.self.now listed first c.args.directory.value c.args.header c.in-Err.fault c.from.result c.from.ensures
-    (λ other. each_drafted state c.args.self.now.store c.list.new.files _ (list.failed other)) (λ e. list.halted (ap Err e)) (λ e. list.other (ap Err e))
+    (λ other. each_drafted state c.args.self.now.store c.list.new.files _ (list.failed other)) (λ e. list.halted (ap Err e))
+    (λ e. list.other (ap Err e))

@@ -6,25 +6,31 @@ use Rattle.lfs_fs.proofs.fs.Fs.entry_rows.Goals as goal
 
 pub loop-entry-init : goal.loop-entry-init
 loop-entry-init g c =
-    rows_none g.D.SectorDevice.state c.args.self.now c.args.directory.value c.args.entries.items (into_iter_items c.into_iter-entry-iterator.result) (into_iter_len c.into_iter-entry-iterator.result) c.in-Ok.rows.items
-    c.into_iter-entry-iterator.ensures.into_iter_gives.0 (c.into_iter-entry-iterator.ensures.into_iter_gives.1 ∙ c.args.entries.ok.0 ∙ sym (ap length c.into_iter-entry-iterator.ensures.into_iter_gives.0)) c.in-Ok.ensures.items
+    rows_none g.D.SectorDevice.state c.args.self.now c.args.directory.value c.args.entries.items
+    (into_iter_items c.into_iter-entry-iterator.result) (into_iter_len c.into_iter-entry-iterator.result) c.in-Ok.rows.items
+    c.into_iter-entry-iterator.ensures.into_iter_gives.0 (c.into_iter-entry-iterator.ensures.into_iter_gives.1 ∙ c.args.entries.ok.0
+    ∙ sym (ap length c.into_iter-entry-iterator.ensures.into_iter_gives.0)) c.in-Ok.ensures.items
 
 pub loop-entry-preserved : goal.loop-entry-preserved
 loop-entry-preserved g c =
     let at = c.loop-entry in
     let put = c.in-Ok-push_row.ensures.answer in
-    rows_more g.D.SectorDevice.state c.args.self.now at.self c.push_row.new.self c.args.directory.value c.args.entries.items at.yielded (into_iter_items at.entry-iterator) (into_iter_items c.next.new.self) (into_iter_len at.entry-iterator)
-    at.rows.items at.invariant c.in-Some.entry c.in-Some.ensures.steps.0 (g.met.D.SectorDevice.lawful c.args.self.now.store.log.device) c.in-Ok-push_row.ensures.reads (into_iter_len c.next.new.self) (let gone = c.in-Some.ensures.steps.1 in omega (arith, gone)) put.0
+    rows_more g.D.SectorDevice.state c.args.self.now at.self c.push_row.new.self c.args.directory.value c.args.entries.items at.yielded
+    (into_iter_items at.entry-iterator) (into_iter_items c.next.new.self) (into_iter_len at.entry-iterator)
+    at.rows.items at.invariant c.in-Some.entry c.in-Some.ensures.steps.0 (g.met.D.SectorDevice.lawful c.args.self.now.store.log.device)
+    c.in-Ok-push_row.ensures.reads (into_iter_len c.next.new.self) (let gone = c.in-Some.ensures.steps.1 in omega (arith, gone)) put.0
     c.push_row.new.rows.items put.1 put.2
 
 pub returns-in-Err-clause-reads : goal.returns-in-Err-clause-reads
 returns-in-Err-clause-reads g c =
-    reads_again g.D.SectorDevice.state c.args.self.now c.loop-entry.self c.push_row.new.self c.loop-entry.invariant.reads (g.met.D.SectorDevice.lawful c.args.self.now.store.log.device) c.in-Err.ensures.reads
+    reads_again g.D.SectorDevice.state c.args.self.now c.loop-entry.self c.push_row.new.self c.loop-entry.invariant.reads
+    (g.met.D.SectorDevice.lawful c.args.self.now.store.log.device) c.in-Err.ensures.reads
 
 pub returns-in-Err-clause-missing : goal.returns-in-Err-clause-missing
 returns-in-Err-clause-missing g c =
     let at = c.loop-entry in
-    rows_lack g.D.SectorDevice.state c.args.self.now at.self c.push_row.new.self c.args.directory.value c.args.entries.items at.yielded (into_iter_items at.entry-iterator) (into_iter_items c.next.new.self) (into_iter_len at.entry-iterator)
+    rows_lack g.D.SectorDevice.state c.args.self.now at.self c.push_row.new.self c.args.directory.value c.args.entries.items at.yielded
+    (into_iter_items at.entry-iterator) (into_iter_items c.next.new.self) (into_iter_len at.entry-iterator)
     at.rows.items at.invariant c.in-Some.entry c.in-Some.ensures.steps.0 c.in-Err.fault c.in-Err.ensures.reads c.in-Err.ensures.missing
 
 pub returns-clause-reads : goal.returns-clause-reads
@@ -33,4 +39,5 @@ returns-clause-reads g c = c.loop-entry.invariant.reads
 pub returns-clause-answer : goal.returns-clause-answer
 returns-clause-answer g c =
     let at = c.loop-entry in
-    rows_all g.D.SectorDevice.state c.args.self.now at.self c.args.directory.value c.args.entries.items at.yielded (into_iter_items at.entry-iterator) (into_iter_len at.entry-iterator) at.rows.items at.invariant c.in-None.ensures.steps.0
+    rows_all g.D.SectorDevice.state c.args.self.now at.self c.args.directory.value c.args.entries.items at.yielded
+    (into_iter_items at.entry-iterator) (into_iter_len at.entry-iterator) at.rows.items at.invariant c.in-None.ensures.steps.0

@@ -4,4 +4,5 @@ use Rattle.lfs_fs.proofs.fs.Fs.entry_rows.Given as goal
 
 abbrev pub invariant-loop-entry : goal.invariant-loop-entry
 invariant-loop-entry g l =
-    RowsSoFar g.D.SectorDevice.state l.fn.self l.self l.fn.directory.value l.fn.entries.items l.yielded (into_iter_items l.entry-iterator) (into_iter_len l.entry-iterator) l.rows.items
+    RowsSoFar g.D.SectorDevice.state l.fn.self l.self l.fn.directory.value l.fn.entries.items l.yielded (into_iter_items l.entry-iterator)
+    (into_iter_len l.entry-iterator) l.rows.items

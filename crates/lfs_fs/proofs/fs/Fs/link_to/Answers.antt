@@ -54,4 +54,5 @@ returns-in-Err-draft_name g c v from to holder sees reached =
 
 pub accept-requires-clause-room : goal.accept-requires-clause-room
 accept-requires-clause-room g c =
-    begun_fits c.args.self.now.store.draft c.check_new_entry.new.self.store.draft c.draft_name.new.self.store.draft.changes 2 2 (omega arith) c.requires.empty c.in-Ok.ensures.reads.draft c.in-Ok-draft_name.ensures.small
+    begun_fits c.args.self.now.store.draft c.check_new_entry.new.self.store.draft c.draft_name.new.self.store.draft.changes 2 2
+    (omega arith) c.requires.empty c.in-Ok.ensures.reads.draft c.in-Ok-draft_name.ensures.small

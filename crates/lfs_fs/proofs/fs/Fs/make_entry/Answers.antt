@@ -8,21 +8,35 @@ use Rattle.lfs_fs.proofs.fs.Fs.make_entry.Goals as goal
 pub returns-in-Ok-clause-made : goal.returns-in-Ok-clause-made
 returns-in-Ok-clause-made g c =
     ok_then c.accept.result _ _
-    (λ stages. record { mid = c.draft_entry.new.self; ready = record { still = c.in-Ok.ensures.still; drafts = c.in-Ok.ensures.drafted }; stages = stages; table = c.accept.ensures.rest })
+    (λ stages. record {
+      mid = c.draft_entry.new.self;
+      ready = record { still = c.in-Ok.ensures.still; drafts = c.in-Ok.ensures.drafted };
+      stages = stages;
+      table = c.accept.ensures.rest;
+    })
     c.accept.ensures.done
 
 pub returns-in-Ok-clause-refused : goal.returns-in-Ok-clause-refused
 returns-in-Ok-clause-refused g c =
     fault_then c.accept.result _ _
-    (λ fault turns. inl (record { mid = c.draft_entry.new.self; ready = record { still = c.in-Ok.ensures.still; drafts = c.in-Ok.ensures.drafted }; turns = turns; table = c.accept.ensures.rest }))
+    (λ fault turns. inl (record {
+      mid = c.draft_entry.new.self;
+      ready = record { still = c.in-Ok.ensures.still; drafts = c.in-Ok.ensures.drafted };
+      turns = turns;
+      table = c.accept.ensures.rest;
+    }))
     c.accept.ensures.refused
 
 pub returns-in-Err-clause-refused : goal.returns-in-Err-clause-refused
 returns-in-Err-clause-refused g c =
-    none_made g.D.SectorDevice.state c.args.self.now c.draft_entry.new.self record { alloc = c.draft_entry.new.self.alloc; store = c.give_up.new.self; handles = c.draft_entry.new.self.handles }
-    c.args.directory.value c.args.header c.args.number.value (new_kind c.args.self.now.store.log.version c.args.kind c.args.text.now) c.args.name.now c.in-Err.fault c.in-Err.ensures.still
-    (seen_same g.D.SectorDevice.state c.draft_entry.new.self c.give_up.new.self c.give_up.ensures.log c.give_up.ensures.saved) c.in-Err.ensures.refused
+    none_made g.D.SectorDevice.state c.args.self.now c.draft_entry.new.self
+    record { alloc = c.draft_entry.new.self.alloc; store = c.give_up.new.self; handles = c.draft_entry.new.self.handles }
+    c.args.directory.value c.args.header c.args.number.value (new_kind c.args.self.now.store.log.version c.args.kind c.args.text.now)
+    c.args.name.now c.in-Err.fault c.in-Err.ensures.still
+    (seen_same g.D.SectorDevice.state c.draft_entry.new.self c.give_up.new.self c.give_up.ensures.log c.give_up.ensures.saved)
+    c.in-Err.ensures.refused
 
 pub accept-requires-clause-room : goal.accept-requires-clause-room
 accept-requires-clause-room g c =
-    grown_fits c.args.self.now.store.draft.changes c.draft_entry.new.self.store.draft.changes 4 4 (omega arith) c.requires.empty c.in-Ok.ensures.small
+    grown_fits c.args.self.now.store.draft.changes c.draft_entry.new.self.store.draft.changes 4 4
+    (omega arith) c.requires.empty c.in-Ok.ensures.small

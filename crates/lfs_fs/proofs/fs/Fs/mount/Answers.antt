@@ -7,18 +7,21 @@ use Rattle.lfs_fs.proofs.fs.Fs.mount.Goals as goal
 
 pub with_tables-requires-clause-found : goal.with_tables-requires-clause-found
 with_tables-requires-clause-found g c =
-    tables_there (g.D.SectorDevice.state c.in-Ok.device) (g.D.SectorDevice.state c.verify_tree.new.device) c.in-Ok-verify_tree.ensures.looks c.in-Ok-verify_tree.tables c.in-Ok-verify_tree.ensures.found
+    tables_there (g.D.SectorDevice.state c.in-Ok.device) (g.D.SectorDevice.state c.verify_tree.new.device) c.in-Ok-verify_tree.ensures.looks
+    c.in-Ok-verify_tree.tables c.in-Ok-verify_tree.ensures.found
 
 pub with_tables-requires-clause-durable : goal.with_tables-requires-clause-durable
 with_tables-requires-clause-durable g c =
-    only_there (g.D.SectorDevice.state c.in-Ok.device) (g.D.SectorDevice.state c.verify_tree.new.device) c.in-Ok-verify_tree.ensures.looks c.in-Ok-verify_tree.ensures.durable
+    only_there (g.D.SectorDevice.state c.in-Ok.device) (g.D.SectorDevice.state c.verify_tree.new.device) c.in-Ok-verify_tree.ensures.looks
+    c.in-Ok-verify_tree.ensures.durable
 
 pub returns-in-Ok-with_tables-clause-mounts : goal.returns-in-Ok-with_tables-clause-mounts
 returns-in-Ok-with_tables-clause-mounts g c =
     let told = c.in-Ok-with_tables.ensures in
     let fs : Fs g.row.D.Denot = record { alloc = c.args.alloc; store = c.in-Ok-with_tables.store; handles = c.new.result } in
     subst (λ (d : g.row.D.Denot). MountsFs g.D.SectorDevice.state d fs) c.in-Ok.ensures.same
-    (mounts_fs g.D.SectorDevice.state c.in-Ok.device c.verify_tree.new.device (g.met.D.SectorDevice.lawful c.in-Ok.device) c.in-Ok-verify_tree.ensures.looks fs told.same told.stores told.counts
+    (mounts_fs g.D.SectorDevice.state c.in-Ok.device c.verify_tree.new.device
+    (g.met.D.SectorDevice.lawful c.in-Ok.device) c.in-Ok-verify_tree.ensures.looks fs told.same told.stores told.counts
     c.in-Ok-verify_tree.ensures.durable told.saved c.new.ensures)
 
 pub returns-in-Ok-with_tables-clause-only : goal.returns-in-Ok-with_tables-clause-only
@@ -26,30 +29,38 @@ returns-in-Ok-with_tables-clause-only g c =
     let told = c.in-Ok-with_tables.ensures in
     let fs : Fs g.row.D.Denot = record { alloc = c.args.alloc; store = c.in-Ok-with_tables.store; handles = c.new.result } in
     subst (λ (d : g.row.D.Denot). FindsState g.D.SectorDevice.state d fs) c.in-Ok.ensures.same
-    (finds_state g.D.SectorDevice.state c.in-Ok.device c.verify_tree.new.device (g.met.D.SectorDevice.lawful c.in-Ok.device) c.in-Ok-verify_tree.ensures.looks fs told.same told.stores told.counts
+    (finds_state g.D.SectorDevice.state c.in-Ok.device c.verify_tree.new.device
+    (g.met.D.SectorDevice.lawful c.in-Ok.device) c.in-Ok-verify_tree.ensures.looks fs told.same told.stores told.counts
     c.in-Ok-verify_tree.ensures.durable told.saved c.new.ensures c.in-Ok-verify_tree.tables c.in-Ok-verify_tree.ensures.found)
 
 pub returns-in-Ok-with_tables-clause-durable : goal.returns-in-Ok-with_tables-clause-durable
 returns-in-Ok-with_tables-clause-durable g c =
     let told = c.in-Ok-with_tables.ensures in
     let fs : Fs g.row.D.Denot = record { alloc = c.args.alloc; store = c.in-Ok-with_tables.store; handles = c.new.result } in
-    subst (λ (d : g.row.D.Denot). (g.D.SectorDevice.state fs.store.log.device).keeps_model → Only (g.D.SectorDevice.state d).content (g.D.SectorDevice.state fs.store.log.device)) c.in-Ok.ensures.same
-    (durable_now g.D.SectorDevice.state c.in-Ok.device c.verify_tree.new.device (g.met.D.SectorDevice.lawful c.in-Ok.device) c.in-Ok-verify_tree.ensures.looks fs told.same told.stores told.counts
+    subst (λ (d : g.row.D.Denot). (g.D.SectorDevice.state fs.store.log.device).keeps_model
+    → Only (g.D.SectorDevice.state d).content (g.D.SectorDevice.state fs.store.log.device)) c.in-Ok.ensures.same
+    (durable_now g.D.SectorDevice.state c.in-Ok.device c.verify_tree.new.device
+    (g.met.D.SectorDevice.lawful c.in-Ok.device) c.in-Ok-verify_tree.ensures.looks fs told.same told.stores told.counts
     c.in-Ok-verify_tree.ensures.durable)
 
 pub returns-in-Err-with_tables-clause-cause : goal.returns-in-Err-with_tables-clause-cause
 returns-in-Err-with_tables-clause-cause g c =
-    memory_fault (g.D.SectorDevice.state c.args.device) (g.D.SectorDevice.state c.in-Err-with_tables.fault.1) c.in-Err-with_tables.fault.0 c.in-Err-with_tables.ensures.refused
+    memory_fault (g.D.SectorDevice.state c.args.device) (g.D.SectorDevice.state c.in-Err-with_tables.fault.1) c.in-Err-with_tables.fault.0
+    c.in-Err-with_tables.ensures.refused
 
 pub returns-in-Err-with_tables-clause-reason : goal.returns-in-Err-with_tables-clause-reason
 returns-in-Err-with_tables-clause-reason g c =
-    memory_reason (g.D.SectorDevice.state c.args.device) (g.D.SectorDevice.state c.in-Err-with_tables.fault.1) c.in-Err-with_tables.fault.0 c.in-Err-with_tables.ensures.refused
+    memory_reason (g.D.SectorDevice.state c.args.device) (g.D.SectorDevice.state c.in-Err-with_tables.fault.1) c.in-Err-with_tables.fault.0
+    c.in-Err-with_tables.ensures.refused
 
 pub returns-in-Err-clause-cause : goal.returns-in-Err-clause-cause
 returns-in-Err-clause-cause g c other =
-    subst (λ (d : g.row.D.Denot). IsMountFault (g.D.SectorDevice.state c.args.device) (g.D.SectorDevice.state d) c.in-Err.fault.0) (sym c.in-Err.ensures.same) (c.in-Err.ensures.cause other)
+    subst (λ (d : g.row.D.Denot). IsMountFault (g.D.SectorDevice.state c.args.device) (g.D.SectorDevice.state d) c.in-Err.fault.0)
+    (sym c.in-Err.ensures.same) (c.in-Err.ensures.cause other)
 
 pub returns-in-Err-verify_tree-clause-cause : goal.returns-in-Err-verify_tree-clause-cause
 returns-in-Err-verify_tree-clause-cause g c other =
-    subst (λ (d : g.row.D.Denot). IsMountFault (g.D.SectorDevice.state d) (g.D.SectorDevice.state c.into_inner.result) c.in-Err-verify_tree.fault) c.in-Ok.ensures.same
-    (subst (λ (d : g.row.D.Denot). IsMountFault (g.D.SectorDevice.state c.in-Ok.device) (g.D.SectorDevice.state d) c.in-Err-verify_tree.fault) (sym c.into_inner.ensures) (c.in-Err-verify_tree.ensures.cause other))
+    subst (λ (d : g.row.D.Denot). IsMountFault (g.D.SectorDevice.state d)
+    (g.D.SectorDevice.state c.into_inner.result) c.in-Err-verify_tree.fault) c.in-Ok.ensures.same
+    (subst (λ (d : g.row.D.Denot). IsMountFault (g.D.SectorDevice.state c.in-Ok.device)
+    (g.D.SectorDevice.state d) c.in-Err-verify_tree.fault) (sym c.into_inner.ensures) (c.in-Err-verify_tree.ensures.cause other))

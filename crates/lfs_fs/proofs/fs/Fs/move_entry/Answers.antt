@@ -7,13 +7,23 @@ use Rattle.lfs_fs.proofs.fs.Fs.move_entry.Goals as goal
 pub returns-in-Ok-clause-moved : goal.returns-in-Ok-clause-moved
 returns-in-Ok-clause-moved g c =
     ok_then c.accept.result _ _
-    (λ stages. record { mid = c.draft_move.new.self; ready = record { still = c.in-Ok.ensures.still; drafts = c.in-Ok.ensures.drafted }; stages = stages; table = c.accept.ensures.rest })
+    (λ stages. record {
+      mid = c.draft_move.new.self;
+      ready = record { still = c.in-Ok.ensures.still; drafts = c.in-Ok.ensures.drafted };
+      stages = stages;
+      table = c.accept.ensures.rest;
+    })
     c.accept.ensures.done
 
 pub returns-in-Ok-clause-refused : goal.returns-in-Ok-clause-refused
 returns-in-Ok-clause-refused g c =
     fault_then c.accept.result _ _
-    (λ fault turns. inl (record { mid = c.draft_move.new.self; ready = record { still = c.in-Ok.ensures.still; drafts = c.in-Ok.ensures.drafted }; turns = turns; table = c.accept.ensures.rest }))
+    (λ fault turns. inl (record {
+      mid = c.draft_move.new.self;
+      ready = record { still = c.in-Ok.ensures.still; drafts = c.in-Ok.ensures.drafted };
+      turns = turns;
+      table = c.accept.ensures.rest;
+    }))
     c.accept.ensures.refused
 
 pub returns-in-Err-clause-refused : goal.returns-in-Err-clause-refused
@@ -26,4 +36,5 @@ returns-in-Err-clause-refused g c = inr (record {
 
 pub accept-requires-clause-room : goal.accept-requires-clause-room
 accept-requires-clause-room g c =
-    grown_fits c.args.self.now.store.draft.changes c.draft_move.new.self.store.draft.changes 6 4 (omega arith) c.requires.empty c.in-Ok.ensures.small
+    grown_fits c.args.self.now.store.draft.changes c.draft_move.new.self.store.draft.changes 6 4
+    (omega arith) c.requires.empty c.in-Ok.ensures.small

@@ -8,4 +8,5 @@ returns-then-not-changes-clause-small g c =
 
 pub returns-in-Ok-clause-small : goal.returns-in-Ok-clause-small
 returns-in-Ok-clause-small g c =
-    relinks_grows c.args.self.now.store.draft.changes c.set_links.new.self.draft.changes c.args.directory.value c.args.header c.args.links c.in-Ok.ensures.done
+    relinks_grows c.args.self.now.store.draft.changes c.set_links.new.self.draft.changes c.args.directory.value c.args.header c.args.links
+    c.in-Ok.ensures.done

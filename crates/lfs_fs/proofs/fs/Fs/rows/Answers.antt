@@ -10,17 +10,20 @@ pub loop-number-preserved : goal.loop-number-preserved
 loop-number-preserved g c =
     let at = c.loop-number in
     let put = c.in-Ok.ensures.answer in
-    tree_more g.D.SectorDevice.state c.args.self.now at.self c.push_rows.new.self at.number at.rows.items at.invariant (g.met.D.SectorDevice.lawful c.args.self.now.store.log.device) c.in-Ok.ensures.reads c.loop-number-test.true
+    tree_more g.D.SectorDevice.state c.args.self.now at.self c.push_rows.new.self at.number at.rows.items at.invariant
+    (g.met.D.SectorDevice.lawful c.args.self.now.store.log.device) c.in-Ok.ensures.reads c.loop-number-test.true
     put.0 c.push_rows.new.rows.items put.1 put.2
 
 pub returns-in-Err-clause-reads : goal.returns-in-Err-clause-reads
 returns-in-Err-clause-reads g c =
-    reads_again g.D.SectorDevice.state c.args.self.now c.loop-number.self c.push_rows.new.self c.loop-number.invariant.reads (g.met.D.SectorDevice.lawful c.args.self.now.store.log.device) c.in-Err.ensures.reads
+    reads_again g.D.SectorDevice.state c.args.self.now c.loop-number.self c.push_rows.new.self c.loop-number.invariant.reads
+    (g.met.D.SectorDevice.lawful c.args.self.now.store.log.device) c.in-Err.ensures.reads
 
 pub returns-in-Err-clause-missing : goal.returns-in-Err-clause-missing
 returns-in-Err-clause-missing g c =
     let at = c.loop-number in
-    tree_lacks g.D.SectorDevice.state c.args.self.now at.self c.push_rows.new.self at.number at.rows.items at.invariant c.in-Err.fault c.in-Err.ensures.reads c.in-Err.ensures.missing
+    tree_lacks g.D.SectorDevice.state c.args.self.now at.self c.push_rows.new.self at.number at.rows.items at.invariant c.in-Err.fault
+    c.in-Err.ensures.reads c.in-Err.ensures.missing
 
 pub returns-clause-reads : goal.returns-clause-reads
 returns-clause-reads g c = c.loop-number.invariant.reads

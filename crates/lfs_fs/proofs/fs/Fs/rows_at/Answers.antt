@@ -8,13 +8,15 @@ use Rattle.lfs_fs.proofs.fs.Fs.rows_at.Goals as goal
 
 pub returns-in-Directory-clause-reads : goal.returns-in-Directory-clause-reads
 returns-in-Directory-clause-reads g c =
-    reads_again g.D.SectorDevice.state c.args.self.now c.find_header.new.self c.rows_in.new.self c.in-Ok-Some.ensures.reads (g.met.D.SectorDevice.lawful c.args.self.now.store.log.device) c.rows_in.ensures.reads
+    reads_again g.D.SectorDevice.state c.args.self.now c.find_header.new.self c.rows_in.new.self c.in-Ok-Some.ensures.reads
+    (g.met.D.SectorDevice.lawful c.args.self.now.store.log.device) c.rows_in.ensures.reads
 
 pub returns-in-Directory-clause-answer : goal.returns-in-Directory-clause-answer
 returns-in-Directory-clause-answer g c =
     let first = c.in-Ok-Some.ensures in
     answer_then c.rows_in.result _ _
-    (λ rows told. names_tell g.D.SectorDevice.state c.args.self.now c.find_header.new.self c.args.number.value c.in-Ok-Some.field-0 first.answer c.in-Ok-Some.header c.in-Ok-Some.field-0-is c.in-Directory.is first.reads
+    (λ rows told. names_tell g.D.SectorDevice.state c.args.self.now c.find_header.new.self c.args.number.value c.in-Ok-Some.field-0
+    first.answer c.in-Ok-Some.header c.in-Ok-Some.field-0-is c.in-Directory.is first.reads
     c.rows_in.new.self c.rows_in.ensures.reads rows.items told)
     c.rows_in.ensures.answer
 
@@ -22,7 +24,8 @@ pub returns-in-Directory-clause-missing : goal.returns-in-Directory-clause-missi
 returns-in-Directory-clause-missing g c =
     let first = c.in-Ok-Some.ensures in
     fault_then c.rows_in.result _ _
-    (λ fault lacks. names_lack g.D.SectorDevice.state c.args.self.now c.find_header.new.self c.args.number.value c.in-Ok-Some.field-0 first.answer c.in-Ok-Some.header c.in-Ok-Some.field-0-is c.in-Directory.is first.reads
+    (λ fault lacks. names_lack g.D.SectorDevice.state c.args.self.now c.find_header.new.self c.args.number.value c.in-Ok-Some.field-0
+    first.answer c.in-Ok-Some.header c.in-Ok-Some.field-0-is c.in-Directory.is first.reads
     c.rows_in.new.self c.rows_in.ensures.reads fault lacks)
     c.rows_in.ensures.missing
 
@@ -30,20 +33,25 @@ pub returns-in-File-clause-answer : goal.returns-in-File-clause-answer
 returns-in-File-clause-answer g c =
     let is = c.in-File.is in
     subst (TellsNames g.D.SectorDevice.state c.args.self.now c.find_header.new.self c.args.number.value) (sym c.new.ensures.items)
-    (leaf_tells g.D.SectorDevice.state c.args.self.now c.find_header.new.self c.args.number.value c.in-Ok-Some.field-0 c.in-Ok-Some.ensures.answer c.in-Ok-Some.header c.in-Ok-Some.field-0-is
+    (leaf_tells g.D.SectorDevice.state c.args.self.now c.find_header.new.self c.args.number.value c.in-Ok-Some.field-0
+    c.in-Ok-Some.ensures.answer c.in-Ok-Some.header c.in-Ok-Some.field-0-is
     (λ (e : c.in-Ok-Some.header.kind ≡ kind.Directory). cc))
 
 pub returns-in-Link-clause-answer : goal.returns-in-Link-clause-answer
 returns-in-Link-clause-answer g c =
     let is = c.in-Link.is in
     subst (TellsNames g.D.SectorDevice.state c.args.self.now c.find_header.new.self c.args.number.value) (sym c.new-in-Link.ensures.items)
-    (leaf_tells g.D.SectorDevice.state c.args.self.now c.find_header.new.self c.args.number.value c.in-Ok-Some.field-0 c.in-Ok-Some.ensures.answer c.in-Ok-Some.header c.in-Ok-Some.field-0-is
+    (leaf_tells g.D.SectorDevice.state c.args.self.now c.find_header.new.self c.args.number.value c.in-Ok-Some.field-0
+    c.in-Ok-Some.ensures.answer c.in-Ok-Some.header c.in-Ok-Some.field-0-is
     (λ (e : c.in-Ok-Some.header.kind ≡ kind.Directory). cc))
 
 pub returns-in-Ok-None-clause-answer : goal.returns-in-Ok-None-clause-answer
 returns-in-Ok-None-clause-answer g c =
-    subst (TellsNames g.D.SectorDevice.state c.args.self.now c.find_header.new.self c.args.number.value) (sym c.new-in-Ok-None.ensures.items)
-    (nothing_tells g.D.SectorDevice.state c.args.self.now c.find_header.new.self c.args.number.value c.in-Ok-None.field-0 c.in-Ok-None.ensures.answer c.in-Ok-None.field-0-is)
+    subst (TellsNames g.D.SectorDevice.state c.args.self.now c.find_header.new.self c.args.number.value)
+    (sym c.new-in-Ok-None.ensures.items)
+    (nothing_tells g.D.SectorDevice.state c.args.self.now c.find_header.new.self c.args.number.value c.in-Ok-None.field-0
+    c.in-Ok-None.ensures.answer c.in-Ok-None.field-0-is)
 
 pub returns-in-Err-clause-missing : goal.returns-in-Err-clause-missing
-returns-in-Err-clause-missing g c = answer_lacks g.D.SectorDevice.state c.args.self.now c.find_header.new.self c.in-Err.fault c.in-Err.ensures.missing
+returns-in-Err-clause-missing g c =
+    answer_lacks g.D.SectorDevice.state c.args.self.now c.find_header.new.self c.in-Err.fault c.in-Err.ensures.missing

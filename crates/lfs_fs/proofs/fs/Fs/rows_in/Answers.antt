@@ -11,17 +11,24 @@ returns-in-Ok-clause-reads g c =
     let state = g.D.SectorDevice.state in
     let list = c.in-Ok.ensures in
     let listed : Fs g.row.D.Denot = record { alloc = c.args.self.now.alloc; store = c.list.new.files; handles = c.args.self.now.handles } in
-    let first = store_reads state c.args.self.now listed (log_reads state c.args.self.now.store c.list.new.files list.reads) list.reads.draft list.reads.saved (same_totals state c.args.self.now.store c.list.new.files list.reads) (same_drafted state c.args.self.now.store c.list.new.files list.reads) refl in
-    reads_again state c.args.self.now listed c.entry_rows.new.self first (g.met.D.SectorDevice.lawful c.args.self.now.store.log.device) c.entry_rows.ensures.reads
+    let first = store_reads state c.args.self.now listed (log_reads state c.args.self.now.store c.list.new.files list.reads)
+    list.reads.draft list.reads.saved (same_totals state c.args.self.now.store c.list.new.files list.reads)
+    (same_drafted state c.args.self.now.store c.list.new.files list.reads) refl in
+    reads_again state c.args.self.now listed c.entry_rows.new.self first (g.met.D.SectorDevice.lawful c.args.self.now.store.log.device)
+    c.entry_rows.ensures.reads
 
 pub returns-in-Ok-clause-answer : goal.returns-in-Ok-clause-answer
 returns-in-Ok-clause-answer g c =
     let state = g.D.SectorDevice.state in
     let list = c.in-Ok.ensures in
     let listed : Fs g.row.D.Denot = record { alloc = c.args.self.now.alloc; store = c.list.new.files; handles = c.args.self.now.handles } in
-    let first = store_reads state c.args.self.now listed (log_reads state c.args.self.now.store c.list.new.files list.reads) list.reads.draft list.reads.saved (same_totals state c.args.self.now.store c.list.new.files list.reads) (same_drafted state c.args.self.now.store c.list.new.files list.reads) refl in
+    let first = store_reads state c.args.self.now listed (log_reads state c.args.self.now.store c.list.new.files list.reads)
+    list.reads.draft list.reads.saved (same_totals state c.args.self.now.store c.list.new.files list.reads)
+    (same_drafted state c.args.self.now.store c.list.new.files list.reads) refl in
     answer_then c.entry_rows.result _ _
-    (λ rows told. directory_tells state c.args.self.now listed first c.args.directory.value c.args.header c.in-Ok.entries.items (each_drafted state c.args.self.now.store c.list.new.files _ list.answer) c.entry_rows.new.self c.entry_rows.ensures.reads rows.items told)
+    (λ rows told. directory_tells state c.args.self.now listed first c.args.directory.value c.args.header c.in-Ok.entries.items
+    (each_drafted state c.args.self.now.store c.list.new.files _ list.answer) c.entry_rows.new.self c.entry_rows.ensures.reads
+    rows.items told)
     c.entry_rows.ensures.answer
 
 pub returns-in-Ok-clause-missing : goal.returns-in-Ok-clause-missing
@@ -29,9 +36,13 @@ returns-in-Ok-clause-missing g c =
     let state = g.D.SectorDevice.state in
     let list = c.in-Ok.ensures in
     let listed : Fs g.row.D.Denot = record { alloc = c.args.self.now.alloc; store = c.list.new.files; handles = c.args.self.now.handles } in
-    let first = store_reads state c.args.self.now listed (log_reads state c.args.self.now.store c.list.new.files list.reads) list.reads.draft list.reads.saved (same_totals state c.args.self.now.store c.list.new.files list.reads) (same_drafted state c.args.self.now.store c.list.new.files list.reads) refl in
+    let first = store_reads state c.args.self.now listed (log_reads state c.args.self.now.store c.list.new.files list.reads)
+    list.reads.draft list.reads.saved (same_totals state c.args.self.now.store c.list.new.files list.reads)
+    (same_drafted state c.args.self.now.store c.list.new.files list.reads) refl in
     fault_then c.entry_rows.result _ _
-    (λ fault lacks. directory_lacks state c.args.self.now listed first c.args.directory.value c.args.header c.in-Ok.entries.items (each_drafted state c.args.self.now.store c.list.new.files _ list.answer) c.entry_rows.new.self c.entry_rows.ensures.reads fault lacks)
+    (λ fault lacks. directory_lacks state c.args.self.now listed first c.args.directory.value c.args.header c.in-Ok.entries.items
+    (each_drafted state c.args.self.now.store c.list.new.files _ list.answer) c.entry_rows.new.self c.entry_rows.ensures.reads fault
+    lacks)
     c.entry_rows.ensures.missing
 
 pub returns-in-Err-clause-reads : goal.returns-in-Err-clause-reads
@@ -39,13 +50,18 @@ returns-in-Err-clause-reads g c =
     let state = g.D.SectorDevice.state in
     let list = c.in-Err.ensures in
     let listed : Fs g.row.D.Denot = record { alloc = c.args.self.now.alloc; store = c.list.new.files; handles = c.args.self.now.handles } in
-    store_reads state c.args.self.now listed (log_reads state c.args.self.now.store c.list.new.files list.reads) list.reads.draft list.reads.saved (same_totals state c.args.self.now.store c.list.new.files list.reads) (same_drafted state c.args.self.now.store c.list.new.files list.reads) refl
+    store_reads state c.args.self.now listed (log_reads state c.args.self.now.store c.list.new.files list.reads) list.reads.draft
+    list.reads.saved (same_totals state c.args.self.now.store c.list.new.files list.reads)
+    (same_drafted state c.args.self.now.store c.list.new.files list.reads) refl
 
 pub returns-in-Err-clause-missing : goal.returns-in-Err-clause-missing
 returns-in-Err-clause-missing g c =
     let state = g.D.SectorDevice.state in
     let list = c.in-Err.ensures in
     let listed : Fs g.row.D.Denot = record { alloc = c.args.self.now.alloc; store = c.list.new.files; handles = c.args.self.now.handles } in
-    let first = store_reads state c.args.self.now listed (log_reads state c.args.self.now.store c.list.new.files list.reads) list.reads.draft list.reads.saved (same_totals state c.args.self.now.store c.list.new.files list.reads) (same_drafted state c.args.self.now.store c.list.new.files list.reads) refl in
+    let first = store_reads state c.args.self.now listed (log_reads state c.args.self.now.store c.list.new.files list.reads)
+    list.reads.draft list.reads.saved (same_totals state c.args.self.now.store c.list.new.files list.reads)
+    (same_drafted state c.args.self.now.store c.list.new.files list.reads) refl in
     list_lacks state c.args.self.now listed first c.args.directory.value c.args.header c.in-Err.fault c.from.result c.from.ensures
-    (λ other. each_drafted state c.args.self.now.store c.list.new.files _ (list.failed other)) (λ e. list.halted (ap Err e)) (λ e. list.other (ap Err e))
+    (λ other. each_drafted state c.args.self.now.store c.list.new.files _ (list.failed other)) (λ e. list.halted (ap Err e))
+    (λ e. list.other (ap Err e))

@@ -11,25 +11,33 @@ use Rattle.lfs_fs.proofs.fs.Fs.symlink_at.Goals as goal
 -- the path has no piece
 pub returns-in_default : goal.returns-in_default
 returns-in_default g c v path reached =
-    no_piece_ends g.D.SectorDevice.state g.met.D.SectorDevice.lawful v c.args.self.now path c.args.directory.value (symlink_call v.log.version (segments_of v) path c.args.directory.value reached.bytes c.args.text.now (bytes_of c.args.text.now c.type_inv.text) c.requires.good) c.args.last reached c.requires.running c.in_default.is
+    no_piece_ends g.D.SectorDevice.state g.met.D.SectorDevice.lawful v c.args.self.now path c.args.directory.value
+    (symlink_call v.log.version (segments_of v) path c.args.directory.value reached.bytes c.args.text.now
+    (bytes_of c.args.text.now c.type_inv.text) c.requires.good) c.args.last reached c.requires.running c.in_default.is
 
 pub returns-in-Err : goal.returns-in-Err
 returns-in-Err g c v path reached =
-    entry_refused g.D.SectorDevice.state g.met.D.SectorDevice.lawful v c.args.self.now path c.args.directory.value (symlink_call v.log.version (segments_of v) path c.args.directory.value reached.bytes c.args.text.now (bytes_of c.args.text.now c.type_inv.text) c.requires.good) c.args.last reached c.requires.running c.in-Some.last c.in-Some.is c.check_new_entry.new.self
+    entry_refused g.D.SectorDevice.state g.met.D.SectorDevice.lawful v c.args.self.now path c.args.directory.value
+    (symlink_call v.log.version (segments_of v) path c.args.directory.value reached.bytes c.args.text.now (bytes_of c.args.text.now
+    c.type_inv.text) c.requires.good) c.args.last reached c.requires.running c.in-Some.last c.in-Some.is c.check_new_entry.new.self
     c.in-Err.ensures.reads c.in-Err.fault c.in-Err.ensures.refused
 
 -- no number is free
 pub returns-in_default-least_free : goal.returns-in_default-least_free
 returns-in_default-least_free g c v path reached =
-    number_refused g.D.SectorDevice.state g.met.D.SectorDevice.lawful v c.args.self.now path c.args.directory.value (symlink_call v.log.version (segments_of v) path c.args.directory.value reached.bytes c.args.text.now (bytes_of c.args.text.now c.type_inv.text) c.requires.good) c.args.last reached c.requires.running c.in-Some.last c.in-Some.is c.check_new_entry.new.self
+    number_refused g.D.SectorDevice.state g.met.D.SectorDevice.lawful v c.args.self.now path c.args.directory.value
+    (symlink_call v.log.version (segments_of v) path c.args.directory.value reached.bytes c.args.text.now (bytes_of c.args.text.now
+    c.type_inv.text) c.requires.good) c.args.last reached c.requires.running c.in-Some.last c.in-Some.is c.check_new_entry.new.self
     c.in-Ok.ensures.reads c.in-Ok.header c.in-Ok.ensures.taken
     (λ k m0 m s keeps is walk. refl)
     c.in_default-least_free.ensures.none
 
 pub returns : goal.returns
 returns g c v path reached =
-    symlink_ends g.D.SectorDevice.state g.met.D.SectorDevice.lawful v c.args.self.now c.check_new_entry.new.self path c.args.directory.value c.args.last reached c.requires.running c.in-Some.last c.in-Some.is
-    c.in-Ok.ensures.reads c.in-Ok.header c.in-Ok.ensures.taken c.args.text.now (bytes_of c.args.text.now c.type_inv.text) c.requires.good c.in-Some-least_free.number.value c.in-Some-least_free.ensures.some c.make_entry.new.self
+    symlink_ends g.D.SectorDevice.state g.met.D.SectorDevice.lawful v c.args.self.now c.check_new_entry.new.self path c.args.directory.value
+    c.args.last reached c.requires.running c.in-Some.last c.in-Some.is
+    c.in-Ok.ensures.reads c.in-Ok.header c.in-Ok.ensures.taken c.args.text.now (bytes_of c.args.text.now c.type_inv.text) c.requires.good
+    c.in-Some-least_free.number.value c.in-Some-least_free.ensures.some c.make_entry.new.self
     c.make_entry.result c.make_entry.ensures.made c.make_entry.ensures.refused
 
 pub make_entry-requires-clause-empty : goal.make_entry-requires-clause-empty

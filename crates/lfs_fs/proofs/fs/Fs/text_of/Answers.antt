@@ -11,21 +11,25 @@ returns-in-Err-clause-missing g c = inr (inr c.in-Err.ensures.missing)
 -- it is no link
 pub returns-in-Err-check_link-clause-missing : goal.returns-in-Err-check_link-clause-missing
 returns-in-Err-check_link-clause-missing g c =
-    no_text g.D.SectorDevice.state c.args.self.now c.stat_of.new.self c.in-Ok.ensures.reads c.args.number.value c.in-Ok.stat c.in-Ok.ensures.answer c.in-Err-check_link.ensures.refused c.in-Err-check_link.fault c.in-Err-check_link.ensures.fault
+    no_text g.D.SectorDevice.state c.args.self.now c.stat_of.new.self c.in-Ok.ensures.reads c.args.number.value c.in-Ok.stat
+    c.in-Ok.ensures.answer c.in-Err-check_link.ensures.refused c.in-Err-check_link.fault c.in-Err-check_link.ensures.fault
 
 pub returns-clause-reads : goal.returns-clause-reads
 returns-clause-reads g c =
-    reads_again g.D.SectorDevice.state c.args.self.now c.stat_of.new.self c.read_file.new.self c.in-Ok.ensures.reads (g.met.D.SectorDevice.lawful c.args.self.now.store.log.device) c.read_file.ensures.reads
+    reads_again g.D.SectorDevice.state c.args.self.now c.stat_of.new.self c.read_file.new.self c.in-Ok.ensures.reads
+    (g.met.D.SectorDevice.lawful c.args.self.now.store.log.device) c.read_file.ensures.reads
 
 pub returns-clause-answer : goal.returns-clause-answer
 returns-clause-answer g c =
     answer_then c.read_file.result _ _
-    (λ text read. text_tells g.D.SectorDevice.state c.args.self.now c.stat_of.new.self c.in-Ok.ensures.reads c.args.number.value c.in-Ok.stat c.in-Ok.ensures.answer c.read_file.new.self c.read_file.ensures.reads
+    (λ text read. text_tells g.D.SectorDevice.state c.args.self.now c.stat_of.new.self c.in-Ok.ensures.reads c.args.number.value
+    c.in-Ok.stat c.in-Ok.ensures.answer c.read_file.new.self c.read_file.ensures.reads
     c.in-Ok-check_link.ensures.done text.items read)
     c.read_file.ensures.answer
 
 pub returns-clause-missing : goal.returns-clause-missing
 returns-clause-missing g c =
     fault_then c.read_file.result _ _
-    (λ fault lacks. text_lacks g.D.SectorDevice.state c.args.self.now c.stat_of.new.self c.in-Ok.ensures.reads c.args.number.value c.in-Ok.stat c.in-Ok.ensures.answer c.read_file.new.self fault lacks)
+    (λ fault lacks. text_lacks g.D.SectorDevice.state c.args.self.now c.stat_of.new.self c.in-Ok.ensures.reads c.args.number.value
+    c.in-Ok.stat c.in-Ok.ensures.answer c.read_file.new.self fault lacks)
     c.read_file.ensures.missing

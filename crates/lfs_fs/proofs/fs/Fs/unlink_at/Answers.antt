@@ -14,12 +14,14 @@ use Rattle.lfs_fs.proofs.fs.Fs.unlink_at.Goals as goal
 -- the path has no piece
 pub returns-in_default : goal.returns-in_default
 returns-in_default g c v path reached =
-    no_piece_perm g.D.SectorDevice.state g.met.D.SectorDevice.lawful v c.args.self.now path c.args.directory.value (Unlink path) (unlink_call (segments_of v) path c.args.directory.value) c.args.last reached
+    no_piece_perm g.D.SectorDevice.state g.met.D.SectorDevice.lawful v c.args.self.now path c.args.directory.value (Unlink path)
+    (unlink_call (segments_of v) path c.args.directory.value) c.args.last reached
     c.requires.running c.in_default.is
 
 pub returns-in-Err : goal.returns-in-Err
 returns-in-Err g c v path reached =
-    entry_refused g.D.SectorDevice.state g.met.D.SectorDevice.lawful v c.args.self.now path c.args.directory.value (Unlink path) (unlink_call (segments_of v) path c.args.directory.value) c.args.last reached
+    entry_refused g.D.SectorDevice.state g.met.D.SectorDevice.lawful v c.args.self.now path c.args.directory.value (Unlink path)
+    (unlink_call (segments_of v) path c.args.directory.value) c.args.last reached
     c.requires.running c.in-Some.last c.in-Some.is c.check_old_entry.new.self c.in-Err.ensures.reads c.in-Err.fault c.in-Err.ensures.refused
 
 pub draft_unlink-requires-clause-empty : goal.draft_unlink-requires-clause-empty
@@ -28,14 +30,19 @@ draft_unlink-requires-clause-empty g c =
 
 pub returns-in-Ok-draft_unlink : goal.returns-in-Ok-draft_unlink
 returns-in-Ok-draft_unlink g c v path reached =
-    unlink_ends g.D.SectorDevice.state g.met.D.SectorDevice.lawful v c.args.self.now c.check_old_entry.new.self c.draft_unlink.new.self path c.args.directory.value c.args.last reached c.requires.running
-    c.in-Some.last c.in-Some.is c.in-Ok.ensures.reads c.in-Ok.entry.holder c.in-Ok.entry.number.value c.in-Ok.entry.header c.in-Ok.ensures.has
-    c.in-Ok-draft_unlink.ensures.still c.in-Ok-draft_unlink.ensures.drafted c.accept.new.self c.accept.ensures.rest c.accept.result c.accept.ensures.done c.accept.ensures.refused
+    unlink_ends g.D.SectorDevice.state g.met.D.SectorDevice.lawful v c.args.self.now c.check_old_entry.new.self c.draft_unlink.new.self path
+    c.args.directory.value c.args.last reached c.requires.running
+    c.in-Some.last c.in-Some.is c.in-Ok.ensures.reads c.in-Ok.entry.holder c.in-Ok.entry.number.value c.in-Ok.entry.header
+    c.in-Ok.ensures.has
+    c.in-Ok-draft_unlink.ensures.still c.in-Ok-draft_unlink.ensures.drafted c.accept.new.self c.accept.ensures.rest c.accept.result
+    c.accept.ensures.done c.accept.ensures.refused
 
 pub returns-in-Err-draft_unlink : goal.returns-in-Err-draft_unlink
 returns-in-Err-draft_unlink g c v path reached =
-    undrafted_serves g.D.SectorDevice.state g.met.D.SectorDevice.lawful v c.args.self.now path c.args.directory.value c.args.last reached c.requires.running
-    c.in-Some.last c.in-Some.is c.check_old_entry.new.self c.in-Ok.ensures.reads c.in-Ok.entry.holder c.in-Ok.entry.number.value c.in-Ok.entry.header c.in-Ok.ensures.has
+    undrafted_serves g.D.SectorDevice.state g.met.D.SectorDevice.lawful v c.args.self.now path c.args.directory.value c.args.last reached
+    c.requires.running
+    c.in-Some.last c.in-Some.is c.check_old_entry.new.self c.in-Ok.ensures.reads c.in-Ok.entry.holder c.in-Ok.entry.number.value
+    c.in-Ok.entry.header c.in-Ok.ensures.has
     c.draft_unlink.new.self c.in-Err-draft_unlink.ensures.still (Unlink path) refl refl
     record { alloc = c.draft_unlink.new.self.alloc; store = c.give_up.new.self; handles = c.draft_unlink.new.self.handles }
     (seen_same g.D.SectorDevice.state c.draft_unlink.new.self c.give_up.new.self c.give_up.ensures.log c.give_up.ensures.saved)
@@ -43,4 +50,5 @@ returns-in-Err-draft_unlink g c v path reached =
 
 pub accept-requires-clause-room : goal.accept-requires-clause-room
 accept-requires-clause-room g c =
-    begun_fits c.args.self.now.store.draft c.check_old_entry.new.self.store.draft c.draft_unlink.new.self.store.draft.changes 3 2 (omega arith) c.requires.empty c.in-Ok.ensures.reads.draft c.in-Ok-draft_unlink.ensures.small
+    begun_fits c.args.self.now.store.draft c.check_old_entry.new.self.store.draft c.draft_unlink.new.self.store.draft.changes 3 2
+    (omega arith) c.requires.empty c.in-Ok.ensures.reads.draft c.in-Ok-draft_unlink.ensures.small

@@ -4,7 +4,8 @@ use Rattle.lfs_fs.proofs.fs.Fs.widen_at.Goals as goal
 
 pub returns-in-Err : goal.returns-in-Err
 returns-in-Err g c v path reached =
-    headerless g.D.SectorDevice.state g.met.D.SectorDevice.lawful v (sym reached.still.reads.halted ∙ c.requires.running) path c.args.number.value c.args.self.now c.header.new.self reached c.in-Err.ensures.reads
+    headerless g.D.SectorDevice.state g.met.D.SectorDevice.lawful v (sym reached.still.reads.halted ∙ c.requires.running) path
+    c.args.number.value c.args.self.now c.header.new.self reached c.in-Err.ensures.reads
     c.in-Err.fault c.in-Err.ensures.missing
 
 pub returns-then-not-is_directory : goal.returns-then-not-is_directory
@@ -13,8 +14,10 @@ returns-then-not-is_directory g c v path reached =
     let lawful = g.met.D.SectorDevice.lawful in
     let was = sym reached.still.reads.halted ∙ c.requires.running in
     let only = c.in-Ok.ensures.reads in
-    no_directory state lawful v was path c.args.number.value c.header.new.self (whole_later state lawful v was path c.args.number.value c.args.self.now c.header.new.self reached only) c.in-Ok.header
-    (header_in state lawful v was path c.args.number.value c.args.self.now c.header.new.self reached only c.in-Ok.header c.in-Ok.ensures.answer)
+    no_directory state lawful v was path c.args.number.value c.header.new.self
+    (whole_later state lawful v was path c.args.number.value c.args.self.now c.header.new.self reached only) c.in-Ok.header
+    (header_in state lawful v was path c.args.number.value c.args.self.now c.header.new.self reached only c.in-Ok.header
+    c.in-Ok.ensures.answer)
     (c.if-not-is_directory.ensures.no (search rules))
 
 pub returns-then-version-eq1 : goal.returns-then-version-eq1
@@ -26,7 +29,8 @@ returns-then-version-eq1 g c v path reached =
     let later = whole_later state lawful v was path c.args.number.value c.args.self.now c.header.new.self reached only in
     let one : c.version.result ≡ 1 = search rules in
     old_volume state lawful v was path c.args.number.value c.header.new.self later c.in-Ok.header
-    (header_in state lawful v was path c.args.number.value c.args.self.now c.header.new.self reached only c.in-Ok.header c.in-Ok.ensures.answer)
+    (header_in state lawful v was path c.args.number.value c.args.self.now c.header.new.self reached only c.in-Ok.header
+    c.in-Ok.ensures.answer)
     (c.if-not-is_directory.ensures.yes (search rules)) (sym later.still.reads.version ∙ sym c.version.ensures.value ∙ one)
 
 pub returns-then-header-ne-FIRST_FORM : goal.returns-then-header-ne-FIRST_FORM
@@ -40,9 +44,11 @@ returns-then-header-ne-FIRST_FORM g c v path reached =
     let wide : c.in-Ok.header.form ≢ 0 = search rules in
     let number = later.still.reads.number in
     wide_already state lawful v was path c.args.number.value c.header.new.self later c.in-Ok.header
-    (header_in state lawful v was path c.args.number.value c.args.self.now c.header.new.self reached only c.in-Ok.header c.in-Ok.ensures.answer)
+    (header_in state lawful v was path c.args.number.value c.args.self.now c.header.new.self reached only c.in-Ok.header
+    c.in-Ok.ensures.answer)
     (c.if-not-is_directory.ensures.yes (search rules)) (λ e. other (c.version.ensures.value ∙ later.still.reads.version ∙ e)) wide
-    c.check_worn.result (young_before number c.check_worn.result c.check_worn.ensures.young) (old_before number c.check_worn.result c.check_worn.ensures.old) c.check_worn.ensures.fault
+    c.check_worn.result (young_before number c.check_worn.result c.check_worn.ensures.young)
+    (old_before number c.check_worn.result c.check_worn.ensures.old) c.check_worn.ensures.fault
 
 pub returns : goal.returns
 returns g c v path reached =
@@ -55,7 +61,8 @@ returns g c v path reached =
     let narrow : c.in-Ok.header.form ≡ 0 = search rules in
     c.widen_directory.ensures v path record {
       whole = later;
-      there = header_in state lawful v was path c.args.number.value c.args.self.now c.header.new.self reached only c.in-Ok.header c.in-Ok.ensures.answer;
+      there = header_in state lawful v was path c.args.number.value c.args.self.now c.header.new.self reached only c.in-Ok.header
+          c.in-Ok.ensures.answer;
       directory = c.if-not-is_directory.ensures.yes (search rules);
       narrow = narrow;
       version = λ e. other (c.version.ensures.value ∙ later.still.reads.version ∙ e);

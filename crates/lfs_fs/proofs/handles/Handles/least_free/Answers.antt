@@ -4,7 +4,8 @@ use Rattle.lfs_fs.proofs.handles.Handles.least_free.Goals as goal
 
 pub returns-then-deref-handle-eq0-clause-first : goal.returns-then-deref-handle-eq0-clause-first
 returns-then-deref-handle-eq0-clause-first c =
-    least_is c.loop-handle.handle c.args.self.now.numbers.items c.loop-handle.invariant (rw (← c.deref.ensures.0) c.if-deref-handle-eq0.true)
+    least_is c.loop-handle.handle c.args.self.now.numbers.items c.loop-handle.invariant
+    (rw (← c.deref.ensures.0) c.if-deref-handle-eq0.true)
 
 pub returns-clause-full : goal.returns-clause-full
 returns-clause-full c =

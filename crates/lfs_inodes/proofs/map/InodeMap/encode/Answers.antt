@@ -3,7 +3,8 @@ use Rattle.lfs_inodes.proofs.map.InodeMap.encode.Goals as goal
 
 pub returns-in-Some-clause-some : goal.returns-in-Some-clause-some
 returns-in-Some-clause-some c =
-    spelled_shown c.args.self.now c.args.index c.in-Some.addresses.now c.spelled.ensures.fits c.in-Some.ensures.each c.spelled.result c.spelled.ensures.some c.spelled.ensures.shows
+    spelled_shown c.args.self.now c.args.index c.in-Some.addresses.now c.spelled.ensures.fits c.in-Some.ensures.each c.spelled.result
+    c.spelled.ensures.some c.spelled.ensures.shows
 
 pub returns-in-Some-clause-written : goal.returns-in-Some-clause-written
 returns-in-Some-clause-written c m t is settled =

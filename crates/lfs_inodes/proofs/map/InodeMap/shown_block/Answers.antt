@@ -11,5 +11,6 @@ loop-place-preserved c =
     let e = c.loop-place.auto.place-end in
     record {
       size = length-set c.loop-place.shown c.loop-place.place c.shown_address.result ∙ i.size;
-      shown = rw c.shown_address.ensures (fill_by_more (λ (k : ℕ). shown_in c.args.self.now (128 * c.args.index + k)) c.loop-place.shown c.loop-place.place 0 (omega arith) i.shown);
+      shown = rw c.shown_address.ensures (fill_by_more (λ (k : ℕ). shown_in c.args.self.now (128 * c.args.index + k)) c.loop-place.shown
+          c.loop-place.place 0 (omega arith) i.shown);
     }

@@ -12,15 +12,19 @@ returns-in_default-clause-entry c = entry_found c.args.self.now.blocks c.args.ke
 
 pub index-requires-2 : goal.index-requires-2
 index-requires-2 c =
-    let l = low_at c.self.inside.places.items c.self.inside.arena.items c.self.inside.spare.items _ _ _ c.self.invariant.0 c.args.self.now c.self.view_is c.args.key.code c.in-Ok.at c.in-Ok.ensures.found c.index.result.now c.index.ensures in
+    let l = low_at c.self.inside.places.items c.self.inside.arena.items c.self.inside.spare.items _ _ _ c.self.invariant.0 c.args.self.now
+    c.self.view_is c.args.key.code c.in-Ok.at c.in-Ok.ensures.found c.index.result.now c.index.ensures in
     let o = c.self.inside.arena.ok in
     omega (arith, l, o.0)
 
 pub returns-clause-block : goal.returns-clause-block
 returns-clause-block c =
-    let l = low_at c.self.inside.places.items c.self.inside.arena.items c.self.inside.spare.items _ _ _ c.self.invariant.0 c.args.self.now c.self.view_is c.args.key.code c.in-Ok.at c.in-Ok.ensures.found c.index.result.now c.index.ensures in
-    found_at c.self.inside.places.items c.self.inside.arena.items c.self.inside.spare.items _ _ _ c.self.invariant.0 c.args.self.now c.self.view_is c.args.key.code c.in-Ok.at c.in-Ok.ensures.found c.index.result.now c.index.ensures
-    ∙ ap (λ (b : List ℕ). Some b) (get_or_default c.self.inside.arena.items c.index.result.now.spot [] c.index-2.result.now l ∙ sym c.index-2.ensures)
+    let l = low_at c.self.inside.places.items c.self.inside.arena.items c.self.inside.spare.items _ _ _ c.self.invariant.0 c.args.self.now
+    c.self.view_is c.args.key.code c.in-Ok.at c.in-Ok.ensures.found c.index.result.now c.index.ensures in
+    found_at c.self.inside.places.items c.self.inside.arena.items c.self.inside.spare.items _ _ _ c.self.invariant.0 c.args.self.now
+    c.self.view_is c.args.key.code c.in-Ok.at c.in-Ok.ensures.found c.index.result.now c.index.ensures
+    ∙ ap (λ (b : List ℕ). Some b)
+    (get_or_default c.self.inside.arena.items c.index.result.now.spot [] c.index-2.result.now l ∙ sym c.index-2.ensures)
 
 pub returns-clause-entry : goal.returns-clause-entry
 returns-clause-entry c = entry_found c.args.self.now.blocks c.args.key.code c.args.key.formed ∙ returns-clause-block c

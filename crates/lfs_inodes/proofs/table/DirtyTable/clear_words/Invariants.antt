@@ -8,7 +8,8 @@ use Rattle.lfs_inodes.proofs.table.DirtyTable.clear_words.Given as goal
 
 abbrev pub invariant-loop-i : goal.invariant-loop-i
 invariant-loop-i l = record {
-  changed : ChangesTo (blocks_of l.initial.self) (blocks_of l.self) (entry_of l.key) (option_map (zeroed l.first l.i) (blocks_of l.initial.self (entry_of l.key)));
+  changed : ChangesTo (blocks_of l.initial.self) (blocks_of l.self) (entry_of l.key)
+      (option_map (zeroed l.first l.i) (blocks_of l.initial.self (entry_of l.key)));
   length : length l.self.blocks ≡ length l.initial.self.blocks;
   capacity : l.self.capacity ≡ l.initial.self.capacity;
 }

@@ -7,7 +7,8 @@ use Rattle.lfs_inodes.proofs.table.DirtyTable.fetch.Goals.{in-Some, in_default}
 pub put-requires : goal.put-requires
 put-requires c =
     let same : IsSameAt c.args.self.now c.match-parent.self c.args.key.code = elim c.match-parent.branch [
-      | in-Some w ↦ same_patched c.args.self.now c.match-parent.self w.patch.new.self c.args.key.code w.in-Some.above.code _ c.args.key.formed w.in-Some.above.formed w.in-Some.ensures.some.1
+      | in-Some w ↦ same_patched c.args.self.now c.match-parent.self w.patch.new.self c.args.key.code w.in-Some.above.code _
+          c.args.key.formed w.in-Some.above.formed w.in-Some.ensures.some.1
           w.self-is w.patch.ensures.length (ap (λ (t : TableValue). t.capacity) w.patch.ensures.patched) w.patch.ensures.changed
       | in_default w ↦ same_self c.args.self.now c.match-parent.self c.args.key.code w.self-is
     ] in
@@ -16,7 +17,8 @@ put-requires c =
 pub returns-clause-length : goal.returns-clause-length
 returns-clause-length c =
     let same : IsSameAt c.args.self.now c.match-parent.self c.args.key.code = elim c.match-parent.branch [
-      | in-Some w ↦ same_patched c.args.self.now c.match-parent.self w.patch.new.self c.args.key.code w.in-Some.above.code _ c.args.key.formed w.in-Some.above.formed w.in-Some.ensures.some.1
+      | in-Some w ↦ same_patched c.args.self.now c.match-parent.self w.patch.new.self c.args.key.code w.in-Some.above.code _
+          c.args.key.formed w.in-Some.above.formed w.in-Some.ensures.some.1
           w.self-is w.patch.ensures.length (ap (λ (t : TableValue). t.capacity) w.patch.ensures.patched) w.patch.ensures.changed
       | in_default w ↦ same_self c.args.self.now c.match-parent.self c.args.key.code w.self-is
     ] in

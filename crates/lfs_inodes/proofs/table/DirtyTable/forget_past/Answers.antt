@@ -10,14 +10,18 @@ loop-at-preserved-then-is_past c =
     let n = c.args.file in
     let first = c.args.first in
     let some = c.loop-at-test.true in
-    leaves_out (λ (x : Entry). is_past n first x ≡ true) (λ (x : Entry). is_past n first x ≡ false) (λ x on off. let bad : true ≡ false = sym on ∙ off in absurd cc) c.args.self.now c.loop-at.self c.remove_at.new.self c.loop-at.at (c.loop-at.at - 1) (omega (arith, some)) c.loop-at.invariant
-    (ap (λ (m : ℕ). is_past n first (entry_at m)) c.key_at.ensures.number ∙ sym c.if-is_past.ensures) c.remove_at.ensures.removed c.remove_at.ensures.changed c.remove_at.ensures.codes
+    leaves_out (λ (x : Entry). is_past n first x ≡ true) (λ (x : Entry). is_past n first x ≡ false)
+    (λ x on off. let bad : true ≡ false = sym on ∙ off in absurd cc) c.args.self.now c.loop-at.self c.remove_at.new.self c.loop-at.at
+    (c.loop-at.at - 1) (omega (arith, some)) c.loop-at.invariant
+    (ap (λ (m : ℕ). is_past n first (entry_at m)) c.key_at.ensures.number ∙ sym c.if-is_past.ensures) c.remove_at.ensures.removed
+    c.remove_at.ensures.changed c.remove_at.ensures.codes
 
 pub returns-clause-leaves : goal.returns-clause-leaves
 returns-clause-leaves c =
     let n = c.args.file in
     let first = c.args.first in
     record {
-      none = leaves_ends (λ (x : Entry). is_past n first x ≡ true) (λ (x : Entry). is_past n first x ≡ false) c.args.self.now c.loop-at.self c.loop-at.at c.loop-at-test.false c.loop-at.invariant;
+      none = leaves_ends (λ (x : Entry). is_past n first x ≡ true) (λ (x : Entry). is_past n first x ≡ false) c.args.self.now c.loop-at.self
+          c.loop-at.at c.loop-at-test.false c.loop-at.invariant;
       kept = c.loop-at.invariant.kept;
     }

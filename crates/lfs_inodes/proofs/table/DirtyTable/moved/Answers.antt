@@ -17,10 +17,12 @@ returns-clause-length c bytes there =
       | in-Some w ↦ one_less c.match-parent.self.blocks c.remove.new.self.blocks c.args.key.code _ bytes
           (found c.match-parent.self
           (ap (λ (t : TableValue). blocks_of t (entry_of c.args.key)) w.self-is
-          ∙ w.patch.ensures.changed.others (entry_of c.args.key) (differ c.args.key.code w.in-Some.above.code c.args.key.formed w.in-Some.above.formed w.in-Some.ensures.some.1)
+          ∙ w.patch.ensures.changed.others (entry_of c.args.key)
+          (differ c.args.key.code w.in-Some.above.code c.args.key.formed w.in-Some.above.formed w.in-Some.ensures.some.1)
           ∙ there)) c.remove.ensures.length (ap (λ (t : TableValue). length t.blocks) w.self-is ∙ w.patch.ensures.length)
       | in_default w ↦ one_less c.match-parent.self.blocks c.remove.new.self.blocks c.args.key.code _ bytes
-          (found c.match-parent.self (ap (λ (t : TableValue). blocks_of t (entry_of c.args.key)) w.self-is ∙ there)) c.remove.ensures.length (ap (λ (t : TableValue). length t.blocks) w.self-is)
+          (found c.match-parent.self (ap (λ (t : TableValue). blocks_of t (entry_of c.args.key)) w.self-is ∙ there)) c.remove.ensures.length
+          (ap (λ (t : TableValue). length t.blocks) w.self-is)
     ]
 
 pub returns-clause-data_blocks : goal.returns-clause-data_blocks
@@ -31,7 +33,8 @@ returns-clause-data_blocks c bytes there kind =
       | in-Some w ↦ c.remove.ensures.data_blocks bytes
           (found c.match-parent.self
           (ap (λ (t : TableValue). blocks_of t (entry_of c.args.key)) w.self-is
-          ∙ w.patch.ensures.changed.others (entry_of c.args.key) (differ c.args.key.code w.in-Some.above.code c.args.key.formed w.in-Some.above.formed w.in-Some.ensures.some.1)
+          ∙ w.patch.ensures.changed.others (entry_of c.args.key)
+          (differ c.args.key.code w.in-Some.above.code c.args.key.formed w.in-Some.above.formed w.in-Some.ensures.some.1)
           ∙ there)) kind ∙ ap data_count w.self-is ∙ w.patch.ensures.data_blocks
       | in_default w ↦ c.remove.ensures.data_blocks bytes
           (found c.match-parent.self (ap (λ (t : TableValue). blocks_of t (entry_of c.args.key)) w.self-is ∙ there)) kind

@@ -18,26 +18,31 @@ returns-in_default-clause-removed c =
 pub returns-in_default-clause-changed : goal.returns-in_default-clause-changed
 returns-in_default-clause-changed c =
     let t = c.args.self.now in
-    changed_none t.blocks c.args.key.code c.args.key.formed (find_gap t.blocks c.args.key.code c.in_default.field-0 c.in_default.ensures.missing)
+    changed_none t.blocks c.args.key.code c.args.key.formed
+    (find_gap t.blocks c.args.key.code c.in_default.field-0 c.in_default.ensures.missing)
 
 pub returns-in_default-clause-length : goal.returns-in_default-clause-length
 returns-in_default-clause-length c =
     let t = c.args.self.now in
-    ap (λ (o : Option (List ℕ)). cond (is_some o) 1 0 + length t.blocks) (find_gap t.blocks c.args.key.code c.in_default.field-0 c.in_default.ensures.missing) ∙ omega arith
+    ap (λ (o : Option (List ℕ)). cond (is_some o) 1 0 + length t.blocks)
+    (find_gap t.blocks c.args.key.code c.in_default.field-0 c.in_default.ensures.missing) ∙ omega arith
 
 pub returns-clause-removed : goal.returns-clause-removed
 returns-clause-removed c =
     let t = c.args.self.now in
     c.remove_at.ensures.removed
-    ∙ ap (λ (es : Blocks). record t { blocks = es }) (c.remove_at.ensures.others ∙ ap (λ (n : ℕ). without nat_cmp n t.blocks) c.in-Ok.ensures.found.number)
+    ∙ ap (λ (es : Blocks). record t { blocks = es })
+    (c.remove_at.ensures.others ∙ ap (λ (n : ℕ). without nat_cmp n t.blocks) c.in-Ok.ensures.found.number)
 
 pub returns-clause-changed : goal.returns-clause-changed
 returns-clause-changed c =
-    subst (λ (n : ℕ). ChangesTo (blocks_of c.args.self.now) (blocks_of c.remove_at.new.self) (entry_at n) None) c.in-Ok.ensures.found.number c.remove_at.ensures.changed
+    subst (λ (n : ℕ). ChangesTo (blocks_of c.args.self.now) (blocks_of c.remove_at.new.self) (entry_at n) None) c.in-Ok.ensures.found.number
+    c.remove_at.ensures.changed
 
 pub returns-clause-length : goal.returns-clause-length
 returns-clause-length c =
-    subst (λ (n : ℕ). cond (is_some (find nat_cmp n c.args.self.now.blocks)) 1 0 + length c.remove_at.new.self.blocks ≡ length c.args.self.now.blocks) c.in-Ok.ensures.found.number c.remove_at.ensures.length
+    subst (λ (n : ℕ). cond (is_some (find nat_cmp n c.args.self.now.blocks)) 1 0 + length c.remove_at.new.self.blocks
+    ≡ length c.args.self.now.blocks) c.in-Ok.ensures.found.number c.remove_at.ensures.length
 
 pub returns-in_default-clause-data_blocks : goal.returns-in_default-clause-data_blocks
 returns-in_default-clause-data_blocks c bytes there kind =

@@ -14,47 +14,68 @@ use Rattle.lfs_inodes.proofs.table.DirtyTable.remove_at.Goals as goal
 
 pub invariant_of-self : goal.invariant_of-self
 invariant_of-self c =
-    let at : HasNumberAt c.args.self.now.blocks (number_at c.args.self.now.blocks c.args.at) c.args.at = record { within = c.requires; number = refl } in
-    let formed : IsCode (number_at c.args.self.now.blocks c.args.at) = codes_value _ c.self.inside.places.items c.self.inside.arena.items c.args.self.now c.self.view_is c.args.at c.requires in
-    let items : c.push.new.self.items ≡ c.self.inside.spare.items ++ c.remove-place.result.spot ∷ [] = rw c.unwrap.ensures at c.push.ensures.items in
+    let at : HasNumberAt c.args.self.now.blocks (number_at c.args.self.now.blocks c.args.at) c.args.at =
+    record { within = c.requires; number = refl } in
+    let formed : IsCode (number_at c.args.self.now.blocks c.args.at) =
+    codes_value _ c.self.inside.places.items c.self.inside.arena.items c.args.self.now c.self.view_is c.args.at c.requires in
+    let items : c.push.new.self.items ≡ c.self.inside.spare.items ++ c.remove-place.result.spot ∷ [] =
+    rw c.unwrap.ensures at c.push.ensures.items in
     let less = c.remove-place.ensures.capacity in (
-      subst (λ (ps : List Place). IsTableOf ps c.self.inside.arena.items c.push.new.self.items c.self.inside.limit c.self.inside.room (record { for_places = vec_capacity c.remove-place.new.self; for_arena = vec_capacity c.self.inside.arena; for_spare = vec_capacity c.push.new.self })) (sym c.remove-place.ensures.items)
-          (wider _ _ _ _ _ _ _ (held_left c.self.inside.places.items c.self.inside.arena.items c.self.inside.spare.items _ _ _ c.self.invariant.0 c.args.self.now c.self.view_is _ c.args.at at c.remove-place.result c.remove-place.ensures.value c.push.new.self.items items) (omega arith) (omega arith) c.push.ensures.capacity),
+      subst (λ (ps : List Place). IsTableOf ps c.self.inside.arena.items c.push.new.self.items c.self.inside.limit c.self.inside.room
+          (record {
+            for_places = vec_capacity c.remove-place.new.self;
+            for_arena = vec_capacity c.self.inside.arena;
+            for_spare = vec_capacity c.push.new.self;
+          })) (sym c.remove-place.ensures.items)
+          (wider _ _ _ _ _ _ _ (held_left c.self.inside.places.items c.self.inside.arena.items c.self.inside.spare.items _ _ _
+          c.self.invariant.0 c.args.self.now c.self.view_is _ c.args.at at c.remove-place.result c.remove-place.ensures.value
+          c.push.new.self.items items) (omega arith) (omega arith) c.push.ensures.capacity),
       λ h. subst (λ (ps : List Place). IsTightUnless c.self.inside.loose ps c.self.inside.arena.items) (sym c.remove-place.ensures.items)
-          (λ h. tight_left c.self.inside.places.items c.self.inside.arena.items c.self.inside.spare.items _ _ _ c.self.invariant.0 c.args.self.now c.self.view_is _ c.args.at at c.remove-place.result c.remove-place.ensures.value formed (c.self.invariant.1 h)) h,
+          (λ h. tight_left c.self.inside.places.items c.self.inside.arena.items c.self.inside.spare.items _ _ _ c.self.invariant.0
+          c.args.self.now c.self.view_is _ c.args.at at c.remove-place.result c.remove-place.ensures.value formed
+          (c.self.invariant.1 h)) h,
     )
 
 pub returns-clause-others : goal.returns-clause-others
 returns-clause-others c = sym (without_at c.args.self.now.blocks
-    (sorted_value c.self.inside.places.items c.self.inside.arena.items c.self.inside.spare.items _ _ _ c.self.invariant.0 c.args.self.now c.self.view_is)
+    (sorted_value c.self.inside.places.items c.self.inside.arena.items c.self.inside.spare.items _ _ _ c.self.invariant.0 c.args.self.now
+    c.self.view_is)
     (number_at c.args.self.now.blocks c.args.at) c.args.at (record { within = c.requires; number = refl }))
 
 pub returns-clause-removed : goal.returns-clause-removed
 returns-clause-removed c =
-    let at : HasNumberAt c.args.self.now.blocks (number_at c.args.self.now.blocks c.args.at) c.args.at = record { within = c.requires; number = refl } in
-    ap (λ (ps : List Place). value_of (record { limit = c.self.inside.limit; room = c.self.inside.room }) ps c.self.inside.arena.items) c.remove-place.ensures.items
-    ∙ removed_value c.self.inside.places.items c.self.inside.arena.items c.self.inside.spare.items _ _ _ c.self.invariant.0 c.args.self.now c.self.view_is _ c.args.at at c.remove-place.result c.remove-place.ensures.value
+    let at : HasNumberAt c.args.self.now.blocks (number_at c.args.self.now.blocks c.args.at) c.args.at =
+    record { within = c.requires; number = refl } in
+    ap (λ (ps : List Place). value_of (record { limit = c.self.inside.limit; room = c.self.inside.room }) ps c.self.inside.arena.items)
+    c.remove-place.ensures.items
+    ∙ removed_value c.self.inside.places.items c.self.inside.arena.items c.self.inside.spare.items _ _ _ c.self.invariant.0 c.args.self.now
+    c.self.view_is _ c.args.at at c.remove-place.result c.remove-place.ensures.value
     ∙ ap (λ (es : Blocks). record c.args.self.now { blocks = es }) (sym (returns-clause-others c))
 
 pub returns-clause-changed : goal.returns-clause-changed
 returns-clause-changed c =
-    let formed : IsCode (number_at c.args.self.now.blocks c.args.at) = codes_value _ c.self.inside.places.items c.self.inside.arena.items c.args.self.now c.self.view_is c.args.at c.requires in
-    subst (λ (t : TableValue). ChangesTo (blocks_of c.args.self.now) (blocks_of t) (entry_at (number_at c.args.self.now.blocks c.args.at)) None)
+    let formed : IsCode (number_at c.args.self.now.blocks c.args.at) =
+    codes_value _ c.self.inside.places.items c.self.inside.arena.items c.args.self.now c.self.view_is c.args.at c.requires in
+    subst (λ (t : TableValue).
+    ChangesTo (blocks_of c.args.self.now) (blocks_of t) (entry_at (number_at c.args.self.now.blocks c.args.at)) None)
     (sym (returns-clause-removed c ∙ ap (λ (es : Blocks). record c.args.self.now { blocks = es }) (returns-clause-others c)))
     (changed_without c.args.self.now.blocks (number_at c.args.self.now.blocks c.args.at) formed)
 
 pub returns-clause-codes : goal.returns-clause-codes
-returns-clause-codes c = codes_value (record { limit = c.self.inside.limit; room = c.self.inside.room }) c.remove-place.new.self.items c.self.inside.arena.items _ refl
+returns-clause-codes c = codes_value (record { limit = c.self.inside.limit; room = c.self.inside.room }) c.remove-place.new.self.items
+    c.self.inside.arena.items _ refl
 
 pub returns-clause-length : goal.returns-clause-length
 returns-clause-length c =
     let n = number_at c.args.self.now.blocks c.args.at in
     ap (λ (t : TableValue). cond (is_some (find nat_cmp n c.args.self.now.blocks)) 1 0 + length t.blocks) (returns-clause-removed c)
     ∙ ap (λ (es : Blocks). cond (is_some (find nat_cmp n c.args.self.now.blocks)) 1 0 + length es) (returns-clause-others c)
-    ∙ count_without c.args.self.now.blocks n (sorted_value c.self.inside.places.items c.self.inside.arena.items c.self.inside.spare.items _ _ _ c.self.invariant.0 c.args.self.now c.self.view_is)
+    ∙ count_without c.args.self.now.blocks n (sorted_value c.self.inside.places.items c.self.inside.arena.items c.self.inside.spare.items _
+    _ _ c.self.invariant.0 c.args.self.now c.self.view_is)
 
 pub returns-clause-data_blocks : goal.returns-clause-data_blocks
 returns-clause-data_blocks c kind =
-    data_removed c.args.self.now _ (sorted_value c.self.inside.places.items c.self.inside.arena.items c.self.inside.spare.items _ _ _ c.self.invariant.0 c.args.self.now c.self.view_is)
+    data_removed c.args.self.now _ (sorted_value c.self.inside.places.items c.self.inside.arena.items c.self.inside.spare.items _ _ _
+    c.self.invariant.0 c.args.self.now c.self.view_is)
     (number_at c.args.self.now.blocks c.args.at) c.args.at (record { within = c.requires; number = refl })
     (returns-clause-removed c ∙ ap (λ (es : Blocks). record c.args.self.now { blocks = es }) (returns-clause-others c)) kind

@@ -8,4 +8,6 @@ pub returns : goal.returns
 returns c =
     let facts = c.binary_search_by_key.ensures in
     let by_key = facts.position (λ (place : Place). place.key.code) (answers_always _ _ _ (λ f a r g called. search rules)) in
-    found_in c.self.inside.places.items c.self.inside.arena.items c.self.invariant.0.sorted _ c.args.self.now c.self.view_is c.deref.result.now c.deref.ensures.value c.number.result c.args.key.code c.number.ensures c.binary_search_by_key.result facts.bound by_key
+    found_in c.self.inside.places.items c.self.inside.arena.items c.self.invariant.0.sorted _ c.args.self.now c.self.view_is
+    c.deref.result.now c.deref.ensures.value c.number.result c.args.key.code c.number.ensures c.binary_search_by_key.result facts.bound
+    by_key

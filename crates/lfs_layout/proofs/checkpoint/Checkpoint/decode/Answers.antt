@@ -21,7 +21,8 @@ pub returns-then-number-eq0-clause-none : goal.returns-then-number-eq0-clause-no
 returns-then-number-eq0-clause-none c v fits is =
     let r = reads_from c.args.sector.now v fits is in
     let n = c.number64_at-number.result in
-    let e : n ≡ v.number = le64_inj n v.number c.number64_at-number.type_inv fits.number_fits (c.number64_at-number.ensures.spelled ∙ r.number) in
+    let e : n ≡ v.number =
+    le64_inj n v.number c.number64_at-number.type_inv fits.number_fits (c.number64_at-number.ensures.spelled ∙ r.number) in
     omega (arith, fits.number)
 
 pub returns-then-not-is_segment_count-clause-none : goal.returns-then-not-is_segment_count-clause-none
@@ -29,7 +30,8 @@ returns-then-not-is_segment_count-clause-none c v fits is =
     let r = reads_from c.args.sector.now v fits is in
     let n = c.number32_at-segments.result in
     let most = fits.segments.most in
-    let e : n ≡ v.segments = le32_inj n v.segments c.number32_at-segments.type_inv (omega arith) (c.number32_at-segments.ensures.spelled ∙ r.segments) in
+    let e : n ≡ v.segments =
+    le32_inj n v.segments c.number32_at-segments.type_inv (omega arith) (c.number32_at-segments.ensures.spelled ∙ r.segments) in
     let yes = c.is_segment_count.ensures.1 (rw e fits.segments) in
     cc
 
@@ -37,7 +39,8 @@ pub returns-then-not-is_version-clause-none : goal.returns-then-not-is_version-c
 returns-then-not-is_version-clause-none c v fits is =
     let r = reads_from c.args.sector.now v fits is in
     let n = c.number32_at-version.result in
-    let e : n ≡ v.version = le32_inj n v.version c.number32_at-version.type_inv (version_small v.version fits.version) (c.number32_at-version.ensures.spelled ∙ r.version) in
+    let e : n ≡ v.version = le32_inj n v.version c.number32_at-version.type_inv (version_small v.version fits.version)
+    (c.number32_at-version.ensures.spelled ∙ r.version) in
     let yes = c.is_version.ensures.1 (rw e fits.version) in
     cc
 
@@ -79,22 +82,28 @@ returns-clause-found c =
     )
 
 pub returns-then-not-is_text_at-clause-exact : goal.returns-then-not-is_text_at-clause-exact
-returns-then-not-is_text_at-clause-exact c = checkpoint_is c.args.sector.now c.fits-sector c.told-sector None tt (λ v fits is. returns-then-not-is_text_at-clause-none c v fits is)
+returns-then-not-is_text_at-clause-exact c =
+    checkpoint_is c.args.sector.now c.fits-sector c.told-sector None tt (λ v fits is. returns-then-not-is_text_at-clause-none c v fits is)
 
 pub returns-then-number-eq0-clause-exact : goal.returns-then-number-eq0-clause-exact
-returns-then-number-eq0-clause-exact c = checkpoint_is c.args.sector.now c.fits-sector c.told-sector None tt (λ v fits is. returns-then-number-eq0-clause-none c v fits is)
+returns-then-number-eq0-clause-exact c =
+    checkpoint_is c.args.sector.now c.fits-sector c.told-sector None tt (λ v fits is. returns-then-number-eq0-clause-none c v fits is)
 
 pub returns-then-not-is_segment_count-clause-exact : goal.returns-then-not-is_segment_count-clause-exact
-returns-then-not-is_segment_count-clause-exact c = checkpoint_is c.args.sector.now c.fits-sector c.told-sector None tt (λ v fits is. returns-then-not-is_segment_count-clause-none c v fits is)
+returns-then-not-is_segment_count-clause-exact c = checkpoint_is c.args.sector.now c.fits-sector c.told-sector None tt
+    (λ v fits is. returns-then-not-is_segment_count-clause-none c v fits is)
 
 pub returns-then-not-is_version-clause-exact : goal.returns-then-not-is_version-clause-exact
-returns-then-not-is_version-clause-exact c = checkpoint_is c.args.sector.now c.fits-sector c.told-sector None tt (λ v fits is. returns-then-not-is_version-clause-none c v fits is)
+returns-then-not-is_version-clause-exact c =
+    checkpoint_is c.args.sector.now c.fits-sector c.told-sector None tt (λ v fits is. returns-then-not-is_version-clause-none c v fits is)
 
 pub returns-then-not-is_zero_at-clause-exact : goal.returns-then-not-is_zero_at-clause-exact
-returns-then-not-is_zero_at-clause-exact c = checkpoint_is c.args.sector.now c.fits-sector c.told-sector None tt (λ v fits is. returns-then-not-is_zero_at-clause-none c v fits is)
+returns-then-not-is_zero_at-clause-exact c =
+    checkpoint_is c.args.sector.now c.fits-sector c.told-sector None tt (λ v fits is. returns-then-not-is_zero_at-clause-none c v fits is)
 
 pub returns-then-not-is_zero_at-2-clause-exact : goal.returns-then-not-is_zero_at-2-clause-exact
-returns-then-not-is_zero_at-2-clause-exact c = checkpoint_is c.args.sector.now c.fits-sector c.told-sector None tt (λ v fits is. returns-then-not-is_zero_at-2-clause-none c v fits is)
+returns-then-not-is_zero_at-2-clause-exact c =
+    checkpoint_is c.args.sector.now c.fits-sector c.told-sector None tt (λ v fits is. returns-then-not-is_zero_at-2-clause-none c v fits is)
 
 pub returns-clause-exact : goal.returns-clause-exact
 returns-clause-exact c = let found = returns-clause-found c in sym (checkpoint_some c.args.sector.now _ found.0 found.1)

@@ -9,5 +9,21 @@ pub returns : goal.returns
 unfolding inode_sector fields
 returns c =
     let kind : c.byte_of.result ≡ kind_byte c.self.inside.kind = c.byte_of.ensures in
-    rw (← c.self.view_is, c.finish.ensures, c.zeros-3.ensures.written, c.number32-5.ensures.written, c.number32-4.ensures.written, c.words.ensures.written, c.zeros-2.ensures.written, c.number32-3.ensures.written, c.number32-2.ensures.written, c.number32.ensures.written, c.zeros.ensures.written, c.bytes-2.ensures.written, c.bytes.ensures.written, c.new-sector.ensures, kind)
+    rw (
+      ← c.self.view_is,
+      c.finish.ensures,
+      c.zeros-3.ensures.written,
+      c.number32-5.ensures.written,
+      c.number32-4.ensures.written,
+      c.words.ensures.written,
+      c.zeros-2.ensures.written,
+      c.number32-3.ensures.written,
+      c.number32-2.ensures.written,
+      c.number32.ensures.written,
+      c.zeros.ensures.written,
+      c.bytes-2.ensures.written,
+      c.bytes.ensures.written,
+      c.new-sector.ensures,
+      kind,
+    )
     (appended_join [] (fields_of (fields (the_view c.self.inside))))

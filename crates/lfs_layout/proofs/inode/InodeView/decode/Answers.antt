@@ -30,7 +30,8 @@ pub returns-then-not-is_within-clause-none : goal.returns-then-not-is_within-cla
 returns-then-not-is_within-clause-none c v fits is =
     let n = c.number32_at-number.result in
     let r = reads_from c.args.sector.now v fits is in
-    let e : n ≡ v.number = le32_inj n v.number c.number32_at-number.type_inv (omega (arith, fits.number.1)) (c.number32_at-number.ensures.spelled ∙ r.number) in
+    let e : n ≡ v.number = le32_inj n v.number c.number32_at-number.type_inv (omega (arith, fits.number.1))
+    (c.number32_at-number.ensures.spelled ∙ r.number) in
     let yes = c.is_within.ensures.1 (rw e fits.number) in
     cc
 
@@ -38,7 +39,8 @@ pub returns-then-not-is_within-2-clause-none : goal.returns-then-not-is_within-2
 returns-then-not-is_within-2-clause-none c v fits is =
     let n = c.number32_at-links.result in
     let r = reads_from c.args.sector.now v fits is in
-    let e : n ≡ v.links = le32_inj n v.links c.number32_at-links.type_inv (omega (arith, fits.links.1)) (c.number32_at-links.ensures.spelled ∙ r.links) in
+    let e : n ≡ v.links =
+    le32_inj n v.links c.number32_at-links.type_inv (omega (arith, fits.links.1)) (c.number32_at-links.ensures.spelled ∙ r.links) in
     let yes = c.is_within-2.ensures.1 (rw e fits.links) in
     cc
 
@@ -97,28 +99,36 @@ returns-clause-found c =
     )
 
 pub returns-in_default-clause-exact : goal.returns-in_default-clause-exact
-returns-in_default-clause-exact c = inode_is c.args.sector.now c.fits-sector c.told-sector None tt (λ v fits is. returns-in_default-clause-none c v fits is)
+returns-in_default-clause-exact c =
+    inode_is c.args.sector.now c.fits-sector c.told-sector None tt (λ v fits is. returns-in_default-clause-none c v fits is)
 
 pub returns-then-not-is_zero_at-clause-exact : goal.returns-then-not-is_zero_at-clause-exact
-returns-then-not-is_zero_at-clause-exact c = inode_is c.args.sector.now c.fits-sector c.told-sector None tt (λ v fits is. returns-then-not-is_zero_at-clause-none c v fits is)
+returns-then-not-is_zero_at-clause-exact c =
+    inode_is c.args.sector.now c.fits-sector c.told-sector None tt (λ v fits is. returns-then-not-is_zero_at-clause-none c v fits is)
 
 pub returns-then-not-is_form-clause-exact : goal.returns-then-not-is_form-clause-exact
-returns-then-not-is_form-clause-exact c = inode_is c.args.sector.now c.fits-sector c.told-sector None tt (λ v fits is. returns-then-not-is_form-clause-none c v fits is)
+returns-then-not-is_form-clause-exact c =
+    inode_is c.args.sector.now c.fits-sector c.told-sector None tt (λ v fits is. returns-then-not-is_form-clause-none c v fits is)
 
 pub returns-then-not-is_within-clause-exact : goal.returns-then-not-is_within-clause-exact
-returns-then-not-is_within-clause-exact c = inode_is c.args.sector.now c.fits-sector c.told-sector None tt (λ v fits is. returns-then-not-is_within-clause-none c v fits is)
+returns-then-not-is_within-clause-exact c =
+    inode_is c.args.sector.now c.fits-sector c.told-sector None tt (λ v fits is. returns-then-not-is_within-clause-none c v fits is)
 
 pub returns-then-not-is_within-2-clause-exact : goal.returns-then-not-is_within-2-clause-exact
-returns-then-not-is_within-2-clause-exact c = inode_is c.args.sector.now c.fits-sector c.told-sector None tt (λ v fits is. returns-then-not-is_within-2-clause-none c v fits is)
+returns-then-not-is_within-2-clause-exact c =
+    inode_is c.args.sector.now c.fits-sector c.told-sector None tt (λ v fits is. returns-then-not-is_within-2-clause-none c v fits is)
 
 pub returns-then-not-is_size-clause-exact : goal.returns-then-not-is_size-clause-exact
-returns-then-not-is_size-clause-exact c = inode_is c.args.sector.now c.fits-sector c.told-sector None tt (λ v fits is. returns-then-not-is_size-clause-none c v fits is)
+returns-then-not-is_size-clause-exact c =
+    inode_is c.args.sector.now c.fits-sector c.told-sector None tt (λ v fits is. returns-then-not-is_size-clause-none c v fits is)
 
 pub returns-then-not-is_zero_at-2-clause-exact : goal.returns-then-not-is_zero_at-2-clause-exact
-returns-then-not-is_zero_at-2-clause-exact c = inode_is c.args.sector.now c.fits-sector c.told-sector None tt (λ v fits is. returns-then-not-is_zero_at-2-clause-none c v fits is)
+returns-then-not-is_zero_at-2-clause-exact c =
+    inode_is c.args.sector.now c.fits-sector c.told-sector None tt (λ v fits is. returns-then-not-is_zero_at-2-clause-none c v fits is)
 
 pub returns-then-not-is_zero_at-3-clause-exact : goal.returns-then-not-is_zero_at-3-clause-exact
-returns-then-not-is_zero_at-3-clause-exact c = inode_is c.args.sector.now c.fits-sector c.told-sector None tt (λ v fits is. returns-then-not-is_zero_at-3-clause-none c v fits is)
+returns-then-not-is_zero_at-3-clause-exact c =
+    inode_is c.args.sector.now c.fits-sector c.told-sector None tt (λ v fits is. returns-then-not-is_zero_at-3-clause-none c v fits is)
 
 pub returns-clause-exact : goal.returns-clause-exact
 returns-clause-exact c = let found = returns-clause-found c in sym (inode_some c.args.sector.now _ found.0 found.1)

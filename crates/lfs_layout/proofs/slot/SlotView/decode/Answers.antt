@@ -49,20 +49,25 @@ returns-clause-found c =
     let wide : length (part 5 (get_or b 4 0) b) ≡ get_or b 4 0 = length-part 5 (get_or b 4 0) b (omega (arith, c.requires)) in (
       record { number = rw (← c.number_of-number.ensures) number; name = rw (← c.name_of.ensures) name },
       reads_to c.args.form b (slot_of b) c.requires (omega arith)
-          (slot_reads c.args.form b (get_or b 4 0) (search rules) c.requires refl short (λ i from to. c.is_zero_after.ensures.0 c.if-not-is_zero_after.false i from (omega (arith, c.requires)))),
+          (slot_reads c.args.form b (get_or b 4 0) (search rules) c.requires refl short
+          (λ i from to. c.is_zero_after.ensures.0 c.if-not-is_zero_after.false i from (omega (arith, c.requires)))),
     )
 
 pub returns-then-not-is_within-clause-exact : goal.returns-then-not-is_within-clause-exact
-returns-then-not-is_within-clause-exact c = slot_is c.args.form c.args.slot.now None tt (λ v fits is. returns-then-not-is_within-clause-none c v fits is)
+returns-then-not-is_within-clause-exact c =
+    slot_is c.args.form c.args.slot.now None tt (λ v fits is. returns-then-not-is_within-clause-none c v fits is)
 
 pub returns-then-len-slot-clause-exact : goal.returns-then-len-slot-clause-exact
-returns-then-len-slot-clause-exact c = slot_is c.args.form c.args.slot.now None tt (λ v fits is. returns-then-len-slot-clause-none c v fits is)
+returns-then-len-slot-clause-exact c =
+    slot_is c.args.form c.args.slot.now None tt (λ v fits is. returns-then-len-slot-clause-none c v fits is)
 
 pub returns-then-not-is_name-clause-exact : goal.returns-then-not-is_name-clause-exact
-returns-then-not-is_name-clause-exact c = slot_is c.args.form c.args.slot.now None tt (λ v fits is. returns-then-not-is_name-clause-none c v fits is)
+returns-then-not-is_name-clause-exact c =
+    slot_is c.args.form c.args.slot.now None tt (λ v fits is. returns-then-not-is_name-clause-none c v fits is)
 
 pub returns-then-not-is_zero_after-clause-exact : goal.returns-then-not-is_zero_after-clause-exact
-returns-then-not-is_zero_after-clause-exact c = slot_is c.args.form c.args.slot.now None tt (λ v fits is. returns-then-not-is_zero_after-clause-none c v fits is)
+returns-then-not-is_zero_after-clause-exact c =
+    slot_is c.args.form c.args.slot.now None tt (λ v fits is. returns-then-not-is_zero_after-clause-none c v fits is)
 
 pub returns-clause-exact : goal.returns-clause-exact
 returns-clause-exact c = let found = returns-clause-found c in sym (slot_some c.args.form c.args.slot.now _ found.0 found.1)

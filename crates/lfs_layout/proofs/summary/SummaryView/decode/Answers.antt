@@ -67,13 +67,16 @@ pub returns-then-count-gt63-clause-exact : goal.returns-then-count-gt63-clause-e
 returns-then-count-gt63-clause-exact c = summary_is c.args.sector.now None tt (λ v fits is. returns-then-count-gt63-clause-none c v fits is)
 
 pub returns-then-not-is_zero_at-clause-exact : goal.returns-then-not-is_zero_at-clause-exact
-returns-then-not-is_zero_at-clause-exact c = summary_is c.args.sector.now None tt (λ v fits is. returns-then-not-is_zero_at-clause-none c v fits is)
+returns-then-not-is_zero_at-clause-exact c =
+    summary_is c.args.sector.now None tt (λ v fits is. returns-then-not-is_zero_at-clause-none c v fits is)
 
 pub returns-then-not-is_block_at-clause-exact : goal.returns-then-not-is_block_at-clause-exact
-returns-then-not-is_block_at-clause-exact c = summary_is c.args.sector.now None tt (λ v fits is. returns-then-not-is_block_at-clause-none c v fits is)
+returns-then-not-is_block_at-clause-exact c =
+    summary_is c.args.sector.now None tt (λ v fits is. returns-then-not-is_block_at-clause-none c v fits is)
 
 pub returns-then-not-is_zero_at-2-clause-exact : goal.returns-then-not-is_zero_at-2-clause-exact
-returns-then-not-is_zero_at-2-clause-exact c = summary_is c.args.sector.now None tt (λ v fits is. returns-then-not-is_zero_at-2-clause-none c v fits is)
+returns-then-not-is_zero_at-2-clause-exact c =
+    summary_is c.args.sector.now None tt (λ v fits is. returns-then-not-is_zero_at-2-clause-none c v fits is)
 
 pub returns-clause-exact : goal.returns-clause-exact
 returns-clause-exact c = let found = returns-clause-found c in sym (summary_some c.args.sector.now _ found.0 found.1)

@@ -7,13 +7,16 @@ use Rattle.lfs_model.proofs.SummaryPlaces.{place_below}
 use Rattle.lfs_layout.proofs.summary.SummaryView.get.Goals as goal
 
 pub overflow_mul-place : goal.overflow_mul-place
-overflow_mul-place c = let below = place_below c.self.inside.sector.now c.args.self.now c.args.place c.self.view_is c.requires in omega (arith, below, c.self.invariant)
+overflow_mul-place c = let below = place_below c.self.inside.sector.now c.args.self.now c.args.place c.self.view_is c.requires in
+    omega (arith, below, c.self.invariant)
 
 pub overflow_add-place : goal.overflow_add-place
-overflow_add-place c = let below = place_below c.self.inside.sector.now c.args.self.now c.args.place c.self.view_is c.requires in omega (arith, below, c.self.invariant)
+overflow_add-place c = let below = place_below c.self.inside.sector.now c.args.self.now c.args.place c.self.view_is c.requires in
+    omega (arith, below, c.self.invariant)
 
 pub block_of-requires : goal.block_of-requires
-block_of-requires c = let below = place_below c.self.inside.sector.now c.args.self.now c.args.place c.self.view_is c.requires in omega (arith, below, c.self.invariant)
+block_of-requires c = let below = place_below c.self.inside.sector.now c.args.self.now c.args.place c.self.view_is c.requires in
+    omega (arith, below, c.self.invariant)
 
 pub returns : goal.returns
 returns c =

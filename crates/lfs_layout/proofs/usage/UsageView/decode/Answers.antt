@@ -33,10 +33,12 @@ returns-clause-found c =
     )
 
 pub returns-then-not-is_use-clause-exact : goal.returns-then-not-is_use-clause-exact
-returns-then-not-is_use-clause-exact c = usage_is c.args.sector.now c.args.count c.fits-sector c.told-sector None tt (λ v fits is. returns-then-not-is_use-clause-none c v fits is)
+returns-then-not-is_use-clause-exact c = usage_is c.args.sector.now c.args.count c.fits-sector c.told-sector None tt
+    (λ v fits is. returns-then-not-is_use-clause-none c v fits is)
 
 pub returns-then-not-is_unused-clause-exact : goal.returns-then-not-is_unused-clause-exact
-returns-then-not-is_unused-clause-exact c = usage_is c.args.sector.now c.args.count c.fits-sector c.told-sector None tt (λ v fits is. returns-then-not-is_unused-clause-none c v fits is)
+returns-then-not-is_unused-clause-exact c = usage_is c.args.sector.now c.args.count c.fits-sector c.told-sector None tt
+    (λ v fits is. returns-then-not-is_unused-clause-none c v fits is)
 
 pub returns-clause-exact : goal.returns-clause-exact
 returns-clause-exact c = let found = returns-clause-found c in sym (usage_some c.args.sector.now c.args.count _ found.0 found.1)

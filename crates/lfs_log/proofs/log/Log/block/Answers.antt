@@ -6,14 +6,47 @@ use Rattle.lfs_log.proofs.Volumes.{reads_block, read_fault}
 
 pub returns-in_default-clause-failed : goal.returns-in_default-clause-failed
 returns-in_default-clause-failed g c =
-    let before : Held g.row.D.Denot = record { device = c.self.inside.device; memory = c.self.inside.memory; number = c.self.inside.number; version = number_of c.self.inside.version; upgraded = c.self.inside.upgraded; halted = c.self.inside.halted; totals = c.self.inside.totals } in
-    let after : Held g.row.D.Denot = record { device = c.read_block.new.device; memory = c.self.inside.memory; number = c.self.inside.number; version = number_of c.self.inside.version; upgraded = c.self.inside.upgraded; halted = c.self.inside.halted; totals = c.self.inside.totals } in
+    let before : Held g.row.D.Denot = record {
+      device = c.self.inside.device;
+      memory = c.self.inside.memory;
+      number = c.self.inside.number;
+      version = number_of c.self.inside.version;
+      upgraded = c.self.inside.upgraded;
+      halted = c.self.inside.halted;
+      totals = c.self.inside.totals;
+    } in
+    let after : Held g.row.D.Denot = record {
+      device = c.read_block.new.device;
+      memory = c.self.inside.memory;
+      number = c.self.inside.number;
+      version = number_of c.self.inside.version;
+      upgraded = c.self.inside.upgraded;
+      halted = c.self.inside.halted;
+      totals = c.self.inside.totals;
+    } in
     subst (λ (h : Held g.row.D.Denot). IsReadFault g.D.SectorDevice.state h after) c.self.view_is
     (read_fault g.D.SectorDevice.state before after c.in_default.ensures.failed)
 
 pub returns-clause-answer : goal.returns-clause-answer
 returns-clause-answer g c =
-    let before : Held g.row.D.Denot = record { device = c.self.inside.device; memory = c.self.inside.memory; number = c.self.inside.number; version = number_of c.self.inside.version; upgraded = c.self.inside.upgraded; halted = c.self.inside.halted; totals = c.self.inside.totals } in
-    let after : Held g.row.D.Denot = record { device = c.read_block.new.device; memory = c.self.inside.memory; number = c.self.inside.number; version = number_of c.self.inside.version; upgraded = c.self.inside.upgraded; halted = c.self.inside.halted; totals = c.self.inside.totals } in
-    subst (λ (h : Held g.row.D.Denot). ReadsBlock g.D.SectorDevice.state h after c.args.number c.args.index c.read_block.new.out c.in-Ok.stored) c.self.view_is
+    let before : Held g.row.D.Denot = record {
+      device = c.self.inside.device;
+      memory = c.self.inside.memory;
+      number = c.self.inside.number;
+      version = number_of c.self.inside.version;
+      upgraded = c.self.inside.upgraded;
+      halted = c.self.inside.halted;
+      totals = c.self.inside.totals;
+    } in
+    let after : Held g.row.D.Denot = record {
+      device = c.read_block.new.device;
+      memory = c.self.inside.memory;
+      number = c.self.inside.number;
+      version = number_of c.self.inside.version;
+      upgraded = c.self.inside.upgraded;
+      halted = c.self.inside.halted;
+      totals = c.self.inside.totals;
+    } in
+    subst (λ (h : Held g.row.D.Denot).
+    ReadsBlock g.D.SectorDevice.state h after c.args.number c.args.index c.read_block.new.out c.in-Ok.stored) c.self.view_is
     (reads_block g.D.SectorDevice.state before after c.args.number c.args.index c.read_block.new.out c.in-Ok.stored c.in-Ok.ensures.answer)

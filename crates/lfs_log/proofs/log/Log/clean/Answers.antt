@@ -9,32 +9,91 @@ use Rattle.lfs_log.proofs.log.Log.clean.Goals as goal
 
 pub returns-in-Err-Device-clause-failed : goal.returns-in-Err-Device-clause-failed
 returns-in-Err-Device-clause-failed g c is =
-    let before : Held g.row.D.Denot = record { device = c.self.inside.device; memory = c.self.inside.memory; number = c.self.inside.number; version = number_of c.self.inside.version; upgraded = c.self.inside.upgraded; halted = c.self.inside.halted; totals = c.self.inside.totals } in
-    let after : Held g.row.D.Denot = record { device = c.relocate.new.device; memory = c.relocate.new.memory; number = c.self.inside.number; version = number_of c.self.inside.version; upgraded = c.self.inside.upgraded; halted = c.self.inside.halted; totals = c.self.inside.totals } in
+    let before : Held g.row.D.Denot = record {
+      device = c.self.inside.device;
+      memory = c.self.inside.memory;
+      number = c.self.inside.number;
+      version = number_of c.self.inside.version;
+      upgraded = c.self.inside.upgraded;
+      halted = c.self.inside.halted;
+      totals = c.self.inside.totals;
+    } in
+    let after : Held g.row.D.Denot = record {
+      device = c.relocate.new.device;
+      memory = c.relocate.new.memory;
+      number = c.self.inside.number;
+      version = number_of c.self.inside.version;
+      upgraded = c.self.inside.upgraded;
+      halted = c.self.inside.halted;
+      totals = c.self.inside.totals;
+    } in
     subst (λ (h : Held g.row.D.Denot). IsReadFault g.D.SectorDevice.state h after) c.self.view_is
     (read_fault g.D.SectorDevice.state before after (c.in-Err-Device.ensures.failed (search rules)))
 
 pub save-requires-clause-spare : goal.save-requires-clause-spare
 save-requires-clause-spare g c =
-    let few : length c.relocate.new.memory.dirty.blocks ≤ most_brought (length c.args.victims.now) = let f = c.in-Ok.ensures.few in let most = c.most_of-most.ensures in omega (arith, f, most) in
-    pass_spared (g.D.SectorDevice.state c.self.inside.device) (g.D.SectorDevice.state c.relocate.new.device) c.self.inside.memory c.relocate.new.memory c.args.victims.now
+    let few : length c.relocate.new.memory.dirty.blocks ≤ most_brought (length c.args.victims.now) = let f = c.in-Ok.ensures.few in
+    let most = c.most_of-most.ensures in omega (arith, f, most) in
+    pass_spared (g.D.SectorDevice.state c.self.inside.device) (g.D.SectorDevice.state c.relocate.new.device) c.self.inside.memory
+    c.relocate.new.memory c.args.victims.now
     (c.if-not-may_clean.ensures.yes (search rules)) c.requires c.in-Ok.ensures.done few
 
 pub returns-clause-done : goal.returns-clause-done
 returns-clause-done g c =
-    let before : Held g.row.D.Denot = record { device = c.self.inside.device; memory = c.self.inside.memory; number = c.self.inside.number; version = number_of c.self.inside.version; upgraded = c.self.inside.upgraded; halted = c.self.inside.halted; totals = c.self.inside.totals } in
-    let memory : LogMemory = record { map = c.save.new.memory.map; usage = c.save.new.memory.usage; dirty = c.set_limit.new.self; chunk = c.save.new.memory.chunk } in
-    let after : Held g.row.D.Denot = record { device = c.save.new.device; memory = memory; number = c.self.inside.number + 1; version = number_of c.self.inside.version; upgraded = false; halted = c.self.inside.halted; totals = c.self.inside.totals } in
-    let few : length c.relocate.new.memory.dirty.blocks ≤ most_brought (length c.args.victims.now) = let f = c.in-Ok.ensures.few in let most = c.most_of-most.ensures in omega (arith, f, most) in
+    let before : Held g.row.D.Denot = record {
+      device = c.self.inside.device;
+      memory = c.self.inside.memory;
+      number = c.self.inside.number;
+      version = number_of c.self.inside.version;
+      upgraded = c.self.inside.upgraded;
+      halted = c.self.inside.halted;
+      totals = c.self.inside.totals;
+    } in
+    let memory : LogMemory = record {
+      map = c.save.new.memory.map;
+      usage = c.save.new.memory.usage;
+      dirty = c.set_limit.new.self;
+      chunk = c.save.new.memory.chunk;
+    } in
+    let after : Held g.row.D.Denot = record {
+      device = c.save.new.device;
+      memory = memory;
+      number = c.self.inside.number + 1;
+      version = number_of c.self.inside.version;
+      upgraded = false;
+      halted = c.self.inside.halted;
+      totals = c.self.inside.totals;
+    } in
+    let few : length c.relocate.new.memory.dirty.blocks ≤ most_brought (length c.args.victims.now) = let f = c.in-Ok.ensures.few in
+    let most = c.most_of-most.ensures in omega (arith, f, most) in
     subst (λ (h : Held g.row.D.Denot). Cleans g.D.SectorDevice.state h after c.args.victims.now) c.self.view_is
-    (pass_done g.D.SectorDevice.state before (g.D.SectorDevice.state c.relocate.new.device) c.relocate.new.memory c.args.victims.now (g.met.D.SectorDevice.lawful c.self.inside.device) c.in-Ok.ensures.done
-    (c.if-not-may_clean.ensures.yes (search rules)) c.requires few c.save.new.device c.save.new.memory c.set_limit.new.self c.self.inside.halted c.if-self.false c.set_limit.ensures.blocks
+    (pass_done g.D.SectorDevice.state before (g.D.SectorDevice.state c.relocate.new.device) c.relocate.new.memory c.args.victims.now
+    (g.met.D.SectorDevice.lawful c.self.inside.device) c.in-Ok.ensures.done
+    (c.if-not-may_clean.ensures.yes (search rules)) c.requires few c.save.new.device c.save.new.memory c.set_limit.new.self
+    c.self.inside.halted c.if-self.false c.set_limit.ensures.blocks
     c.in-Ok.ensures.no_failure c.in-Ok-save.ensures.done)
 
 pub returns-in_default-clause-halted : goal.returns-in_default-clause-halted
 returns-in_default-clause-halted g c is ne =
-    let before : Held g.row.D.Denot = record { device = c.self.inside.device; memory = c.self.inside.memory; number = c.self.inside.number; version = number_of c.self.inside.version; upgraded = c.self.inside.upgraded; halted = c.self.inside.halted; totals = c.self.inside.totals } in
-    let after : Held g.row.D.Denot = record { device = c.save.new.device; memory = c.save.new.memory; number = c.self.inside.number; version = number_of c.self.inside.version; upgraded = c.self.inside.upgraded; halted = true; totals = c.self.inside.totals } in
+    let before : Held g.row.D.Denot = record {
+      device = c.self.inside.device;
+      memory = c.self.inside.memory;
+      number = c.self.inside.number;
+      version = number_of c.self.inside.version;
+      upgraded = c.self.inside.upgraded;
+      halted = c.self.inside.halted;
+      totals = c.self.inside.totals;
+    } in
+    let after : Held g.row.D.Denot = record {
+      device = c.save.new.device;
+      memory = c.save.new.memory;
+      number = c.self.inside.number;
+      version = number_of c.self.inside.version;
+      upgraded = c.self.inside.upgraded;
+      halted = true;
+      totals = c.self.inside.totals;
+    } in
     subst (λ (h : Held g.row.D.Denot). Halts g.D.SectorDevice.state h after) c.self.view_is
-    (pass_halts g.D.SectorDevice.state before (g.D.SectorDevice.state c.relocate.new.device) c.relocate.new.memory c.args.victims.now (g.met.D.SectorDevice.lawful c.self.inside.device) c.in-Ok.ensures.done
+    (pass_halts g.D.SectorDevice.state before (g.D.SectorDevice.state c.relocate.new.device) c.relocate.new.memory c.args.victims.now
+    (g.met.D.SectorDevice.lawful c.self.inside.device) c.in-Ok.ensures.done
     c.save.new.device c.save.new.memory c.in-Ok.ensures.no_failure c.in_default.ensures.stopped)

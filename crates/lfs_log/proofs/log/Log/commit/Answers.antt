@@ -7,15 +7,48 @@ use Rattle.lfs_log.proofs.Volumes.{saves, halts}
 -- src/log.rt:168:5
 pub returns-in-Ok-clause-done : goal.returns-in-Ok-clause-done
 returns-in-Ok-clause-done g c =
-    let before : Held g.row.D.Denot = record { device = c.self.inside.device; memory = c.self.inside.memory; number = c.self.inside.number; version = number_of c.self.inside.version; upgraded = c.self.inside.upgraded; halted = c.self.inside.halted; totals = c.self.inside.totals } in
-    let after : Held g.row.D.Denot = record { device = c.save.new.device; memory = c.save.new.memory; number = c.self.inside.number + 1; version = number_of c.self.inside.version; upgraded = false; halted = c.self.inside.halted; totals = c.self.inside.totals } in
+    let before : Held g.row.D.Denot = record {
+      device = c.self.inside.device;
+      memory = c.self.inside.memory;
+      number = c.self.inside.number;
+      version = number_of c.self.inside.version;
+      upgraded = c.self.inside.upgraded;
+      halted = c.self.inside.halted;
+      totals = c.self.inside.totals;
+    } in
+    let after : Held g.row.D.Denot = record {
+      device = c.save.new.device;
+      memory = c.save.new.memory;
+      number = c.self.inside.number + 1;
+      version = number_of c.self.inside.version;
+      upgraded = false;
+      halted = c.self.inside.halted;
+      totals = c.self.inside.totals;
+    } in
     subst (λ (h : Held g.row.D.Denot). Saves g.D.SectorDevice.state h after) c.self.view_is
-    (saves g.D.SectorDevice.state before after (c.self.invariant.0 c.if-self.false).running.few c.in-Ok.ensures.done refl refl refl c.if-self.false)
+    (saves g.D.SectorDevice.state before after (c.self.invariant.0 c.if-self.false).running.few c.in-Ok.ensures.done refl refl refl
+    c.if-self.false)
 
 -- src/log.rt:168:5
 pub returns-in-Err-clause-halted : goal.returns-in-Err-clause-halted
 returns-in-Err-clause-halted g c is ne =
-    let before : Held g.row.D.Denot = record { device = c.self.inside.device; memory = c.self.inside.memory; number = c.self.inside.number; version = number_of c.self.inside.version; upgraded = c.self.inside.upgraded; halted = c.self.inside.halted; totals = c.self.inside.totals } in
-    let after : Held g.row.D.Denot = record { device = c.save.new.device; memory = c.save.new.memory; number = c.self.inside.number; version = number_of c.self.inside.version; upgraded = c.self.inside.upgraded; halted = true; totals = c.self.inside.totals } in
+    let before : Held g.row.D.Denot = record {
+      device = c.self.inside.device;
+      memory = c.self.inside.memory;
+      number = c.self.inside.number;
+      version = number_of c.self.inside.version;
+      upgraded = c.self.inside.upgraded;
+      halted = c.self.inside.halted;
+      totals = c.self.inside.totals;
+    } in
+    let after : Held g.row.D.Denot = record {
+      device = c.save.new.device;
+      memory = c.save.new.memory;
+      number = c.self.inside.number;
+      version = number_of c.self.inside.version;
+      upgraded = c.self.inside.upgraded;
+      halted = true;
+      totals = c.self.inside.totals;
+    } in
     subst (λ (h : Held g.row.D.Denot). Halts g.D.SectorDevice.state h after) c.self.view_is
     (halts g.D.SectorDevice.state before after c.in-Err.ensures.stopped refl refl)

@@ -9,24 +9,58 @@ use Rattle.lfs_log.proofs.Volumes.{read_fault}
 
 pub returns-in_default-clause-failed : goal.returns-in_default-clause-failed
 returns-in_default-clause-failed g c =
-    let before : Held g.row.D.Denot = record { device = c.self.inside.device; memory = c.self.inside.memory; number = c.self.inside.number; version = number_of c.self.inside.version; upgraded = c.self.inside.upgraded; halted = c.self.inside.halted; totals = c.self.inside.totals } in
-    let after : Held g.row.D.Denot = record { device = c.locate_double.new.device; memory = c.self.inside.memory; number = c.self.inside.number; version = number_of c.self.inside.version; upgraded = c.self.inside.upgraded; halted = c.self.inside.halted; totals = c.self.inside.totals } in
+    let before : Held g.row.D.Denot = record {
+      device = c.self.inside.device;
+      memory = c.self.inside.memory;
+      number = c.self.inside.number;
+      version = number_of c.self.inside.version;
+      upgraded = c.self.inside.upgraded;
+      halted = c.self.inside.halted;
+      totals = c.self.inside.totals;
+    } in
+    let after : Held g.row.D.Denot = record {
+      device = c.locate_double.new.device;
+      memory = c.self.inside.memory;
+      number = c.self.inside.number;
+      version = number_of c.self.inside.version;
+      upgraded = c.self.inside.upgraded;
+      halted = c.self.inside.halted;
+      totals = c.self.inside.totals;
+    } in
     subst (λ (h : Held g.row.D.Denot). IsReadFault g.D.SectorDevice.state h after) c.self.view_is
     (read_fault g.D.SectorDevice.state before after c.in_default.ensures.failed)
 
 pub returns-clause-answer : goal.returns-clause-answer
 returns-clause-answer g c =
-    let before : Held g.row.D.Denot = record { device = c.self.inside.device; memory = c.self.inside.memory; number = c.self.inside.number; version = number_of c.self.inside.version; upgraded = c.self.inside.upgraded; halted = c.self.inside.halted; totals = c.self.inside.totals } in
-    let after : Held g.row.D.Denot = record { device = c.locate_double.new.device; memory = c.self.inside.memory; number = c.self.inside.number; version = number_of c.self.inside.version; upgraded = c.self.inside.upgraded; halted = c.self.inside.halted; totals = c.self.inside.totals } in
+    let before : Held g.row.D.Denot = record {
+      device = c.self.inside.device;
+      memory = c.self.inside.memory;
+      number = c.self.inside.number;
+      version = number_of c.self.inside.version;
+      upgraded = c.self.inside.upgraded;
+      halted = c.self.inside.halted;
+      totals = c.self.inside.totals;
+    } in
+    let after : Held g.row.D.Denot = record {
+      device = c.locate_double.new.device;
+      memory = c.self.inside.memory;
+      number = c.self.inside.number;
+      version = number_of c.self.inside.version;
+      upgraded = c.self.inside.upgraded;
+      halted = c.self.inside.halted;
+      totals = c.self.inside.totals;
+    } in
     subst (λ (h : Held g.row.D.Denot). TellsDouble g.D.SectorDevice.state h after c.args.number (not (c.in-Ok.address == 0))) c.self.view_is
     (tells_double g.D.SectorDevice.state before after c.args.number c.in-Ok.address c.in-Ok.ensures.answer)
 
 pub invariant_of-self : goal.invariant_of-self
 invariant_of-self g c =
-    kept_still (g.D.SectorDevice.state c.self.inside.device) (g.D.SectorDevice.state c.locate_double.new.device) c.self.inside.memory c.self.inside.before.usage c.self.inside.halted c.self.inside.pointers
+    kept_still (g.D.SectorDevice.state c.self.inside.device) (g.D.SectorDevice.state c.locate_double.new.device) c.self.inside.memory
+    c.self.inside.before.usage c.self.inside.halted c.self.inside.pointers
     c.locate_double.ensures.looks c.self.invariant
 
 pub invariant_of-self-2 : goal.invariant_of-self-2
 invariant_of-self-2 g c =
-    kept_still (g.D.SectorDevice.state c.self.inside.device) (g.D.SectorDevice.state c.locate_double.new.device) c.self.inside.memory c.self.inside.before.usage c.self.inside.halted c.self.inside.pointers
+    kept_still (g.D.SectorDevice.state c.self.inside.device) (g.D.SectorDevice.state c.locate_double.new.device) c.self.inside.memory
+    c.self.inside.before.usage c.self.inside.halted c.self.inside.pointers
     c.locate_double.ensures.looks c.self.invariant

@@ -7,12 +7,30 @@ use Rattle.lfs_log.proofs.log.Log.least_free.Goals as goal
 
 pub returns-clause-some : goal.returns-clause-some
 returns-clause-some g c =
-    let held : Held g.row.D.Denot = record { device = c.self.inside.device; memory = c.self.inside.memory; number = c.self.inside.number; version = number_of c.self.inside.version; upgraded = c.self.inside.upgraded; halted = c.self.inside.halted; totals = c.self.inside.totals } in
+    let held : Held g.row.D.Denot = record {
+      device = c.self.inside.device;
+      memory = c.self.inside.memory;
+      number = c.self.inside.number;
+      version = number_of c.self.inside.version;
+      upgraded = c.self.inside.upgraded;
+      halted = c.self.inside.halted;
+      totals = c.self.inside.totals;
+    } in
     some_then c.least_free.result _ _
-    (λ n free. subst (λ (h : Held g.row.D.Denot). IsVacant g.D.SectorDevice.state h n) c.self.view_is (is_vacant g.D.SectorDevice.state held n free)) c.least_free.ensures.some
+    (λ n free. subst (λ (h : Held g.row.D.Denot). IsVacant g.D.SectorDevice.state h n) c.self.view_is
+    (is_vacant g.D.SectorDevice.state held n free)) c.least_free.ensures.some
 
 pub returns-clause-none : goal.returns-clause-none
 returns-clause-none g c =
-    let held : Held g.row.D.Denot = record { device = c.self.inside.device; memory = c.self.inside.memory; number = c.self.inside.number; version = number_of c.self.inside.version; upgraded = c.self.inside.upgraded; halted = c.self.inside.halted; totals = c.self.inside.totals } in
+    let held : Held g.row.D.Denot = record {
+      device = c.self.inside.device;
+      memory = c.self.inside.memory;
+      number = c.self.inside.number;
+      version = number_of c.self.inside.version;
+      upgraded = c.self.inside.upgraded;
+      halted = c.self.inside.halted;
+      totals = c.self.inside.totals;
+    } in
     none_then c.least_free.result _ _
-    (λ all. subst (λ (h : Held g.row.D.Denot). HasAll g.D.SectorDevice.state h) c.self.view_is (has_all g.D.SectorDevice.state held all)) c.least_free.ensures.none
+    (λ all. subst (λ (h : Held g.row.D.Denot). HasAll g.D.SectorDevice.state h) c.self.view_is (has_all g.D.SectorDevice.state held all))
+    c.least_free.ensures.none

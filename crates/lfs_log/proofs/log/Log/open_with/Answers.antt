@@ -10,7 +10,8 @@ use Rattle.lfs_log.proofs.log.Log.open_with.Goals as goal
 
 pub with_tables-requires-clause-found : goal.with_tables-requires-clause-found
 with_tables-requires-clause-found g c =
-    tables_behind g.D.SectorDevice.state c.in-Ok.device c.verify.new.device c.in-Ok-verify.ensures.looks c.in-Ok-verify.tables c.in-Ok-verify.ensures.found
+    tables_behind g.D.SectorDevice.state c.in-Ok.device c.verify.new.device c.in-Ok-verify.ensures.looks c.in-Ok-verify.tables
+    c.in-Ok-verify.ensures.found
 
 pub with_tables-requires-clause-durable : goal.with_tables-requires-clause-durable
 with_tables-requires-clause-durable g c =
@@ -19,24 +20,33 @@ with_tables-requires-clause-durable g c =
 pub returns-in-Ok-with_tables-clause-holds : goal.returns-in-Ok-with_tables-clause-holds
 returns-in-Ok-with_tables-clause-holds g c =
     subst (λ (d : g.row.D.Denot). Mounts g.D.SectorDevice.state d c.in-Ok-with_tables.log) c.in-Ok.ensures
-    (mounts_behind g.D.SectorDevice.state c.in-Ok.device c.verify.new.device c.in-Ok-verify.ensures.looks c.in-Ok-with_tables.log c.in-Ok-with_tables.ensures.same c.in-Ok-with_tables.ensures.holds)
+    (mounts_behind g.D.SectorDevice.state c.in-Ok.device c.verify.new.device c.in-Ok-verify.ensures.looks c.in-Ok-with_tables.log
+    c.in-Ok-with_tables.ensures.same c.in-Ok-with_tables.ensures.holds)
 
 pub returns-in-Ok-with_tables-clause-counts : goal.returns-in-Ok-with_tables-clause-counts
 returns-in-Ok-with_tables-clause-counts g c =
-    subst (λ (d : g.row.D.Denot). CountsOpened (g.D.SectorDevice.state d) (g.D.SectorDevice.state c.in-Ok-with_tables.log.device) c.in-Ok-with_tables.log.totals) c.in-Ok.ensures
-    (counts_behind g.D.SectorDevice.state c.in-Ok.device c.verify.new.device c.in-Ok-verify.ensures.looks c.in-Ok-with_tables.log c.in-Ok-with_tables.ensures.same c.in-Ok-with_tables.ensures.counts)
+    subst (λ (d : g.row.D.Denot). CountsOpened (g.D.SectorDevice.state d) (g.D.SectorDevice.state c.in-Ok-with_tables.log.device)
+    c.in-Ok-with_tables.log.totals) c.in-Ok.ensures
+    (counts_behind g.D.SectorDevice.state c.in-Ok.device c.verify.new.device c.in-Ok-verify.ensures.looks c.in-Ok-with_tables.log
+    c.in-Ok-with_tables.ensures.same c.in-Ok-with_tables.ensures.counts)
 
 pub returns-in-Ok-with_tables-clause-found : goal.returns-in-Ok-with_tables-clause-found
 returns-in-Ok-with_tables-clause-found g c =
-    subst (λ (d : g.row.D.Denot). HasLogMap (g.D.SectorDevice.state d) (g.D.SectorDevice.state c.in-Ok-with_tables.log.device)) c.in-Ok.ensures
-    (log_behind g.D.SectorDevice.state c.in-Ok.device c.verify.new.device c.in-Ok-verify.ensures.looks c.in-Ok-with_tables.log c.in-Ok-with_tables.ensures.same c.in-Ok-verify.tables c.in-Ok-verify.ensures.found)
+    subst (λ (d : g.row.D.Denot). HasLogMap (g.D.SectorDevice.state d) (g.D.SectorDevice.state c.in-Ok-with_tables.log.device))
+    c.in-Ok.ensures
+    (log_behind g.D.SectorDevice.state c.in-Ok.device c.verify.new.device c.in-Ok-verify.ensures.looks c.in-Ok-with_tables.log
+    c.in-Ok-with_tables.ensures.same c.in-Ok-verify.tables c.in-Ok-verify.ensures.found)
 
 pub returns-in-Ok-with_tables-clause-durable : goal.returns-in-Ok-with_tables-clause-durable
 returns-in-Ok-with_tables-clause-durable g c =
-    subst (λ (d : g.row.D.Denot). (g.D.SectorDevice.state c.in-Ok-with_tables.log.device).keeps_model → Only (g.D.SectorDevice.state d).content (g.D.SectorDevice.state c.in-Ok-with_tables.log.device)) c.in-Ok.ensures
-    (durable_behind g.D.SectorDevice.state c.in-Ok.device c.verify.new.device c.in-Ok-verify.ensures.looks c.in-Ok-with_tables.log c.in-Ok-with_tables.ensures.same c.in-Ok-verify.ensures.durable)
+    subst (λ (d : g.row.D.Denot). (g.D.SectorDevice.state c.in-Ok-with_tables.log.device).keeps_model
+    → Only (g.D.SectorDevice.state d).content (g.D.SectorDevice.state c.in-Ok-with_tables.log.device)) c.in-Ok.ensures
+    (durable_behind g.D.SectorDevice.state c.in-Ok.device c.verify.new.device c.in-Ok-verify.ensures.looks c.in-Ok-with_tables.log
+    c.in-Ok-with_tables.ensures.same c.in-Ok-verify.ensures.durable)
 
 pub returns-in-Err-verify-clause-cause : goal.returns-in-Err-verify-clause-cause
 returns-in-Err-verify-clause-cause g c =
-    subst (λ (d : g.row.D.Denot). (c.in-Err-verify.fault ≡ fault.NoMemory → ⊥) → IsOpenFault (g.D.SectorDevice.state d) (g.D.SectorDevice.state c.into_inner.result) c.in-Err-verify.fault) c.in-Ok.ensures
-    (subst (λ (d : g.row.D.Denot). (c.in-Err-verify.fault ≡ fault.NoMemory → ⊥) → IsOpenFault (g.D.SectorDevice.state c.in-Ok.device) (g.D.SectorDevice.state d) c.in-Err-verify.fault) (sym c.into_inner.ensures) c.in-Err-verify.ensures.cause)
+    subst (λ (d : g.row.D.Denot). (c.in-Err-verify.fault ≡ fault.NoMemory → ⊥)
+    → IsOpenFault (g.D.SectorDevice.state d) (g.D.SectorDevice.state c.into_inner.result) c.in-Err-verify.fault) c.in-Ok.ensures
+    (subst (λ (d : g.row.D.Denot). (c.in-Err-verify.fault ≡ fault.NoMemory → ⊥) → IsOpenFault (g.D.SectorDevice.state c.in-Ok.device)
+    (g.D.SectorDevice.state d) c.in-Err-verify.fault) (sym c.into_inner.ensures) c.in-Err-verify.ensures.cause)

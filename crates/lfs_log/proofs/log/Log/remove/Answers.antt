@@ -6,21 +6,71 @@ use Rattle.lfs_log.proofs.log.Log.remove.Goals as goal
 
 pub returns-in_default-clause-kept : goal.returns-in_default-clause-kept
 returns-in_default-clause-kept g c =
-    let before : Held g.row.D.Denot = record { device = c.self.inside.device; memory = c.self.inside.memory; number = c.self.inside.number; version = number_of c.self.inside.version; upgraded = c.self.inside.upgraded; halted = c.self.inside.halted; totals = c.self.inside.totals } in
-    let after : Held g.row.D.Denot = record { device = c.remove_tight.new.device; memory = c.remove_tight.new.memory; number = c.self.inside.number; version = number_of c.self.inside.version; upgraded = c.self.inside.upgraded; halted = c.self.inside.halted; totals = c.self.inside.totals } in
+    let before : Held g.row.D.Denot = record {
+      device = c.self.inside.device;
+      memory = c.self.inside.memory;
+      number = c.self.inside.number;
+      version = number_of c.self.inside.version;
+      upgraded = c.self.inside.upgraded;
+      halted = c.self.inside.halted;
+      totals = c.self.inside.totals;
+    } in
+    let after : Held g.row.D.Denot = record {
+      device = c.remove_tight.new.device;
+      memory = c.remove_tight.new.memory;
+      number = c.self.inside.number;
+      version = number_of c.self.inside.version;
+      upgraded = c.self.inside.upgraded;
+      halted = c.self.inside.halted;
+      totals = c.self.inside.totals;
+    } in
     subst (λ (h : Held g.row.D.Denot). IsKept g.D.SectorDevice.state h after) c.self.view_is
-    (is_kept g.D.SectorDevice.state before after c.in_default.ensures.kept.0 refl refl c.in_default.ensures.kept.2 refl refl c.in_default.ensures.kept.1)
+    (is_kept g.D.SectorDevice.state before after c.in_default.ensures.kept.0 refl refl c.in_default.ensures.kept.2 refl refl
+    c.in_default.ensures.kept.1)
 
 pub returns-in_default-clause-failed : goal.returns-in_default-clause-failed
 returns-in_default-clause-failed g c =
-    let before : Held g.row.D.Denot = record { device = c.self.inside.device; memory = c.self.inside.memory; number = c.self.inside.number; version = number_of c.self.inside.version; upgraded = c.self.inside.upgraded; halted = c.self.inside.halted; totals = c.self.inside.totals } in
-    let after : Held g.row.D.Denot = record { device = c.remove_tight.new.device; memory = c.remove_tight.new.memory; number = c.self.inside.number; version = number_of c.self.inside.version; upgraded = c.self.inside.upgraded; halted = c.self.inside.halted; totals = c.self.inside.totals } in
+    let before : Held g.row.D.Denot = record {
+      device = c.self.inside.device;
+      memory = c.self.inside.memory;
+      number = c.self.inside.number;
+      version = number_of c.self.inside.version;
+      upgraded = c.self.inside.upgraded;
+      halted = c.self.inside.halted;
+      totals = c.self.inside.totals;
+    } in
+    let after : Held g.row.D.Denot = record {
+      device = c.remove_tight.new.device;
+      memory = c.remove_tight.new.memory;
+      number = c.self.inside.number;
+      version = number_of c.self.inside.version;
+      upgraded = c.self.inside.upgraded;
+      halted = c.self.inside.halted;
+      totals = c.self.inside.totals;
+    } in
     subst (λ (h : Held g.row.D.Denot). IsReadFault g.D.SectorDevice.state h after) c.self.view_is
     (read_fault g.D.SectorDevice.state before after c.in_default.ensures.failed)
 
 pub returns-clause-done : goal.returns-clause-done
 returns-clause-done g c =
-    let before : Held g.row.D.Denot = record { device = c.self.inside.device; memory = c.self.inside.memory; number = c.self.inside.number; version = number_of c.self.inside.version; upgraded = c.self.inside.upgraded; halted = c.self.inside.halted; totals = c.self.inside.totals } in
-    let after : Held g.row.D.Denot = record { device = c.remove_tight.new.device; memory = c.remove_tight.new.memory; number = c.self.inside.number; version = number_of c.self.inside.version; upgraded = c.self.inside.upgraded; halted = c.self.inside.halted; totals = c.args.totals } in
+    let before : Held g.row.D.Denot = record {
+      device = c.self.inside.device;
+      memory = c.self.inside.memory;
+      number = c.self.inside.number;
+      version = number_of c.self.inside.version;
+      upgraded = c.self.inside.upgraded;
+      halted = c.self.inside.halted;
+      totals = c.self.inside.totals;
+    } in
+    let after : Held g.row.D.Denot = record {
+      device = c.remove_tight.new.device;
+      memory = c.remove_tight.new.memory;
+      number = c.self.inside.number;
+      version = number_of c.self.inside.version;
+      upgraded = c.self.inside.upgraded;
+      halted = c.self.inside.halted;
+      totals = c.args.totals;
+    } in
     subst (λ (h : Held g.row.D.Denot). IsRemoved g.D.SectorDevice.state h after c.args.number) c.self.view_is
-    (is_removed g.D.SectorDevice.state before after c.in-Ok.ensures.done.0 refl refl c.in-Ok.ensures.done.2 refl refl c.args.number c.in-Ok.ensures.done.1)
+    (is_removed g.D.SectorDevice.state before after c.in-Ok.ensures.done.0 refl refl c.in-Ok.ensures.done.2 refl refl c.args.number
+    c.in-Ok.ensures.done.1)

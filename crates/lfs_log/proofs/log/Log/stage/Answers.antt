@@ -6,23 +6,72 @@ use Rattle.lfs_log.proofs.log.Log.stage.Goals as goal
 
 pub returns-in-Ok-clause-done : goal.returns-in-Ok-clause-done
 returns-in-Ok-clause-done g c =
-    let before : Held g.row.D.Denot = record { device = c.self.inside.device; memory = c.self.inside.memory; number = c.self.inside.number; version = number_of c.self.inside.version; upgraded = c.self.inside.upgraded; halted = c.self.inside.halted; totals = c.self.inside.totals } in
-    let after : Held g.row.D.Denot = record { device = c.stage_tight.new.device; memory = c.stage_tight.new.memory; number = c.self.inside.number; version = number_of c.version_after-self-inside.result; upgraded = c.is_raised_after-self-inside.result; halted = c.self.inside.halted; totals = c.args.totals } in
+    let before : Held g.row.D.Denot = record {
+      device = c.self.inside.device;
+      memory = c.self.inside.memory;
+      number = c.self.inside.number;
+      version = number_of c.self.inside.version;
+      upgraded = c.self.inside.upgraded;
+      halted = c.self.inside.halted;
+      totals = c.self.inside.totals;
+    } in
+    let after : Held g.row.D.Denot = record {
+      device = c.stage_tight.new.device;
+      memory = c.stage_tight.new.memory;
+      number = c.self.inside.number;
+      version = number_of c.version_after-self-inside.result;
+      upgraded = c.is_raised_after-self-inside.result;
+      halted = c.self.inside.halted;
+      totals = c.args.totals;
+    } in
     let go = c.in-Ok.ensures.done in
     subst (λ (h : Held g.row.D.Denot). IsStaged g.D.SectorDevice.state h after c.args.changes.now) c.self.view_is
-    (is_staged g.D.SectorDevice.state before after go.0 refl refl go.2 c.args.changes.now c.version_after-self-inside.ensures c.is_raised_after-self-inside.ensures go.1)
+    (is_staged g.D.SectorDevice.state before after go.0 refl refl go.2 c.args.changes.now c.version_after-self-inside.ensures
+    c.is_raised_after-self-inside.ensures go.1)
 
 pub returns-in-Err-clause-refused : goal.returns-in-Err-clause-refused
 returns-in-Err-clause-refused g c =
-    let before : Held g.row.D.Denot = record { device = c.self.inside.device; memory = c.self.inside.memory; number = c.self.inside.number; version = number_of c.self.inside.version; upgraded = c.self.inside.upgraded; halted = c.self.inside.halted; totals = c.self.inside.totals } in
-    let after : Held g.row.D.Denot = record { device = c.stage_tight.new.device; memory = c.stage_tight.new.memory; number = c.self.inside.number; version = number_of c.self.inside.version; upgraded = c.self.inside.upgraded; halted = c.self.inside.halted; totals = c.self.inside.totals } in
+    let before : Held g.row.D.Denot = record {
+      device = c.self.inside.device;
+      memory = c.self.inside.memory;
+      number = c.self.inside.number;
+      version = number_of c.self.inside.version;
+      upgraded = c.self.inside.upgraded;
+      halted = c.self.inside.halted;
+      totals = c.self.inside.totals;
+    } in
+    let after : Held g.row.D.Denot = record {
+      device = c.stage_tight.new.device;
+      memory = c.stage_tight.new.memory;
+      number = c.self.inside.number;
+      version = number_of c.self.inside.version;
+      upgraded = c.self.inside.upgraded;
+      halted = c.self.inside.halted;
+      totals = c.self.inside.totals;
+    } in
     let go = c.in-Err.ensures.refused in
     subst (λ (h : Held g.row.D.Denot). IsRefused g.D.SectorDevice.state h after c.args.changes.now) c.self.view_is
     (is_refused g.D.SectorDevice.state before after go.0 refl refl go.2 c.args.changes.now refl refl go.1)
 
 pub returns-in-Err-clause-failed : goal.returns-in-Err-clause-failed
 returns-in-Err-clause-failed g c is =
-    let before : Held g.row.D.Denot = record { device = c.self.inside.device; memory = c.self.inside.memory; number = c.self.inside.number; version = number_of c.self.inside.version; upgraded = c.self.inside.upgraded; halted = c.self.inside.halted; totals = c.self.inside.totals } in
-    let after : Held g.row.D.Denot = record { device = c.stage_tight.new.device; memory = c.stage_tight.new.memory; number = c.self.inside.number; version = number_of c.self.inside.version; upgraded = c.self.inside.upgraded; halted = c.self.inside.halted; totals = c.self.inside.totals } in
+    let before : Held g.row.D.Denot = record {
+      device = c.self.inside.device;
+      memory = c.self.inside.memory;
+      number = c.self.inside.number;
+      version = number_of c.self.inside.version;
+      upgraded = c.self.inside.upgraded;
+      halted = c.self.inside.halted;
+      totals = c.self.inside.totals;
+    } in
+    let after : Held g.row.D.Denot = record {
+      device = c.stage_tight.new.device;
+      memory = c.stage_tight.new.memory;
+      number = c.self.inside.number;
+      version = number_of c.self.inside.version;
+      upgraded = c.self.inside.upgraded;
+      halted = c.self.inside.halted;
+      totals = c.self.inside.totals;
+    } in
     subst (λ (h : Held g.row.D.Denot). IsStageFault g.D.SectorDevice.state h after c.args.changes.now) c.self.view_is
     (is_stage_fault g.D.SectorDevice.state before after c.args.changes.now (c.in-Err.ensures.failed is))

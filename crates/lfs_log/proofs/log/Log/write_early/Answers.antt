@@ -9,19 +9,47 @@ use Rattle.lfs_log.proofs.log.Log.write_early.Goals as goal
 
 pub returns-in-Ok-clause-done : goal.returns-in-Ok-clause-done
 returns-in-Ok-clause-done g c =
-    let with_two : g.row.D.Denot → LogMemory → Held g.row.D.Denot = λ d v. record { device = d; memory = v; number = c.self.inside.number; version = number_of c.self.inside.version; upgraded = c.self.inside.upgraded; halted = c.self.inside.halted; totals = c.self.inside.totals } in
+    let with_two : g.row.D.Denot → LogMemory → Held g.row.D.Denot =
+    λ d v. record {
+      device = d;
+      memory = v;
+      number = c.self.inside.number;
+      version = number_of c.self.inside.version;
+      upgraded = c.self.inside.upgraded;
+      halted = c.self.inside.halted;
+      totals = c.self.inside.totals;
+    } in
     let before = with_two c.self.inside.device c.self.inside.memory in
     let after = with_two c.write_chunks.new.device c.write_chunks.new.memory in
     let told = c.in-Ok.ensures in
     subst (λ (h : Held g.row.D.Denot). WritesEarly g.D.SectorDevice.state h after) c.self.view_is
     (writes_early g.D.SectorDevice.state before after told.done refl refl refl c.if-self.false
-    (⊎_elim (λ (same : (c.write_chunks.new.device ≡ c.self.inside.device) × (c.write_chunks.new.memory ≡ c.self.inside.memory)). inl (ap₂ with_two same.0 same.1))
-    (λ (kept : reserve_of (length c.write_chunks.new.memory.usage.segments) ≤ clean_in c.write_chunks.new.memory.usage.segments). inr kept) told.reserve)
+    (⊎_elim (λ (same : (c.write_chunks.new.device ≡ c.self.inside.device) × (c.write_chunks.new.memory ≡ c.self.inside.memory)).
+    inl (ap₂ with_two same.0 same.1))
+    (λ (kept : reserve_of (length c.write_chunks.new.memory.usage.segments) ≤ clean_in c.write_chunks.new.memory.usage.segments). inr kept)
+    told.reserve)
     (λ few. (let same = c.write_chunks.ensures.idle few in ap₂ with_two same.0 same.1)))
 
 pub returns-in-Err-clause-halted : goal.returns-in-Err-clause-halted
 returns-in-Err-clause-halted g c is ne =
-    let before : Held g.row.D.Denot = record { device = c.self.inside.device; memory = c.self.inside.memory; number = c.self.inside.number; version = number_of c.self.inside.version; upgraded = c.self.inside.upgraded; halted = c.self.inside.halted; totals = c.self.inside.totals } in
-    let after : Held g.row.D.Denot = record { device = c.write_chunks.new.device; memory = c.write_chunks.new.memory; number = c.self.inside.number; version = number_of c.self.inside.version; upgraded = c.self.inside.upgraded; halted = true; totals = c.self.inside.totals } in
+    let before : Held g.row.D.Denot = record {
+      device = c.self.inside.device;
+      memory = c.self.inside.memory;
+      number = c.self.inside.number;
+      version = number_of c.self.inside.version;
+      upgraded = c.self.inside.upgraded;
+      halted = c.self.inside.halted;
+      totals = c.self.inside.totals;
+    } in
+    let after : Held g.row.D.Denot =
+    record {
+      device = c.write_chunks.new.device;
+      memory = c.write_chunks.new.memory;
+      number = c.self.inside.number;
+      version = number_of c.self.inside.version;
+      upgraded = c.self.inside.upgraded;
+      halted = true;
+      totals = c.self.inside.totals;
+    } in
     subst (λ (h : Held g.row.D.Denot). Halts g.D.SectorDevice.state h after) c.self.view_is
     (early_halts g.D.SectorDevice.state before after c.in-Err.ensures.stopped refl refl)

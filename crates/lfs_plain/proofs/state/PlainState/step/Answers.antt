@@ -8,4 +8,5 @@ unfolding step_end
 returns-clause-exact c = c.in_ok-answer.ensures
 
 pub returns-clause-steps : goal.returns-clause-steps
-returns-clause-steps c whole = answered_steps c.args.segments c.args.self.now c.perform.new.self (call_of c.args.call.now) c.in_ok-answer.answer whole c.in_ok-answer.ensures
+returns-clause-steps c whole = answered_steps c.args.segments c.args.self.now c.perform.new.self
+    (call_of c.args.call.now) c.in_ok-answer.answer whole c.in_ok-answer.ensures

@@ -14,6 +14,8 @@ returns c segments lt so =
     let there : at < length blocks = omega (arith, c.requires.low, c.requires.blocks) in
     let entries : usage_of c.set_usage_entry.new.block ≡ slice_set (usage_of (get_or blocks at [])) place (saved c.args.state) =
     c.set_usage_entry.ensures.entries
-    ∙ ap (λ (was : List ℕ). slice_set (usage_of was) place c.saved.result) (c.index_mut-block.ensures.value ∙ get_or_default blocks at _ [] there)
+    ∙ ap (λ (was : List ℕ). slice_set (usage_of was) place c.saved.result)
+    (c.index_mut-block.ensures.value ∙ get_or_default blocks at _ [] there)
     ∙ ap (λ (entry : SegmentUse). slice_set (usage_of (get_or blocks at [])) place entry) c.saved.ensures in
-    spelled_anew blocks _ segments c.args.segment c.args.state c.set_usage_entry.new.block c.requires.low lt so refl c.set_usage_entry.ensures.length entries
+    spelled_anew blocks _ segments c.args.segment c.args.state c.set_usage_entry.new.block c.requires.low lt so refl
+    c.set_usage_entry.ensures.length entries

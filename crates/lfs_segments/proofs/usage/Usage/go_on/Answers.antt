@@ -11,10 +11,13 @@ returns c =
     let held : c.continued-state.result.held ≡ held_of c.args.self.now c.args.segment = search rules in
     let age : c.continued-state.result.age ≡ c.args.age = search rules in
     let kept : c.continued-state.result.kept ≡ kept_of c.args.self.now c.args.segment = search rules in
-    let segments : c.make_stale.new.self.segments ≡ slice_set c.args.self.now.segments c.args.segment c.continued-state.result = search rules in
+    let segments : c.make_stale.new.self.segments ≡ slice_set c.args.self.now.segments c.args.segment c.continued-state.result =
+    search rules in
     let last : c.make_stale.new.self.last ≡ c.args.self.now.last = search rules in
-    let blocks : c.make_stale.new.self.blocks ≡ slice_set c.args.self.now.blocks (c.args.segment / 64) (record { address = (get_or c.args.self.now.blocks (c.args.segment / 64) no_place).address; stale = true }) = search rules in
-    goes_on_of c.args.self.now c.make_stale.new.self c.args.segment c.args.age c.continued-state.result fits c.requires.inside c.requires.some c.requires.room used live held age kept segments blocks last
+    let blocks : c.make_stale.new.self.blocks ≡ slice_set c.args.self.now.blocks (c.args.segment / 64)
+    (record { address = (get_or c.args.self.now.blocks (c.args.segment / 64) no_place).address; stale = true }) = search rules in
+    goes_on_of c.args.self.now c.make_stale.new.self c.args.segment c.args.age c.continued-state.result fits c.requires.inside
+    c.requires.some c.requires.room used live held age kept segments blocks last
 
 pub make_stale-requires : goal.make_stale-requires
 make_stale-requires c =

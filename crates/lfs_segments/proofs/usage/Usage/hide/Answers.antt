@@ -11,10 +11,13 @@ returns c =
     let held : c.hidden-state.result.held ≡ held_of c.args.self.now c.args.segment + c.args.count = search rules in
     let age : c.hidden-state.result.age ≡ age_of c.args.self.now c.args.segment = search rules in
     let kept : c.hidden-state.result.kept ≡ kept_of c.args.self.now c.args.segment = search rules in
-    let segments : c.make_stale.new.self.segments ≡ slice_set c.args.self.now.segments c.args.segment c.hidden-state.result = search rules in
+    let segments : c.make_stale.new.self.segments ≡ slice_set c.args.self.now.segments c.args.segment c.hidden-state.result =
+    search rules in
     let last : c.make_stale.new.self.last ≡ c.args.self.now.last = search rules in
-    let blocks : c.make_stale.new.self.blocks ≡ slice_set c.args.self.now.blocks (c.args.segment / 64) (record { address = (get_or c.args.self.now.blocks (c.args.segment / 64) no_place).address; stale = true }) = search rules in
-    hides_of c.args.self.now c.make_stale.new.self c.args.segment c.args.count c.hidden-state.result fits c.requires.inside used live held age kept segments blocks last
+    let blocks : c.make_stale.new.self.blocks ≡ slice_set c.args.self.now.blocks (c.args.segment / 64)
+    (record { address = (get_or c.args.self.now.blocks (c.args.segment / 64) no_place).address; stale = true }) = search rules in
+    hides_of c.args.self.now c.make_stale.new.self c.args.segment c.args.count c.hidden-state.result fits c.requires.inside used live held
+    age kept segments blocks last
 
 pub make_stale-requires : goal.make_stale-requires
 make_stale-requires c =

@@ -11,10 +11,13 @@ returns c =
     let held : cond (not c.args.lives) 1 0 + c.lifted-state.result.held ≡ held_of c.args.self.now c.args.segment = search rules in
     let age : c.lifted-state.result.age ≡ age_of c.args.self.now c.args.segment = search rules in
     let kept : c.lifted-state.result.kept ≡ kept_of c.args.self.now c.args.segment = search rules in
-    let segments : c.make_stale.new.self.segments ≡ slice_set c.args.self.now.segments c.args.segment c.lifted-state.result = search rules in
+    let segments : c.make_stale.new.self.segments ≡ slice_set c.args.self.now.segments c.args.segment c.lifted-state.result =
+    search rules in
     let last : c.make_stale.new.self.last ≡ c.args.self.now.last = search rules in
-    let blocks : c.make_stale.new.self.blocks ≡ slice_set c.args.self.now.blocks (c.args.segment / 64) (record { address = (get_or c.args.self.now.blocks (c.args.segment / 64) no_place).address; stale = true }) = search rules in
-    lifts_of c.args.self.now c.make_stale.new.self c.args.segment c.lifted-state.result c.args.lives fits c.requires.inside used live held age kept segments blocks last
+    let blocks : c.make_stale.new.self.blocks ≡ slice_set c.args.self.now.blocks (c.args.segment / 64)
+    (record { address = (get_or c.args.self.now.blocks (c.args.segment / 64) no_place).address; stale = true }) = search rules in
+    lifts_of c.args.self.now c.make_stale.new.self c.args.segment c.lifted-state.result c.args.lives fits c.requires.inside used live held
+    age kept segments blocks last
 
 pub make_stale-requires : goal.make_stale-requires
 make_stale-requires c =

@@ -13,8 +13,10 @@ returns c =
     let kept : c.noted-state.result.kept ≡ kept_of c.args.self.now c.args.segment = search rules in
     let segments : c.make_stale.new.self.segments ≡ slice_set c.args.self.now.segments c.args.segment c.noted-state.result = search rules in
     let last : c.make_stale.new.self.last ≡ c.args.self.now.last = search rules in
-    let blocks : c.make_stale.new.self.blocks ≡ slice_set c.args.self.now.blocks (c.args.segment / 64) (record { address = (get_or c.args.self.now.blocks (c.args.segment / 64) no_place).address; stale = true }) = search rules in
-    notes_of c.args.self.now c.make_stale.new.self c.args.segment c.noted-state.result c.args.lives fits c.requires.inside c.requires.begun used live held age kept segments blocks last
+    let blocks : c.make_stale.new.self.blocks ≡ slice_set c.args.self.now.blocks (c.args.segment / 64)
+    (record { address = (get_or c.args.self.now.blocks (c.args.segment / 64) no_place).address; stale = true }) = search rules in
+    notes_of c.args.self.now c.make_stale.new.self c.args.segment c.noted-state.result c.args.lives fits c.requires.inside c.requires.begun
+    used live held age kept segments blocks last
 
 pub make_stale-requires : goal.make_stale-requires
 make_stale-requires c =

@@ -9,7 +9,8 @@ pub exchanged-self-inside-requires-clause-inside : goal.exchanged-self-inside-re
 exchanged-self-inside-requires-clause-inside c =
     let inside : c.args.segment < length c.self.inside.states.items = search rules in
     let was : c.one_if_clean.result ≡ cond ((get_or c.self.inside.states.items c.args.segment no_segment).used == 0) 1 0 = search rules in
-    let change = clean_change c.self.inside.states.items c.args.segment (record { used = 1; live = 0; held = 0; age = 0; kept = 0 }) inside in
+    let change =
+    clean_change c.self.inside.states.items c.args.segment (record { used = 1; live = 0; held = 0; age = 0; kept = 0 }) inside in
     let total = c.self.invariant.1.clean_ones in
     omega arith
 
@@ -56,11 +57,17 @@ exchanged-self-inside-requires-3-clause-few c =
 pub invariant_of-self : goal.invariant_of-self
 invariant_of-self c =
     let inside : c.args.segment < length c.self.inside.states.items = search rules in
-    let cleans : c.exchanged-self-inside.result + cond ((get_or c.self.inside.states.items c.args.segment no_segment).used == 0) 1 0 ≡ c.self.inside.clean + cond (c.args.state.used == 0) 1 0 = search rules in
-    let earlies : c.exchanged-self-inside-2.result + early_of (get_or c.self.inside.states.items c.args.segment no_segment) ≡ c.self.inside.early + early_of c.args.state = search rules in
-    let takens : c.exchanged-self-inside-3.result + taken_of (get_or c.self.inside.states.items c.args.segment no_segment) ≡ c.self.inside.taken + taken_of c.args.state = search rules in (
-      set_fits c.self.inside.last c.self.inside.states.items c.self.inside.blocks.items c.args.segment c.args.state c.self.invariant.0 inside c.requires.fits,
-      totals_change c.self.inside.states.items c.args.segment c.args.state c.self.inside.clean c.self.inside.early c.self.inside.taken c.exchanged-self-inside.result c.exchanged-self-inside-2.result c.exchanged-self-inside-3.result inside c.self.invariant.1 cleans earlies takens,
+    let cleans : c.exchanged-self-inside.result + cond ((get_or c.self.inside.states.items c.args.segment no_segment).used == 0) 1 0
+    ≡ c.self.inside.clean + cond (c.args.state.used == 0) 1 0 = search rules in
+    let earlies : c.exchanged-self-inside-2.result + early_of (get_or c.self.inside.states.items c.args.segment no_segment)
+    ≡ c.self.inside.early + early_of c.args.state = search rules in
+    let takens : c.exchanged-self-inside-3.result + taken_of (get_or c.self.inside.states.items c.args.segment no_segment)
+    ≡ c.self.inside.taken + taken_of c.args.state = search rules in (
+      set_fits c.self.inside.last c.self.inside.states.items c.self.inside.blocks.items c.args.segment c.args.state c.self.invariant.0
+          inside c.requires.fits,
+      totals_change c.self.inside.states.items c.args.segment c.args.state c.self.inside.clean c.self.inside.early c.self.inside.taken
+          c.exchanged-self-inside.result c.exchanged-self-inside-2.result c.exchanged-self-inside-3.result inside c.self.invariant.1 cleans
+          earlies takens,
       c.note.ensures c.self.inside.states.items inside (search rules) c.self.invariant.2,
       c.put.ensures c.self.inside.states.items inside c.self.invariant.3,
     )

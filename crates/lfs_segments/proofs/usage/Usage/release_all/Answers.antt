@@ -7,5 +7,9 @@ use Rattle.lfs_segments.proofs.usage.Usage.release_all.Goals as goal
 pub loop-segment-preserved : goal.loop-segment-preserved
 loop-segment-preserved c =
     let inside : c.loop-segment.segment < length c.loop-segment.self.segments = search rules in
-    let segments : c.put.new.self.segments ≡ slice_set c.loop-segment.self.segments c.loop-segment.segment (released (get_or c.loop-segment.self.segments c.loop-segment.segment no_segment)) = search rules in
-    (release_goes_on c.args.self.now c.loop-segment.self c.put.new.self c.loop-segment.segment c.loop-segment.invariant.0 inside segments c.put.ensures.blocks c.put.ensures.last, c.loop-segment.invariant.1)
+    let segments : c.put.new.self.segments ≡ slice_set c.loop-segment.self.segments c.loop-segment.segment
+    (released (get_or c.loop-segment.self.segments c.loop-segment.segment no_segment)) = search rules in (
+      release_goes_on c.args.self.now c.loop-segment.self c.put.new.self c.loop-segment.segment c.loop-segment.invariant.0 inside segments
+          c.put.ensures.blocks c.put.ensures.last,
+      c.loop-segment.invariant.1,
+    )

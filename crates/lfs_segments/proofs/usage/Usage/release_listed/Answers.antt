@@ -21,8 +21,12 @@ loop-at-preserved c =
     let size = so.size in
     let is : c.get-segment.result ≡ get_or c.args.list.now.segments c.loop-at.at 0 = c.get-segment.ensures in
     let inside : c.get-segment.result < length c.loop-at.self.segments = omega (arith, was, size, is) in
-    let segments : c.put.new.self.segments ≡ slice_set c.loop-at.self.segments c.get-segment.result (released (get_or c.loop-at.self.segments c.get-segment.result no_segment)) = search rules in
-    (listed_goes_on c.args.self.now c.loop-at.self c.put.new.self c.args.list.now c.loop-at.at c.get-segment.result so is inside segments c.put.ensures.blocks c.put.ensures.last, c.loop-at.invariant.1)
+    let segments : c.put.new.self.segments ≡ slice_set c.loop-at.self.segments c.get-segment.result
+    (released (get_or c.loop-at.self.segments c.get-segment.result no_segment)) = search rules in (
+      listed_goes_on c.args.self.now c.loop-at.self c.put.new.self c.args.list.now c.loop-at.at c.get-segment.result so is inside segments
+          c.put.ensures.blocks c.put.ensures.last,
+      c.loop-at.invariant.1,
+    )
 
 pub returns : goal.returns
 returns c =

@@ -8,13 +8,17 @@ returns c =
     let fits : FitsTable c.args.self.now = search rules in
     let used : c.taken_away-state.result.used ≡ used_of c.args.self.now c.args.segment = search rules in
     let live : c.taken_away-state.result.live ≡ live_of c.args.self.now c.args.segment - cond c.args.lives c.args.count 0 = search rules in
-    let held : c.taken_away-state.result.held ≡ held_of c.args.self.now c.args.segment - cond (not c.args.lives) c.args.count 0 = search rules in
+    let held : c.taken_away-state.result.held ≡ held_of c.args.self.now c.args.segment - cond (not c.args.lives) c.args.count 0 =
+    search rules in
     let age : c.taken_away-state.result.age ≡ age_of c.args.self.now c.args.segment = search rules in
     let kept : c.taken_away-state.result.kept ≡ kept_of c.args.self.now c.args.segment = search rules in
-    let segments : c.make_stale.new.self.segments ≡ slice_set c.args.self.now.segments c.args.segment c.taken_away-state.result = search rules in
+    let segments : c.make_stale.new.self.segments ≡ slice_set c.args.self.now.segments c.args.segment c.taken_away-state.result =
+    search rules in
     let last : c.make_stale.new.self.last ≡ c.args.self.now.last = search rules in
-    let blocks : c.make_stale.new.self.blocks ≡ slice_set c.args.self.now.blocks (c.args.segment / 64) (record { address = (get_or c.args.self.now.blocks (c.args.segment / 64) no_place).address; stale = true }) = search rules in
-    takes_away_of c.args.self.now c.make_stale.new.self c.args.segment c.args.count c.taken_away-state.result c.args.lives fits c.requires.inside used live held age kept segments blocks last
+    let blocks : c.make_stale.new.self.blocks ≡ slice_set c.args.self.now.blocks (c.args.segment / 64)
+    (record { address = (get_or c.args.self.now.blocks (c.args.segment / 64) no_place).address; stale = true }) = search rules in
+    takes_away_of c.args.self.now c.make_stale.new.self c.args.segment c.args.count c.taken_away-state.result c.args.lives fits
+    c.requires.inside used live held age kept segments blocks last
 
 pub make_stale-requires : goal.make_stale-requires
 make_stale-requires c =

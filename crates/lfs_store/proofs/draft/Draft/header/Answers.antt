@@ -2,4 +2,5 @@ use Rattle.lfs_store.proofs.Readings.{says_after_loss}
 use Rattle.lfs_store.proofs.draft.Draft.header.Goals as goal
 
 pub returns-in-None : goal.returns-in-None
-returns-in-None c = says_after_loss c.args.self.now.changes c.args.number.value c.header_after.result c.in-None.ensures c.header_after.ensures
+returns-in-None c =
+    says_after_loss c.args.self.now.changes c.args.number.value c.header_after.result c.in-None.ensures c.header_after.ensures

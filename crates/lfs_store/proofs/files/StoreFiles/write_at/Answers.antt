@@ -32,4 +32,5 @@ pub returns-clause-asked : goal.returns-clause-asked
 returns-clause-asked g c =
     ok_then c.write_at.result _ _
     (seen_asked g.D.SectorDevice.state c.args.self.now.log c.write_at.new.self.log c.args.self.now.draft c.write_at.new.self.draft
-    c.args.self.now.saved c.write_at.new.self.saved c.args.self.now.drafted c.write_at.new.self.drafted c.args.bytes.now) c.write_at.ensures.asked
+    c.args.self.now.saved c.write_at.new.self.saved c.args.self.now.drafted c.write_at.new.self.drafted c.args.bytes.now)
+    c.write_at.ensures.asked

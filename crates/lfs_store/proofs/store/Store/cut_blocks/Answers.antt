@@ -8,8 +8,10 @@ use Rattle.lfs_store.proofs.store.Store.cut_blocks.Goals as goal
 
 pub returns-then-len-eq0-clause-done : goal.returns-then-len-eq0-clause-done
 returns-then-len-eq0-clause-done g c =
-    cuts_even g.D.SectorDevice.state c.args.self.now.log c.lose_blocks.new.self.log c.lose_blocks.new.self.draft.changes c.args.number.value c.args.len (search rules) c.lose_blocks.ensures.draft
+    cuts_even g.D.SectorDevice.state c.args.self.now.log c.lose_blocks.new.self.log c.lose_blocks.new.self.draft.changes c.args.number.value
+    c.args.len (search rules) c.lose_blocks.ensures.draft
 
 pub returns-clause-failed : goal.returns-clause-failed
 returns-clause-failed g c =
-    subst (λ (log : Held _). IfErr c.cut_last.result (λ (fault : StoreFault). (fault ≡ NoMemory → ⊥) → IsReadFault g.D.SectorDevice.state log c.cut_last.new.self.log)) c.lose_blocks.ensures.log c.cut_last.ensures.failed
+    subst (λ (log : Held _). IfErr c.cut_last.result (λ (fault : StoreFault). (fault ≡ NoMemory → ⊥)
+    → IsReadFault g.D.SectorDevice.state log c.cut_last.new.self.log)) c.lose_blocks.ensures.log c.cut_last.ensures.failed

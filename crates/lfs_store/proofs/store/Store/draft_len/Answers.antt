@@ -8,12 +8,15 @@ use Rattle.lfs_store.proofs.store.Store.draft_len.Goals as goal
 pub returns-then-header-len-clause-done : goal.returns-then-header-len-clause-done
 returns-then-header-len-clause-done g c =
     ok_then c.resize.result _ _
-    (λ puts. sets_longer g.D.SectorDevice.state c.args.self.now.log c.resize.new.self.log c.args.self.now.draft.changes c.resize.new.self.draft.changes c.args.number.value c.args.header c.args.len (search rules) c.requires.empty puts)
+    (λ puts. sets_longer g.D.SectorDevice.state c.args.self.now.log c.resize.new.self.log c.args.self.now.draft.changes
+    c.resize.new.self.draft.changes c.args.number.value c.args.header c.args.len (search rules) c.requires.empty puts)
     c.resize.ensures.done
 
 pub returns-clause-done : goal.returns-clause-done
 returns-clause-done g c =
     ok_then c.resize-2.result _ _
-    (λ puts. subst (λ (log : Held _). SetsLen g.D.SectorDevice.state c.args.self.now.log log c.resize-2.new.self.draft.changes c.args.number.value c.args.header c.args.len) (sym c.resize-2.ensures.log)
-    (sets_shorter g.D.SectorDevice.state c.args.self.now.log c.cut_blocks.new.self.log c.cut_blocks.new.self.draft.changes c.resize-2.new.self.draft.changes c.args.number.value c.args.header c.args.len (search rules) c.in_ok-cut_blocks.ensures.done puts))
+    (λ puts. subst (λ (log : Held _). SetsLen g.D.SectorDevice.state c.args.self.now.log log c.resize-2.new.self.draft.changes
+    c.args.number.value c.args.header c.args.len) (sym c.resize-2.ensures.log)
+    (sets_shorter g.D.SectorDevice.state c.args.self.now.log c.cut_blocks.new.self.log c.cut_blocks.new.self.draft.changes
+    c.resize-2.new.self.draft.changes c.args.number.value c.args.header c.args.len (search rules) c.in_ok-cut_blocks.ensures.done puts))
     c.resize-2.ensures.done

@@ -8,7 +8,9 @@ use Rattle.lfs_store.proofs.store.Store.draft_shrink.Goals as goal
 pub returns-clause-done : goal.returns-clause-done
 returns-clause-done g c =
     ok_then c.resize.result _ _
-    (λ puts. subst (λ (log : Held _). Shrinks g.D.SectorDevice.state c.args.self.now.log log c.args.self.now.draft.changes c.resize.new.self.draft.changes c.args.number.value c.args.header c.args.len) (sym c.resize.ensures.log)
-    (shrinks g.D.SectorDevice.state c.args.self.now.log c.clear_tail.new.self.log c.args.self.now.draft.changes c.clear_tail.new.self.draft.changes c.resize.new.self.draft.changes c.args.number.value c.args.header c.args.len
+    (λ puts. subst (λ (log : Held _). Shrinks g.D.SectorDevice.state c.args.self.now.log log c.args.self.now.draft.changes
+    c.resize.new.self.draft.changes c.args.number.value c.args.header c.args.len) (sym c.resize.ensures.log)
+    (shrinks g.D.SectorDevice.state c.args.self.now.log c.clear_tail.new.self.log c.args.self.now.draft.changes
+    c.clear_tail.new.self.draft.changes c.resize.new.self.draft.changes c.args.number.value c.args.header c.args.len
     c.requires.less c.requires.last c.in_ok-clear_tail.ensures.done puts))
     c.resize.ensures.done

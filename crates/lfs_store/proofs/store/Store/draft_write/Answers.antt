@@ -15,7 +15,8 @@ use Rattle.lfs_store.proofs.store.Store.draft_write.Goals as goal
 
 pub loop-index-init : goal.loop-index-init
 loop-index-init g c = (
-  written_none g.D.SectorDevice.state c.args.self.now.log c.args.self.now.draft.changes c.args.number.value c.args.at c.args.bytes.now (reads_none g.D.SectorDevice.state c.args.self.now.log),
+  written_none g.D.SectorDevice.state c.args.self.now.log c.args.self.now.draft.changes c.args.number.value c.args.at c.args.bytes.now
+      (reads_none g.D.SectorDevice.state c.args.self.now.log),
   refl,
   refl,
   λ none. subst (IsRun c.args.number.value (c.args.at / 512) (c.args.at / 512)) (sym none) refl,
@@ -23,28 +24,38 @@ loop-index-init g c = (
 
 pub returns-in_err-write_block-clause-failed : goal.returns-in_err-write_block-clause-failed
 returns-in_err-write_block-clause-failed g c =
-    let failed : (c.in_err-write_block.field-0.0 ≡ NoMemory → ⊥) → IsReadFault g.D.SectorDevice.state c.args.self.now.log c.write_block.new.self.log =
-    λ other. fault_more g.D.SectorDevice.state c.args.self.now.log c.loop-index.self.log c.write_block.new.self.log c.loop-index.invariant.0.reads (c.in_err-write_block.ensures.failed other)
+    let failed : (c.in_err-write_block.field-0.0 ≡ NoMemory → ⊥)
+    → IsReadFault g.D.SectorDevice.state c.args.self.now.log c.write_block.new.self.log =
+    λ other. fault_more g.D.SectorDevice.state c.args.self.now.log c.loop-index.self.log c.write_block.new.self.log
+    c.loop-index.invariant.0.reads (c.in_err-write_block.ensures.failed other)
     in
     let is : c.from_residual.result ≡ Err c.in_err-write_block.field-0.0 = search rules in
-    subst (λ (r : Result Unit StoreFault). IfErr r (λ (fault : StoreFault). (fault ≡ NoMemory → ⊥) → IsReadFault g.D.SectorDevice.state c.args.self.now.log c.write_block.new.self.log)) (sym is) failed
+    subst (λ (r : Result Unit StoreFault). IfErr r (λ (fault : StoreFault). (fault ≡ NoMemory → ⊥)
+    → IsReadFault g.D.SectorDevice.state c.args.self.now.log c.write_block.new.self.log)) (sym is) failed
 
 pub loop-index-preserved : goal.loop-index-preserved
 loop-index-preserved g c = (
-  written_more g.D.SectorDevice.state c.args.self.now.log c.loop-index.self.log c.write_block.new.self.log c.args.self.now.draft.changes c.loop-index.self.draft.changes c.write_block.new.self.draft.changes
-      c.args.number.value c.args.at c.args.bytes.now c.loop-index.index (g.met.D.SectorDevice.lawful c.args.self.now.log.device) (search rules) c.loop-index.invariant.0 c.write_block.ensures.reads c.in_ok-write_block.ensures.done,
+  written_more g.D.SectorDevice.state c.args.self.now.log c.loop-index.self.log c.write_block.new.self.log c.args.self.now.draft.changes
+      c.loop-index.self.draft.changes c.write_block.new.self.draft.changes
+      c.args.number.value c.args.at c.args.bytes.now c.loop-index.index (g.met.D.SectorDevice.lawful c.args.self.now.log.device)
+      (search rules) c.loop-index.invariant.0 c.write_block.ensures.reads c.in_ok-write_block.ensures.done,
   c.write_block.ensures.saved ∙ c.loop-index.invariant.1,
   c.write_block.ensures.drafted ∙ c.loop-index.invariant.2,
-  λ none. run_goes_on c.loop-index.self.draft.changes c.write_block.new.self.draft.changes c.args.number.value (c.args.at / 512) c.loop-index.index (c.loop-index.invariant.3 none) c.in_ok-write_block.ensures.placed,
+  λ none. run_goes_on c.loop-index.self.draft.changes c.write_block.new.self.draft.changes c.args.number.value
+      (c.args.at / 512) c.loop-index.index (c.loop-index.invariant.3 none) c.in_ok-write_block.ensures.placed,
 )
 
 pub returns-clause-done : goal.returns-clause-done
 returns-clause-done g c =
     ok_then c.resize.result _ _
-    (λ puts. subst (λ (log : Held _). Writes g.D.SectorDevice.state c.args.self.now.log log c.args.self.now.draft.changes c.resize.new.self.draft.changes c.args.number.value c.args.header c.args.at c.args.bytes.now) (sym c.resize.ensures.log)
-    (written g.D.SectorDevice.state c.args.self.now.log c.loop-index.self.log c.args.self.now.draft.changes c.loop-index.self.draft.changes c.resize.new.self.draft.changes
-    c.args.number.value c.args.header c.args.at c.args.bytes.now c.loop-index.index c.requires.bytes (search rules) (search rules) c.loop-index.invariant.0
-    (subst (λ (size : ℕ). PutsHeader c.loop-index.self.draft.changes c.resize.new.self.draft.changes c.args.number.value (resized c.args.header size)) (search rules) puts))) c.resize.ensures.done
+    (λ puts. subst (λ (log : Held _). Writes g.D.SectorDevice.state c.args.self.now.log log c.args.self.now.draft.changes
+    c.resize.new.self.draft.changes c.args.number.value c.args.header c.args.at c.args.bytes.now) (sym c.resize.ensures.log)
+    (written g.D.SectorDevice.state c.args.self.now.log c.loop-index.self.log c.args.self.now.draft.changes c.loop-index.self.draft.changes
+    c.resize.new.self.draft.changes
+    c.args.number.value c.args.header c.args.at c.args.bytes.now c.loop-index.index c.requires.bytes (search rules)
+    (search rules) c.loop-index.invariant.0
+    (subst (λ (size : ℕ). PutsHeader c.loop-index.self.draft.changes c.resize.new.self.draft.changes c.args.number.value
+    (resized c.args.header size)) (search rules) puts))) c.resize.ensures.done
 
 pub returns-in_err-write_block-clause-saved : goal.returns-in_err-write_block-clause-saved
 returns-in_err-write_block-clause-saved g c = c.write_block.ensures.saved ∙ c.loop-index.invariant.1
@@ -62,14 +73,18 @@ pub returns-clause-room : goal.returns-clause-room
 returns-clause-room g c =
     let end : c.loop-index.index ≡ div_ceil (c.args.at + length c.args.bytes.now) 512 = search rules in
     ok_then c.resize.result _ _
-    (λ puts none few. written_room c.args.self.now.draft.changes c.loop-index.self.draft.changes c.resize.new.self.draft.changes c.args.number.value (c.args.at / 512) c.loop-index.index _ none
+    (λ puts none few. written_room c.args.self.now.draft.changes c.loop-index.self.draft.changes c.resize.new.self.draft.changes
+    c.args.number.value (c.args.at / 512) c.loop-index.index _ none
     c.loop-index.invariant.0.headers (c.loop-index.invariant.3 none.blocks)
-    (subst (λ (i : ℕ). i ≤ c.args.at / 512 + 129) (sym end) (blocks_few c.args.at (length c.args.bytes.now) few)) puts) c.resize.ensures.done
+    (subst (λ (i : ℕ). i ≤ c.args.at / 512 + 129) (sym end) (blocks_few c.args.at (length c.args.bytes.now) few)) puts)
+    c.resize.ensures.done
 
 pub returns-clause-asked : goal.returns-clause-asked
 returns-clause-asked g c =
     let end : c.loop-index.index ≡ div_ceil (c.args.at + length c.args.bytes.now) 512 = search rules in
     ok_then c.resize.result _ _
-    (λ puts lone few. lone_room c.args.self.now.draft.changes c.loop-index.self.draft.changes c.resize.new.self.draft.changes c.args.number.value (c.args.at / 512) c.loop-index.index _ lone
+    (λ puts lone few. lone_room c.args.self.now.draft.changes c.loop-index.self.draft.changes c.resize.new.self.draft.changes
+    c.args.number.value (c.args.at / 512) c.loop-index.index _ lone
     c.loop-index.invariant.0.headers (c.loop-index.invariant.3 lone.blocks)
-    (subst (λ (i : ℕ). i ≤ c.args.at / 512 + 257) (sym end) (blocks_most c.args.at (length c.args.bytes.now) few)) puts) c.resize.ensures.done
+    (subst (λ (i : ℕ). i ≤ c.args.at / 512 + 257) (sym end) (blocks_most c.args.at (length c.args.bytes.now) few)) puts)
+    c.resize.ensures.done

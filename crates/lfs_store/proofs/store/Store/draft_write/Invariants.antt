@@ -5,7 +5,8 @@ use Rattle.lfs_store.proofs.store.Store.draft_write.Given as goal
 
 abbrev pub invariant-loop-index : goal.invariant-loop-index
 invariant-loop-index g l =
-    WrittenUpTo g.D.SectorDevice.state l.initial.self.log l.self.log l.initial.self.draft.changes l.self.draft.changes l.number.value l.at l.bytes l.index
+    WrittenUpTo g.D.SectorDevice.state l.initial.self.log l.self.log l.initial.self.draft.changes l.self.draft.changes l.number.value l.at
+    l.bytes l.index
     × (l.self.saved ≡ l.initial.self.saved)
     × (l.self.drafted ≡ l.initial.self.drafted)
     × (l.initial.self.draft.changes.blocks.items ≡ [] → IsRun l.number.value (l.at / 512) l.index l.self.draft.changes.blocks.items)

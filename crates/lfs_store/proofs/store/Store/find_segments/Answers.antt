@@ -12,7 +12,9 @@ returns-in-Ok-clause-full g c is =
 
 pub returns-in-Ok-clause-never : goal.returns-in-Ok-clause-never
 returns-in-Ok-clause-never g c is =
-    cannot_lack g.D.SectorDevice.state c.args.self.now.log c.clean.new.self.log c.args.self.now.saved c.clean.new.self.saved (g.met.D.SectorDevice.lawful c.clean.new.self.log.device) c.in-Ok.ensures.done c.in-Ok.ensures.enough (c.check_segments.ensures.lacks is)
+    cannot_lack g.D.SectorDevice.state c.args.self.now.log c.clean.new.self.log c.args.self.now.saved c.clean.new.self.saved
+    (g.met.D.SectorDevice.lawful c.clean.new.self.log.device) c.in-Ok.ensures.done c.in-Ok.ensures.enough
+    (c.check_segments.ensures.lacks is)
 
 pub returns-in-Ok-clause-kept : goal.returns-in-Ok-clause-kept
 returns-in-Ok-clause-kept g c is =

@@ -3,4 +3,5 @@ use Rattle.lfs_store.proofs.Cuttings.{drafts_cut}
 use Rattle.lfs_store.proofs.store.Store.lose_blocks.Goals as goal
 
 pub returns-clause-draft : goal.returns-clause-draft
-returns-clause-draft g c = drafts_cut c.args.self.now.draft.changes _ c.args.number.value c.args.len _ c.requires.empty refl refl refl refl (search rules)
+returns-clause-draft g c =
+    drafts_cut c.args.self.now.draft.changes _ c.args.number.value c.args.len _ c.requires.empty refl refl refl refl (search rules)

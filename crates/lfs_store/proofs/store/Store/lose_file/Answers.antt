@@ -4,4 +4,5 @@ use Rattle.lfs_store.proofs.store.Store.lose_file.Goals as goal
 
 pub returns-clause-done : goal.returns-clause-done
 returns-clause-done g c =
-    removes c.args.self.now.draft.changes c.lose.new.self.changes c.args.number.value _ refl c.requires.empty c.lose.ensures.headers c.lose.ensures.blocks c.lose.ensures.loss (c.lose.ensures.alone c.requires.empty)
+    removes c.args.self.now.draft.changes c.lose.new.self.changes c.args.number.value _ refl c.requires.empty c.lose.ensures.headers
+    c.lose.ensures.blocks c.lose.ensures.loss (c.lose.ensures.alone c.requires.empty)

@@ -2,8 +2,10 @@ use Rattle.lfs_store.proofs.Mounted.{log_refused, mounts_store}
 use Rattle.lfs_store.proofs.store.Store.open.Goals as goal
 
 pub returns-clause-stores : goal.returns-clause-stores
-returns-clause-stores g c = mounts_store g.D.SectorDevice.state c.args.device c.in-Ok-open.log (g.met.D.SectorDevice.lawful c.args.device) c.in-Ok-open.ensures.holds c.in-Ok-open.ensures.empty c.in-Ok-open.ensures.untaken c.in-Ok-open.ensures.many
+returns-clause-stores g c = mounts_store g.D.SectorDevice.state c.args.device c.in-Ok-open.log (g.met.D.SectorDevice.lawful c.args.device)
+    c.in-Ok-open.ensures.holds c.in-Ok-open.ensures.empty c.in-Ok-open.ensures.untaken c.in-Ok-open.ensures.many
 
 pub returns-in-Err-clause-cause : goal.returns-in-Err-clause-cause
 returns-in-Err-clause-cause g c other =
-    log_refused (g.D.SectorDevice.state c.args.device) (g.D.SectorDevice.state c.in-Err.fault.1) c.in-Err.fault.0 (c.in-Err.ensures.cause other)
+    log_refused (g.D.SectorDevice.state c.args.device) (g.D.SectorDevice.state c.in-Err.fault.1) c.in-Err.fault.0
+    (c.in-Err.ensures.cause other)

@@ -12,32 +12,46 @@ use Rattle.lfs_store.proofs.store.Store.write_at.Goals as goal
 
 pub returns-in-Err-draft_write-clause-failed : goal.returns-in-Err-draft_write-clause-failed
 returns-in-Err-draft_write-clause-failed g c other =
-    fault_more g.D.SectorDevice.state c.args.self.now.log c.measure.new.self.log c.draft_write.new.self.log c.measure.ensures.reads.log (c.in-Err-draft_write.ensures.failed other)
+    fault_more g.D.SectorDevice.state c.args.self.now.log c.measure.new.self.log c.draft_write.new.self.log c.measure.ensures.reads.log
+    (c.in-Err-draft_write.ensures.failed other)
 
 pub returns-in-Err-recount-clause-failed : goal.returns-in-Err-recount-clause-failed
 returns-in-Err-recount-clause-failed g c other =
     fault_more g.D.SectorDevice.state c.args.self.now.log c.draft_write.new.self.log c.recount.new.self.log
-    (reads_more g.D.SectorDevice.state c.args.self.now.log c.measure.new.self.log c.draft_write.new.self.log (g.met.D.SectorDevice.lawful c.args.self.now.log.device) c.measure.ensures.reads.log c.draft_write.ensures.reads)
+    (reads_more g.D.SectorDevice.state c.args.self.now.log c.measure.new.self.log c.draft_write.new.self.log
+    (g.met.D.SectorDevice.lawful c.args.self.now.log.device) c.measure.ensures.reads.log c.draft_write.ensures.reads)
     c.in-Err-recount.ensures.failed
 
 pub returns-in-Ok-recount-clause-done : goal.returns-in-Ok-recount-clause-done
 returns-in-Ok-recount-clause-done g c =
     let state = g.D.SectorDevice.state in
-    let writes = subst (λ (d : Draft). Writes state c.measure.new.self.log c.draft_write.new.self.log d.changes c.draft_write.new.self.draft.changes c.args.number.value c.args.header c.args.at c.args.bytes.now) c.measure.ensures.reads.draft c.in-Ok-draft_write.ensures.done in
-    subst (λ (d : Draft). Writes state c.args.self.now.log c.recount.new.self.log c.args.self.now.draft.changes d.changes c.args.number.value c.args.header c.args.at c.args.bytes.now) (sym c.recount.ensures.draft)
-    (writes_around state c.args.self.now.log c.measure.new.self.log c.draft_write.new.self.log c.recount.new.self.log c.args.self.now.draft.changes c.draft_write.new.self.draft.changes
+    let writes =
+    subst (λ (d : Draft). Writes state c.measure.new.self.log c.draft_write.new.self.log d.changes c.draft_write.new.self.draft.changes
+    c.args.number.value c.args.header c.args.at c.args.bytes.now) c.measure.ensures.reads.draft c.in-Ok-draft_write.ensures.done in
+    subst (λ (d : Draft). Writes state c.args.self.now.log c.recount.new.self.log c.args.self.now.draft.changes d.changes
+    c.args.number.value c.args.header c.args.at c.args.bytes.now) (sym c.recount.ensures.draft)
+    (writes_around state c.args.self.now.log c.measure.new.self.log c.draft_write.new.self.log c.recount.new.self.log
+    c.args.self.now.draft.changes c.draft_write.new.self.draft.changes
     c.args.number.value c.args.header c.args.at c.args.bytes.now c.measure.ensures.reads.log writes c.recount.ensures.reads)
 
 pub returns-in-Ok-recount-clause-counted : goal.returns-in-Ok-recount-clause-counted
 returns-in-Ok-recount-clause-counted g c =
     let state = g.D.SectorDevice.state in
-    let writes = subst (λ (d : Draft). Writes state c.measure.new.self.log c.draft_write.new.self.log d.changes c.draft_write.new.self.draft.changes c.args.number.value c.args.header c.args.at c.args.bytes.now) c.measure.ensures.reads.draft c.in-Ok-draft_write.ensures.done in
-    let again = subst (λ (t : BlockTotals). Remeasures state c.draft_write.new.self.log c.recount.new.self.log c.draft_write.new.self.draft.changes c.args.number.value (c.args.at / 512) c.div_ceil-to.result c.in-Ok.measure t c.recount.new.self.drafted)
+    let writes =
+    subst (λ (d : Draft). Writes state c.measure.new.self.log c.draft_write.new.self.log d.changes c.draft_write.new.self.draft.changes
+    c.args.number.value c.args.header c.args.at c.args.bytes.now) c.measure.ensures.reads.draft c.in-Ok-draft_write.ensures.done in
+    let again =
+    subst (λ (t : BlockTotals). Remeasures state c.draft_write.new.self.log c.recount.new.self.log c.draft_write.new.self.draft.changes
+    c.args.number.value (c.args.at / 512) c.div_ceil-to.result c.in-Ok.measure t c.recount.new.self.drafted)
     (c.draft_write.ensures.drafted ∙ c.measure.ensures.reads.drafted) c.in-Ok-recount.ensures.done in
-    subst (λ (d : Draft). Counts state c.args.self.now.log c.recount.new.self.log c.args.self.now.draft.changes d.changes c.args.self.now.drafted c.recount.new.self.drafted) (sym c.recount.ensures.draft)
-    (write_counts state c.args.self.now.log c.measure.new.self.log c.draft_write.new.self.log c.recount.new.self.log c.args.self.now.draft.changes c.draft_write.new.self.draft.changes c.args.number.value c.in-Ok.measure
-    c.args.self.now.drafted c.recount.new.self.drafted c.args.number.some c.args.number.few c.measure.ensures.reads.log c.draft_write.ensures.reads c.recount.ensures.reads
-    c.args.header c.args.at c.args.bytes.now c.div_ceil-to.result c.requires.bytes c.requires.end c.div_ceil-to.ensures c.in-Ok.ensures.answer writes again)
+    subst (λ (d : Draft). Counts state c.args.self.now.log c.recount.new.self.log c.args.self.now.draft.changes d.changes
+    c.args.self.now.drafted c.recount.new.self.drafted) (sym c.recount.ensures.draft)
+    (write_counts state c.args.self.now.log c.measure.new.self.log c.draft_write.new.self.log c.recount.new.self.log
+    c.args.self.now.draft.changes c.draft_write.new.self.draft.changes c.args.number.value c.in-Ok.measure
+    c.args.self.now.drafted c.recount.new.self.drafted c.args.number.some c.args.number.few c.measure.ensures.reads.log
+    c.draft_write.ensures.reads c.recount.ensures.reads
+    c.args.header c.args.at c.args.bytes.now c.div_ceil-to.result c.requires.bytes c.requires.end c.div_ceil-to.ensures
+    c.in-Ok.ensures.answer writes again)
 
 pub returns-in-Ok-recount-clause-room : goal.returns-in-Ok-recount-clause-room
 returns-in-Ok-recount-clause-room g c none few =

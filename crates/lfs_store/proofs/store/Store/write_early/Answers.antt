@@ -6,7 +6,8 @@ use Rattle.lfs_store.proofs.store.Store.write_early.Goals as goal
 
 pub returns-then-self-clause-done : goal.returns-then-self-clause-done
 returns-then-self-clause-done g c =
-    readies_none g.D.SectorDevice.state c.args.self.now.log c.args.self.now.saved (g.met.D.SectorDevice.lawful c.args.self.now.log.device) c.requires
+    readies_none g.D.SectorDevice.state c.args.self.now.log c.args.self.now.saved (g.met.D.SectorDevice.lawful c.args.self.now.log.device)
+    c.requires
 
 pub returns-then-self-clause-early : goal.returns-then-self-clause-early
 returns-then-self-clause-early g c =

@@ -9,7 +9,8 @@ use mir.Raw.{raw as bare}
 use mir.Val.{Val, vptr}
 use contract.Running.{tables}
 use types.Logic.{Logic, sem}
-use types.Kit.{‵, raw, ◌⊛◌, some, later, at_ret, ◌$◌, ◌∵◌, !, qed, move, keep, use1, split, split3, join, pick, fsplit, fsplit3, fjoin, fpack, rewrite, suffices, frame, await, group, done}
+use types.Kit.{‵, raw, ◌⊛◌, some, later, at_ret, ◌$◌, ◌∵◌, !, qed, move, keep, use1, split, split3, join, pick, fsplit, fsplit3, fjoin}
+use types.Kit.{fpack, rewrite, suffices, frame, await, group, done}
 use types.Part.{whole, sub, look_in}
 use types.Run.{enter, of_opd, load, addr, stop, fld, first, blocks, exec, returns}
 use types.ByLocal.{alloc_all, pass_all, free_all, look_at, get, through, sets, sets_last, env}
@@ -44,9 +45,11 @@ stayed = (stay_dropped (mut_ref_to (0 ∷ []) tt (plain (λ _. H))) no, tt)
 module _ (h : Handle) (us : List Val) (b o rb ro : ℕ) where
   -- all of the handle but the volume
   abbrev Rest : Fml
-  Rest = fsep (fsep (ghosts.dealloc_token h.alloc (bare (lone V.mir)) (block_ptr b o)) ((Struct (shape h-type)).own_val (h.at, (((tt, tt), tt), tt)) us)) (cell_at full_share H.mir (lowers.lowered (record h { at = block_ptr b o }) ∷ []) rb ro)
+  Rest = fsep (fsep (ghosts.dealloc_token h.alloc (bare (lone V.mir)) (block_ptr b o)) ((Struct (shape h-type)).own_val
+      (h.at, (((tt, tt), tt), tt)) us)) (cell_at full_share H.mir (lowers.lowered (record h { at = block_ptr b o }) ∷ []) rb ro)
 
-  module _ {M : Type 1} {𝓤 : Ura M} (𝓛 : Logic 𝓤) (e : h.at ≡ block_ptr b o) (word : us ≡ lowers.lowered (record h { at = block_ptr b o }) ∷ []) where
+  module _ {M : Type 1} {𝓤 : Ura M} (𝓛 : Logic 𝓤) (e : h.at ≡ block_ptr b o)
+      (word : us ≡ lowers.lowered (record h { at = block_ptr b o }) ∷ []) where
     back : (w : Volume) → ent 𝓤 (sep 𝓤 (sem 𝓛 ((mem V).own_at w b o)) (sem 𝓛 Rest)) (sem 𝓛 ((mem H).own_at (with_volume h w) rb ro))
     unfolding part_of
     back w =
@@ -61,14 +64,16 @@ volume_spec 𝓤 𝓛 𝓜 𝓡 wired =
     proved 𝓛 f.ended stayed c 𝓜 𝓡 (Goes-spent_ref 𝓛 1 (0 ∷ []) tt (plain (λ _. H)), tt)
     f.Key.name code.function (code.unfolded 𝓤 𝓛.H 𝓜 𝓡 wired)
     (λ κs. (mut_vals, tt)) (λ κs. (mut_Tells (named 0) κs.0 H, tt)) (λ κs qs bounds a _ are.
-    let κ = κs.0 in let q = qs.0 in let rb = a.0.ref_ptr.0 in let ro = a.0.ref_ptr.1 in let γ = a.0.ghost_name in let h = a.0.now in let vs = mut_vals a.0 in
+    let κ = κs.0 in let q = qs.0 in let rb = a.0.ref_ptr.0 in let ro = a.0.ref_ptr.1 in let γ = a.0.ghost_name in let h = a.0.now in
+    let vs = mut_vals a.0 in
     let y : W.Ghost = ((κs, qs, bounds, a, (vs, tt)), tt) in
     qed 𝓛 (((‵ (flft κ q) ⊛ ‵ ftrue) ⊛ ‵ ((MutRef (named 0) κ H).own_val a.0 vs) ⊛ ‵ ftrue) ∷ ‵ ftrue ∷ []) ∵
     split ! $ split ! $ move ! (2 ∷ []) $ split ! $ keep ! (0 ∷ 2 ∷ []) $
     enter ! _ _ _ _ _ $ alloc_all ! (λ l. pass_all ! refl ((tt, tt), tt) $
     fsplit3 ! $ move ! (1 ∷ 2 ∷ 3 ∷ []) $ opens ! tt H rb ro (λ us.
     move ! (1 ∷ []) $ peeks ! H _ (shows 𝓛 H) h us (λ is. fsplit ! $ move ! (1 ∷ []) $
-    in_a_block ! h.at (λ p. box_owns (ghosts.dealloc_token h.alloc) V p h.value) (fst∗ 𝓤 (never 𝓤) (sem 𝓛 (ghosts.dealloc_token h.alloc (bare (lone V.mir)) null_ptr))) (λ b o e.
+    in_a_block ! h.at (λ p. box_owns (ghosts.dealloc_token h.alloc) V p h.value)
+    (fst∗ 𝓤 (never 𝓤) (sem 𝓛 (ghosts.dealloc_token h.alloc (bare (lone V.mir)) null_ptr))) (λ b o e.
     let word = lowers.val_is h us is ∙ ap (λ (p : Ptr). lowers.lowered (record h { at = p }) ∷ []) e in
     rewrite ! 2 (λ (ws : List Val). ‵ (cell_at full_share H.mir ws rb ro)) word refl $
     fsplit ! $ move ! (1 ∷ 2 ∷ []) $ fjoin ! $ move ! (1 ∷ []) $
@@ -80,11 +85,14 @@ volume_spec 𝓤 𝓛 𝓜 𝓡 wired =
     exec ! 𝓣.C 𝓣.Λ (env code.Mir.locals l) (after 1 (code.function).body) (at_ret _ (W.post y)) $
     sets ! (of_opd ! (get ! refl)) refl (tt, tt) $
     move ! (1 ∷ 2 ∷ []) $ fjoin ! $ move ! (2 ∷ 3 ∷ 4 ∷ 1 ∷ 0 ∷ []) $ group ! 5 $
-    use1 𝓛 (later (some (λ (γ' : GName). raw (Part 𝓛 H V (with_volume h) (named 0) κ q rb ro b o γ (sem 𝓛 (Rest h us b o rb ro)) (back h us b o rb ro 𝓛 e word) h.value γ'))))
-    (lends_Part 𝓛 H V (with_volume h) (named 0) κ q rb ro b o γ (sem 𝓛 (Rest h us b o rb ro)) (back h us b o rb ro 𝓛 e word) (H.coded.code h) (H.coded.code h) h.value) $ await ! tt $ pick ! (λ γ'.
+    use1 𝓛 (later (some (λ (γ' : GName). raw
+    (Part 𝓛 H V (with_volume h) (named 0) κ q rb ro b o γ (sem 𝓛 (Rest h us b o rb ro)) (back h us b o rb ro 𝓛 e word) h.value γ'))))
+    (lends_Part 𝓛 H V (with_volume h) (named 0) κ q rb ro b o γ (sem 𝓛 (Rest h us b o rb ro)) (back h us b o rb ro 𝓛 e word)
+    (H.coded.code h) (H.coded.code h) h.value) $ await ! tt $ pick ! (λ γ'.
     returns ! (look_at ! 0 refl) $ free_all ! refl $ keep ! (0 ∷ []) $
     let r : MutBor Volume = record { ref_ptr = (b, o); ghost_name = γ'; now = h.value } in
-    use1 𝓛 (‵ ((MutRef (named 0) κ V).own_val r (vptr b o ∷ [])) ⊛ ‵ (flft κ q) ⊛ ‵ (follows H V γ γ' (with_volume h))) (id⊢ 𝓤 _) $ split3 ! $
+    use1 𝓛 (‵ ((MutRef (named 0) κ V).own_val r (vptr b o ∷ [])) ⊛ ‵ (flft κ q) ⊛ ‵ (follows H V γ γ' (with_volume h))) (id⊢ 𝓤 _) $
+    split3 ! $
     -- [the loan; the token; how the handle follows]
     suffices ! _ (ends_at 𝓛 f.ended stayed c y (vptr b o) r (tt, tt) (tt, tt)) $
     nothing ! $ nothing ! $ fjoin ! $ join ! $ nothing ! $ move ! (2 ∷ 0 ∷ []) $ join ! $ join ! $ frame ! $ says ! refl $ done !))))))
