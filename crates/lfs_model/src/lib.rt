@@ -3,6 +3,7 @@
 #![tactic(auto)]
 
 pub mod laws;
+pub mod limits;
 pub mod log;
 mod number;
 pub mod objects;
