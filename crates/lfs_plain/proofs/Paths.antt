@@ -41,6 +41,11 @@ unfolding path_end walk_end
 holder_walked t p o ps is pieces w = ap (λ r. ends_to r (walk_to 40 t true 1 (but_last (comps p)) true)) (sym is)
     ∙ ap (λ ps. walk_to 40 t true 1 ps true) (sym pieces) ∙ w
 
+-- a call without a path
+pub no_path : (t : Tree) → path_end t NoPath ≡ Some (At 1)
+unfolding path_end
+no_path t = refl
+
 -- the last of the pieces
 last_push : {A : Type 0} (xs : List A) (o : Option A) (x : A) → last_or o (xs ++ x ∷ []) ≡ Some x
 last_push [] o x = refl
