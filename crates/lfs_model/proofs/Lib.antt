@@ -120,3 +120,4 @@ pub mod StoredCounted
 pub mod MetasCounted
 pub mod Marking
 pub mod Raising
+pub mod Exits
