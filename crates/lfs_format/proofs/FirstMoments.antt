@@ -1,12 +1,12 @@
 -- What a stop leaves while an empty volume is made, and what stands then.
 use Rattle.std.proofs.Common.{◌<◌, ◌≡◌, ◌⊎◌, inl, inr, ℕ, ◌+◌, ◌*◌, ◌%◌, ◌≤◌, List, [], length, Option, Some, None, refl, sym, ◌∙◌, ap}
 use Rattle.std.proofs.Common.{subst, arith, length-set, get_or-set_other, get_or-set_same}
-use Rattle.lfs_model.specs.Checkpoint.{CheckpointValue, IsSegmentCount, IsVersion, checkpoint_sector, checkpoint_in}
+use Rattle.lfs_model.specs.Checkpoint.{CheckpointValue, IsSegmentCount, IsVersion, checkpoint_sector, checkpoint_in, usage_blocks}
 use Rattle.lfs_model.specs.Content.{Content, newest, newer, slot, with_parity, bytes_of}
 use Rattle.lfs_model.specs.Device.{Cell, cell_at, put, MayWrite, left_old, left_new, left_bad, DeviceState, IsUntouched, Only, AllLeft}
 use Rattle.lfs_model.specs.Device.{Carries, Elapses, LeavesOnly, ComesFrom, SameOutside, IsLawful, CrashWrites}
 use Rattle.lfs_model.specs.Fields.{read32, read64, part}
-use Rattle.lfs_model.specs.Image.{blank, usage_blocks, first_checkpoint, IsNew}
+use Rattle.lfs_model.specs.Image.{blank, first_checkpoint, IsNew}
 use Rattle.lfs_model.proofs.Moments.{started, goes_on, joined, weaker, same_outside_none, write_outside}
 use Rattle.lfs_format.specs.Making.{MayClearSlots, AreClear, HasChunk, MayStand}
 

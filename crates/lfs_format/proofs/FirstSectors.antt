@@ -4,7 +4,8 @@ use Rattle.std.proofs.Common.{arith}
 use Rattle.std.proofs.lemmas.List.{ext_get_or, get_or-take, length-take-le}
 use Rattle.std.proofs.lemmas.List.FromFn.{get_or-map-range_with_len, length-map-range_with_len}
 use Rattle.std.specs.List.{range_with_len}
-use Rattle.lfs_model.specs.Image.{usage_blocks, first_usage_address, first_name, first_names}
+use Rattle.lfs_model.specs.Checkpoint.{usage_blocks}
+use Rattle.lfs_model.specs.Image.{first_usage_address, first_name, first_names}
 use Rattle.lfs_model.specs.Summary.{BlockNameValue, FitsSummary, IsPlaced, no_block}
 
 -- the first of 18 names

@@ -1,8 +1,8 @@
 //! What the sectors of an empty volume hold.
 ghost use Rattle.std.specs.Prelude.{◌≡◌, ◌<◌, ◌≤◌, map};
 ghost use Rattle.std.specs.List.{range_with_len};
-ghost use Rattle.lfs_model.specs.Checkpoint.{FitsCheckpoint, IsSegmentCount, IsVersion};
-ghost use Rattle.lfs_model.specs.Image.{usage_blocks, first_usage_address, first_checkpoint, first_name, first_names, first_pointers, first_uses, root_inode};
+ghost use Rattle.lfs_model.specs.Checkpoint.{FitsCheckpoint, IsSegmentCount, IsVersion, usage_blocks};
+ghost use Rattle.lfs_model.specs.Image.{first_usage_address, first_checkpoint, first_name, first_names, first_pointers, first_uses, root_inode};
 ghost use Rattle.lfs_model.specs.Inode.{inode_sector};
 ghost use Rattle.lfs_model.specs.Pointers.{pointer_sector};
 ghost use Rattle.lfs_model.specs.Summary.{IsPlaced, summary_sector};

@@ -1,9 +1,9 @@
 //! Making an empty volume.
 ghost use Rattle.std.specs.Prelude.{◌≡◌, ◌≤◌, ◌<◌, ◌+◌, ◌*◌, ◌↔◌, ◌⊎◌, ℕ, [], ◌∷◌, Some, OnOk, OnErr, IsErrOf};
-ghost use Rattle.lfs_model.specs.Checkpoint.{IsSegmentCount, IsVersion};
+ghost use Rattle.lfs_model.specs.Checkpoint.{IsSegmentCount, IsVersion, usage_blocks};
 ghost use Rattle.lfs_model.specs.Content.{Content, newest};
 ghost use Rattle.lfs_model.specs.Device.{Only, AllLeft, Carries, LeavesOnly, ComesFrom, SameOutside};
-ghost use Rattle.lfs_model.specs.Image.{first_checkpoint, new_form, usage_blocks, IsNew};
+ghost use Rattle.lfs_model.specs.Image.{first_checkpoint, new_form, IsNew};
 ghost use Rattle.lfs_model.specs.Tree.{Dir};
 ghost use Rattle.lfs_model.specs.TreeOf.{Stands};
 ghost use Rattle.lfs_model.specs.Volume.{mounted};

@@ -33,6 +33,9 @@ length-range : (s n : ℕ) → length (range_with_len s n) ≡ n
 length-range s zero = refl
 length-range s (suc n) = ap suc (length-range (s + 1) n)
 
+three_more : {a b c x y z : ℕ} → a ≤ x → b ≤ y → c ≤ z → a + b + c ≤ x + y + z
+three_more p q r = omega arith
+
 -- more indices have no fewer pointer blocks
 pub pointers_sub : (xs ys : List ℕ) → ((p : ℕ → Bool) → list_any p xs ≡ true → list_any p ys ≡ true) → pointers xs ≤ pointers ys
 pointers_sub xs ys sub =
@@ -41,7 +44,7 @@ pointers_sub xs ys sub =
     (λ g. list_any (lies_in (240 + 128 * g) (368 + 128 * g)) ys)
     (λ g. sub (lies_in (240 + 128 * g) (368 + 128 * g))) (range_with_len 0 128) in
     let three = one_more (list_any (nat_le 240) xs) (list_any (nat_le 240) ys) (sub (nat_le 240)) in
-    omega (arith, one, two, three)
+    three_more one two three
 
 pointers_more : (a b : ℕ) → a ≤ b → pointers (range_with_len 0 a) ≤ pointers (range_with_len 0 b)
 pointers_more a b h = pointers_sub (range_with_len 0 a) (range_with_len 0 b) (λ p. any_more p 0 a b h)

@@ -1,17 +1,8 @@
 -- A block of pointers in memory has a pointer that isn't 0: which steps keep that, and where it has to be seen to.
-use Rattle.std.proofs.Common.{◌≡◌, ◌<◌, ◌≤◌, ⊎_elim, ◌^◌, ℕ, Some, List, length, sym, ◌∙◌, ap, subst, arith}
-use Rattle.lfs_model.specs.Entry.{Entry, Data, Leaf, Inode}
-use Rattle.lfs_model.specs.Content.{Content}
-use Rattle.lfs_model.specs.Stands.{LogMap}
-use Rattle.lfs_model.specs.Memory.{Memory, parent, pointer, patched, file_of, IsPointers, HasPointer}
-use Rattle.lfs_model.specs.Laid.{IsLaid}
-use Rattle.lfs_model.specs.Placing.{IsPlacing}
-use Rattle.lfs_model.specs.Lifting.{IsTaken, IsLifting}
-use Rattle.lfs_model.specs.Changing.{IsPointed, IsRewriting, IsAdding, IsRemoving, IsGrowing, IsShrinking, IsRelabeling, IsCreating}
-use Rattle.lfs_model.specs.Changing.{IsForgetting}
-use Rattle.lfs_model.proofs.Entries.{same_entry, file_of_parent, below_of_file, pointer_low}
+use Rattle.std.proofs.Common.{◌≡◌, ◌<◌, ◌^◌, ℕ, List, length, subst, arith}
+use Rattle.lfs_model.specs.Entry.{Entry, Inode}
+use Rattle.lfs_model.specs.Memory.{Memory, patched, IsPointers, HasPointer}
 use Rattle.lfs_model.proofs.Patching.{word_at}
-use Rattle.lfs_model.proofs.Outgoing.{inside}
 
 -- a block of pointers in memory has one
 abbrev pub IsFilled : Memory → Entry → Type 0

@@ -9,6 +9,7 @@ use Rattle.std.specs.List.{range_with_len}
 use Rattle.std.specs.Option.{option_map}
 use Rattle.lfs_model.specs.Fields.{Are32, le16, le32, le64, words, zeros, part, read32, read64}
 use Rattle.lfs_model.specs.Checkpoint.{CheckpointValue, FitsCheckpoint, IsSegmentCount, IsVersion, checkpoint_in, checkpoint_sector}
+use Rattle.lfs_model.specs.Checkpoint.{usage_blocks}
 use Rattle.lfs_model.specs.Checkpoint.{checkpoint_sector_of, checkpoint_text, layout_version}
 use Rattle.lfs_model.specs.declared.Kind.TheVariants.{Directory}
 use Rattle.lfs_model.specs.Device.{Cell, cell_at}
@@ -22,7 +23,7 @@ use Rattle.lfs_model.specs.Reach.{Row, View, row_by, chunks, place_in, view_by}
 use Rattle.lfs_model.specs.Stands.{used_in, live_in, age_in, is_live, is_clean, label_at, AreCounted, AreNamed, EnoughClean, count_up}
 use Rattle.lfs_model.specs.Encodes.{Has, HasInode, Spells, SpellsInode, IsLogMap, Encodes}
 use Rattle.lfs_model.specs.Live.{live_count}
-use Rattle.lfs_model.specs.Image.{blank, usage_blocks, first_usage_address, first_checkpoint, first_name, first_names, new_form, root_inode}
+use Rattle.lfs_model.specs.Image.{blank, first_usage_address, first_checkpoint, first_name, first_names, new_form, root_inode}
 use Rattle.lfs_model.specs.Image.{first_pointers, first_uses, IsNew, empty_directory, empty_root, Formatted, new_image, image, NewImages}
 use Rattle.lfs_model.proofs.Decoding.{checkpoint_some, inode_some, summary_some}
 use Rattle.lfs_model.proofs.Encodes.{encoding, word_nil}

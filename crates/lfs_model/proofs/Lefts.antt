@@ -1,15 +1,10 @@
 -- The states that a stop may leave: at one moment, and since one.
-use Rattle.std.proofs.Common.{◌≡◌, refl, sym, subst, suc, List, [], ◌∷◌, ◌++◌, inl, inr, ⊎_elim, ◌⊎◌, arith}
+use Rattle.std.proofs.Common.{◌≡◌, List, ◌⊎◌}
 use Rattle.std.specs.List.{Contains}
-use Rattle.std.proofs.lemmas.List.Elements.{Contains-append_left, Contains-append_right}
 use Rattle.lfs_model.specs.Content.{Content}
-use Rattle.lfs_model.specs.Device.{DeviceState, IsLawful, IsUntouched, LeavesOnly}
-use Rattle.lfs_model.specs.Sound.{Sound}
-use Rattle.lfs_model.specs.Tree.{State, drop_nameless}
-use Rattle.lfs_model.specs.TreeOf.{Left, LeavesOne, LeavesStates, Stands}
-use Rattle.lfs_model.proofs.Committed.{nothing_dropped}
-use Rattle.lfs_model.proofs.Moments.{started, joined, weaker}
-use Rattle.lfs_model.proofs.Standing.{standing_is_sound}
+use Rattle.lfs_model.specs.Device.{DeviceState, IsUntouched}
+use Rattle.lfs_model.specs.Tree.{State}
+use Rattle.lfs_model.specs.TreeOf.{Left, LeavesOne, Stands}
 use Rattle.lfs_model.proofs.Volume.{single_state}
 
 -- ---- at one moment

@@ -1,11 +1,9 @@
 -- How a run of device calls goes on.
 use Rattle.std.proofs.Common.{◌≢◌, inl, inr, ⊎_elim, ℕ, ◌+◌, ◌<◌, ◌≤◌, Some, None, List, refl, sym, ◌∙◌, subst, arith, length-set}
 use Rattle.std.proofs.Common.{get_or-set_other}
-use Rattle.std.specs.Prelude.{◌≡◌, [], ◌∷◌, ◌++◌, slice_set}
-use Rattle.std.proofs.Common.{ap}
-use Rattle.lfs_model.specs.Device.{Cell, DeviceState, put, lose, MayWrite, left_old, left_new, left_bad, Only, AllLeft, Carries, Elapses}
-use Rattle.lfs_model.specs.Device.{IsUntouched, CrashWrites, IsLawful, LeavesOnly, ComesFrom, SameOutside, SameWhere, IsBeginning, Grows}
-use Rattle.lfs_model.specs.Device.{MayTell}
+use Rattle.std.specs.Prelude.{◌≡◌, ◌∷◌, slice_set}
+use Rattle.lfs_model.specs.Device.{Cell, DeviceState, put, lose, MayWrite, left_old, left_new, left_bad, AllLeft, Carries, Elapses}
+use Rattle.lfs_model.specs.Device.{IsUntouched, CrashWrites, IsLawful, LeavesOnly, ComesFrom, SameOutside, IsBeginning, Grows}
 use Rattle.lfs_model.specs.declared.Order.{Order}
 
 abbrev Set : Type 1

@@ -1,14 +1,11 @@
 -- What a changed node, and a new entry, change of the need.
-use Rattle.std.proofs.Common.{◌≡◌, ◌≢◌, refl, sym, ap, ◌∙◌, ℕ, ◌+◌, ◌*◌, List, [], Option, Some, None, arith}
-use Rattle.std.specs.Prelude.{T, unwrap_or}
+use Rattle.std.proofs.Common.{◌≡◌, refl, ℕ, ◌+◌, ◌*◌, Option, Some, None, arith}
+use Rattle.std.specs.Prelude.{T}
 use Rattle.std.specs.Ordering.{nat_cmp}
 use Rattle.std.proofs.lemmas.Cmp.{nat_cmp_total}
-use Rattle.std.specs.FinMap.{put, is_sorted}
-use Rattle.std.specs.FinMap.Entries.{is_sorted-put}
-use Rattle.lfs_model.specs.Tree.{Tree, Node, File, Dir, node, with_node, without, names_of, form_of, byte_cmp, least}
+use Rattle.std.specs.FinMap.{is_sorted}
+use Rattle.lfs_model.specs.Tree.{Tree, Node, node, with_node, without}
 use Rattle.lfs_model.specs.Need.{cost, cost_at, need, data_of, meta_of}
-use Rattle.lfs_model.specs.Step.{with_new, name}
-use Rattle.lfs_model.proofs.Trees.{find_other}
 use Rattle.lfs_model.proofs.Sums.{total_put, total_without, weight}
 
 cost_is : (o : Option Node) → weight nat_cmp_total data_of o + 7 * weight nat_cmp_total meta_of o ≡ cost_at o

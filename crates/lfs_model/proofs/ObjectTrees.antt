@@ -11,7 +11,7 @@ use Rattle.std.specs.FinMap.Entries.{is_sorted-where_key, is_sorted-put, same_en
 use Rattle.lfs_model.specs.declared.Kind.{Kind}
 use Rattle.lfs_model.specs.declared.Kind.TheVariants as kind
 use Rattle.lfs_model.specs.Bytes.{cut, put}
-use Rattle.lfs_model.specs.Changing.{IsWithBlock, IsWithHeader}
+use Rattle.lfs_model.specs.Changing.{IsWithHeader}
 use Rattle.lfs_model.specs.Cutting.{IsWithoutFile}
 use Rattle.lfs_model.specs.Entry.{Header}
 use Rattle.lfs_model.specs.Need.{cost_at, data_of, meta_of}

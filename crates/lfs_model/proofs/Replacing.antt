@@ -10,9 +10,9 @@ use Rattle.lfs_model.specs.Content.{block}
 use Rattle.lfs_model.specs.Counting.{segment_of}
 use Rattle.lfs_model.specs.Device.{DeviceState}
 use Rattle.lfs_model.specs.Entry.{Entry, Data, Inode, word}
-use Rattle.lfs_model.specs.Memory.{parent, pointer, patched, IsOfFile, IsPointers, HasPointer}
-use Rattle.lfs_model.specs.Replacing.{BlockReplacing, BlockLeaving, FetchingTight, BlockTight, ChangingTight}
-use Rattle.lfs_model.specs.Running.{Dirty, Tables, Running, IsTight, Moves, IsLifted}
+use Rattle.lfs_model.specs.Memory.{parent, pointer, patched, IsOfFile, HasPointer}
+use Rattle.lfs_model.specs.Replacing.{BlockReplacing, BlockLeaving}
+use Rattle.lfs_model.specs.Running.{Dirty, Tables, Running, Moves, IsLifted}
 use Rattle.lfs_model.specs.Staging.{IsAtAddress, Fetches}
 use Rattle.lfs_model.specs.Stands.{LogMap}
 use Rattle.lfs_model.proofs.Changed.{some_is, block_rewriting, block_removing}

@@ -1,8 +1,8 @@
 -- The checkpoint slots of contents that agree on them.
-use Rattle.std.proofs.Common.{◌≡◌, ℕ, ◌%◌, ◌<◌, List, sym, ◌∙◌, arith}
+use Rattle.std.proofs.Common.{◌≡◌, ℕ, List, ◌∙◌}
 use Rattle.lfs_model.specs.Checkpoint.{CheckpointValue}
 use Rattle.lfs_model.specs.Device.{Cell, cell_at}
-use Rattle.lfs_model.specs.Slots.{HoldsCheckpoint, IsNewest, HasNoCheckpoint}
+use Rattle.lfs_model.specs.Slots.{HoldsCheckpoint}
 
 -- what a slot holds is read from its cell alone
 pub held_same : (content other : List Cell) (slot : ℕ) (c : CheckpointValue) → cell_at other slot ≡ cell_at content slot

@@ -9,6 +9,8 @@ use Rattle.lfs_model.specs.Encodes.{HasInode}
 use Rattle.lfs_model.specs.Memory.{Memory, parent, pointer, patched, file_of, IsPointers, is_nameless}
 use Rattle.lfs_model.specs.Laid.{IsLaid, HoldsInode}
 use Rattle.lfs_model.specs.Lifting.{IsTaken}
+use Rattle.lfs_model.specs.declared.limits.TheConstants.{SECTOR_LEN, BLOCK_POINTERS, LAST_LEAF}
+use Rattle.lfs_model.specs.Inode.{direct_word, pointer_words_end}
 
 -- the log map with another block, or another header
 pub record IsWithBlock (m : LogMap) (n i : ℕ) (bytes : List ℕ) (m' : LogMap) : Type 0 where
@@ -37,14 +39,14 @@ pub record IsPointed (M : Memory) (x : Entry) (v : ℕ) (M' : Memory) : Type 0 w
 
 -- The inode map block of a file that has a name will be written.
 abbrev pub WillBeMapped : LogMap → Memory → ℕ → Type 0
-WillBeMapped m M n = is_nameless m n ≡ false → M.at (Map (n / 128)) ≡ 1
+WillBeMapped m M n = is_nameless m n ≡ false → M.at (Map (n / BLOCK_POINTERS)) ≡ 1
 
 -- a data block in memory is another
 pub record IsRewriting (m : LogMap) (M : Memory) (n i : ℕ) (bytes : List ℕ) (m' : LogMap) (M' : Memory) : Type 0 where
   pub map : IsWithBlock m n i bytes m'
   pub place : IsInPlace M M'
   pub was : M.at (Data n i) ≡ 1
-  pub long : length bytes ≡ 512
+  pub long : length bytes ≡ SECTOR_LEN
   pub own : M'.bytes (Data n i) ≡ bytes
   pub kept : (y : Entry) → (y ≡ Data n i → ⊥) → M'.bytes y ≡ M.bytes y
 
@@ -58,7 +60,7 @@ pub record IsAdding (m : LogMap) (M : Memory) (n i : ℕ) (bytes : List ℕ) (m'
   pub taken : IsTaken M (Data n i) 1 M'
   pub was : M.at (Data n i) ≡ 0
   pub pointed : IsPointed M (Data n i) 1 M'
-  pub long : length bytes ≡ 512
+  pub long : length bytes ≡ SECTOR_LEN
   pub own : M'.bytes (Data n i) ≡ bytes
 
 abbrev pub Adding : Type 0
@@ -81,10 +83,10 @@ pub record IsGrowing (M : Memory) (x : Entry) (M' : Memory) : Type 0 where
   pub pointers : IsPointers x
   pub taken : IsTaken M x 1 M'
   pub was : M.at x ≡ 0
-  pub low : (n q : ℕ) → x ≡ Leaf n q → q ≤ 128
+  pub low : (n q : ℕ) → x ≡ Leaf n q → q ≤ LAST_LEAF
   pub pointed : IsPointed M x 1 M'
-  pub long : length (M'.bytes x) ≡ 512
-  pub empty : (i : ℕ) → i < 128 → word (M'.bytes x) i ≡ 0
+  pub long : length (M'.bytes x) ≡ SECTOR_LEN
+  pub empty : (i : ℕ) → i < BLOCK_POINTERS → word (M'.bytes x) i ≡ 0
 
 abbrev pub Growing : Type 0
 Growing = (e : Content) (m : LogMap) (M : Memory) (opened_at : ℕ) (x : Entry) (M' : Memory) → IsLaid e m M opened_at → IsGrowing M x M'
@@ -96,7 +98,7 @@ pub record IsShrinking (M : Memory) (x : Entry) (M' : Memory) : Type 0 where
   pub taken : IsTaken M x 0 M'
   pub was : M.at x ≡ 1
   pub pointed : IsPointed M x 0 M'
-  pub empty : (i : ℕ) → i < 128 → word (M.bytes x) i ≡ 0
+  pub empty : (i : ℕ) → i < BLOCK_POINTERS → word (M.bytes x) i ≡ 0
 
 abbrev pub Shrinking : Type 0
 Shrinking = (e : Content) (m : LogMap) (M : Memory) (opened_at : ℕ) (x : Entry) (M' : Memory) → IsLaid e m M opened_at → IsShrinking M x M'
@@ -109,7 +111,7 @@ pub record IsRelabeling (m : LogMap) (M : Memory) (n : ℕ) (m' : LogMap) (M' : 
   pub was : M.at (Inode n) ≡ 1
   pub mapped : WillBeMapped m' M n
   pub formed : HoldsInode n (M'.bytes (Inode n))
-  pub words : (w : ℕ) → 8 ≤ w → w < 122 → word (M'.bytes (Inode n)) w ≡ word (M.bytes (Inode n)) w
+  pub words : (w : ℕ) → direct_word ≤ w → w < pointer_words_end → word (M'.bytes (Inode n)) w ≡ word (M.bytes (Inode n)) w
   pub kept : (y : Entry) → (y ≡ Inode n → ⊥) → M'.bytes y ≡ M.bytes y
 
 abbrev pub Relabeling : Type 0
@@ -123,7 +125,7 @@ pub record IsCreating (m : LogMap) (M : Memory) (n : ℕ) (m' : LogMap) (M' : Me
   pub was : M.at (Inode n) ≡ 0
   pub mapped : WillBeMapped m' M n
   pub formed : HoldsInode n (M'.bytes (Inode n))
-  pub words : (w : ℕ) → 8 ≤ w → w < 122 → word (M'.bytes (Inode n)) w ≡ 0
+  pub words : (w : ℕ) → direct_word ≤ w → w < pointer_words_end → word (M'.bytes (Inode n)) w ≡ 0
   pub kept : (y : Entry) → (y ≡ Inode n → ⊥) → M'.bytes y ≡ M.bytes y
 
 abbrev pub Creating : Type 0
@@ -154,7 +156,7 @@ pub record IsRead (e : Content) (m : LogMap) (M : Memory) : Type 0 where
   pub no_block : (n i : ℕ) → M.at (Data n i) ≡ 0 → m.block n i ≡ []
   pub header : (n : ℕ) → 0 < M.at (Inode n) → m.header n ≡ Some (header (M.bytes (Inode n)))
   pub no_header : (n : ℕ) → M.at (Inode n) ≡ 0 → m.header n ≡ None
-  pub pointer : (x : Entry) → (parent x ≡ x → ⊥) → ((n q : ℕ) → x ≡ Leaf n q → q ≤ 128) → 0 < M.at (parent x)
+  pub pointer : (x : Entry) → (parent x ≡ x → ⊥) → ((n q : ℕ) → x ≡ Leaf n q → q ≤ LAST_LEAF) → 0 < M.at (parent x)
       → word (M.bytes (parent x)) (pointer x) ≡ M.at x
   pub no_pointer : (x : Entry) → M.at (parent x) ≡ 0 → M.at x ≡ 0
 

@@ -1,7 +1,9 @@
 -- The checkpoint, which is one sector.
 -- Checkpoint regions are those of the Sprite LFS paper (1992, section 4.1); the bytes are an own choice.
-use Rattle.std.specs.Prelude.{◌≡◌, ◌<◌, ◌≤◌, ◌^◌, ◌%◌, ◌⊎◌, ◌&&◌, ◌||◌, ◌==◌, Bool, nat_le, ℕ, Option, List, [], ◌∷◌, length, codes}
+use Rattle.std.specs.Prelude.{◌≡◌, ◌<◌, ◌≤◌, ◌^◌, ◌+◌, ◌-◌, ◌/◌, ◌%◌, ◌⊎◌, ◌&&◌, ◌||◌, ◌==◌, Bool, nat_le, ℕ, Option, List, [], ◌∷◌, length}
+use Rattle.std.specs.Prelude.{codes}
 use Rattle.lfs_model.specs.Fields.{le32, le64, words, zeros, join, Are32, read32, read64, numbers, value_in}
+use Rattle.lfs_model.specs.declared.limits.TheConstants.{LEAST_SEGMENTS, MOST_SEGMENTS, MAP_BLOCKS, USAGE_BLOCKS, BLOCK_SEGMENTS}
 
 pub record CheckpointValue : Type 0 where
   pub number : ℕ
@@ -43,13 +45,23 @@ checkpoint_sector c = checkpoint_sector_of (layout_version c) c
 -- what stands at the places of a checkpoint
 abbrev pub checkpoint_of : List ℕ → CheckpointValue
 checkpoint_of s =
-    record { number = read64 8 s; segments = read32 16 s; version = read32 20 s; map = numbers 32 32 s; usage = numbers 16 160 s }
+    record {
+      number = read64 8 s;
+      segments = read32 16 s;
+      version = read32 20 s;
+      map = numbers MAP_BLOCKS 32 s;
+      usage = numbers USAGE_BLOCKS 160 s;
+    }
 
 -- how many segments a volume may have: a multiple of 8 in 64..=1,024
 pub record IsSegmentCount (n : ℕ) : Type 0 where
-  pub least : 64 ≤ n
-  pub most : n ≤ 1024
+  pub least : LEAST_SEGMENTS ≤ n
+  pub most : n ≤ MOST_SEGMENTS
   pub eighths : n % 8 ≡ 0
+
+-- the blocks of the usage table of so many segments
+abbrev pub usage_blocks : ℕ → ℕ
+usage_blocks segments = (segments + (BLOCK_SEGMENTS - 1)) / BLOCK_SEGMENTS
 
 -- what a checkpoint may be
 pub record FitsCheckpoint (c : CheckpointValue) : Type 0 where
@@ -57,14 +69,14 @@ pub record FitsCheckpoint (c : CheckpointValue) : Type 0 where
   pub number_fits : c.number < 2 ^ 64
   pub segments : IsSegmentCount c.segments
   pub version : IsVersion (layout_version c)
-  pub map_length : length c.map ≡ 32
+  pub map_length : length c.map ≡ MAP_BLOCKS
   pub map_fits : Are32 c.map
-  pub usage_length : length c.usage ≡ 16
+  pub usage_length : length c.usage ≡ USAGE_BLOCKS
   pub usage_fits : Are32 c.usage
 
 -- the same, as tests
 abbrev pub is_segment_count : ℕ → Bool
-is_segment_count n = nat_le 64 n && (nat_le n 1024 && (n % 8 == 0))
+is_segment_count n = nat_le LEAST_SEGMENTS n && (nat_le n MOST_SEGMENTS && (n % 8 == 0))
 
 abbrev pub is_version : ℕ → Bool
 is_version version = version == 1 || version == 2

@@ -2,14 +2,14 @@
 -- full and followed by another; and then the checkpoint.
 -- That what changed goes to the log first, and the checkpoint last, is the
 -- Sprite LFS paper's (1992, section 4.1); the steps are an own choice.
-use Rattle.std.specs.Prelude.{◌≡◌, ◌<◌, ◌≤◌, ◌⊎◌, ◌+◌, ◌*◌, ◌-◌, ◌/◌, ◌%◌, ◌==◌, ℕ, suc, true, false, List, [], ◌∷◌, ◌++◌, length, get_or}
+use Rattle.std.specs.Prelude.{◌≡◌, ◌<◌, ◌≤◌, ◌⊎◌, ◌+◌, ◌*◌, ◌-◌, ◌%◌, ◌==◌, ℕ, suc, true, false, List, [], ◌∷◌, ◌++◌, length, get_or}
 use Rattle.std.specs.Prelude.{Option, Some, None}
 use Rattle.lfs_model.specs.Entry.{Entry, Inode, Map, Usage, entries_in, word}
-use Rattle.lfs_model.specs.Checkpoint.{CheckpointValue, checkpoint_in, layout_version}
+use Rattle.lfs_model.specs.Checkpoint.{CheckpointValue, checkpoint_in, layout_version, usage_blocks}
 use Rattle.lfs_model.specs.Device.{DeviceState, CrashWrites, IsUntouched, put}
 use Rattle.lfs_model.specs.Content.{Content}
 use Rattle.lfs_model.specs.Decodes.{IsSized}
-use Rattle.lfs_model.specs.Reach.{address, view}
+use Rattle.lfs_model.specs.Reach.{address, view, segment_start}
 use Rattle.lfs_model.specs.Stands.{LogMap, used_in, live_in, age_in, count_up}
 use Rattle.lfs_model.specs.Encodes.{IsLogMap}
 use Rattle.lfs_model.specs.TreeOf.{dropped}
@@ -18,10 +18,12 @@ use Rattle.lfs_model.specs.Counting.{segment_of}
 use Rattle.lfs_model.specs.Settled.{IsSettled, IsPlanned}
 use Rattle.lfs_model.specs.Running.{Dirty, IsTight, Tables, SpellsUsage, Running, IsLowest, Moves, IsNoted, IsLifted, IsTakenFrom, GoesOnIn}
 use Rattle.lfs_model.specs.Running.{IsFresh, IsReaddressed, used_saved}
+use Rattle.lfs_model.specs.declared.limits.TheConstants.{SECTOR_LEN, CHECKPOINT_SLOTS, SEGMENT_SECTORS, MOST_SEGMENTS, BLOCK_POINTERS}
+use Rattle.lfs_model.specs.declared.limits.TheConstants.{BLOCK_SEGMENTS}
 
 -- the first sector behind the used part of a segment
 abbrev pub place_of : Tables → ℕ → ℕ
-place_of t seg = 2 + 64 * seg + t.used seg
+place_of t seg = segment_start seg + t.used seg
 
 -- the device has these bytes at a sector from now on
 pub record IsWritten (d d' : DeviceState) (at : ℕ) (bytes : List ℕ) : Type 0 where
@@ -42,7 +44,8 @@ GoingOn = (d : DeviceState) (dirty : Dirty) (t t' : Tables) (k : CheckpointValue
 abbrev pub Stepping : Type 1
 Stepping = (d d' : DeviceState) (dirty dirty' : Dirty) (t t' : Tables) (k : CheckpointValue) (m0 m : LogMap) (seg : ℕ) (es : List Entry)
     (x : Entry) (bytes : List ℕ)
-    → Running d dirty t k m0 m seg (Some es) → t.used seg < 64 → IsLowest dirty x → dirty x ≡ Some bytes → (IsPointers x → HasPointer bytes)
+    → Running d dirty t k m0 m seg (Some es) → t.used seg < SEGMENT_SECTORS → IsLowest dirty x → dirty x ≡ Some bytes
+    → (IsPointers x → HasPointer bytes)
     → IsWritten d d' (place_of t seg) bytes → Moves dirty dirty' x (place_of t seg) → IsNoted m t t' x (place_of t seg) seg
     → Running d' dirty' t' k m0 m seg (Some (es ++ x ∷ []))
 
@@ -50,21 +53,21 @@ Stepping = (d d' : DeviceState) (dirty dirty' : Dirty) (t t' : Tables) (k : Chec
 abbrev pub SteppingTight : Type 1
 SteppingTight = (d : DeviceState) (dirty dirty' : Dirty) (t : Tables) (k : CheckpointValue) (m0 m : LogMap) (seg : ℕ) (es : List Entry)
     (x : Entry) (bytes : List ℕ)
-    → Running d dirty t k m0 m seg (Some es) → t.used seg < 64 → dirty x ≡ Some bytes → Moves dirty dirty' x (place_of t seg)
+    → Running d dirty t k m0 m seg (Some es) → t.used seg < SEGMENT_SECTORS → dirty x ≡ Some bytes → Moves dirty dirty' x (place_of t seg)
     → IsTight dirty → IsTight dirty'
 
 -- the bytes are inode map block j
 pub record SpellsMap (m : LogMap) (t : Tables) (j : ℕ) (bytes : List ℕ) : Type 0 where
-  pub settled : (i : ℕ) → i < 128 → shown m t.at (Inode (128 * j + i)) ≡ 1 → ⊥
-  pub long : length bytes ≡ 512
-  pub spells : (i : ℕ) → i < 128 → word bytes i ≡ shown m t.at (Inode (128 * j + i))
+  pub settled : (i : ℕ) → i < BLOCK_POINTERS → shown m t.at (Inode (BLOCK_POINTERS * j + i)) ≡ 1 → ⊥
+  pub long : length bytes ≡ SECTOR_LEN
+  pub spells : (i : ℕ) → i < BLOCK_POINTERS → word bytes i ≡ shown m t.at (Inode (BLOCK_POINTERS * j + i))
   pub some : HasPointer bytes
 
 -- An inode map block goes out.
 abbrev pub MapStepping : Type 1
 MapStepping = (d d' : DeviceState) (dirty : Dirty) (t t' : Tables) (k : CheckpointValue) (m0 m : LogMap) (seg : ℕ) (es : List Entry) (j : ℕ)
     (bytes : List ℕ)
-    → Running d dirty t k m0 m seg (Some es) → t.used seg < 64 → t.at (Map j) ≡ 1 → SpellsMap m t j bytes
+    → Running d dirty t k m0 m seg (Some es) → t.used seg < SEGMENT_SECTORS → t.at (Map j) ≡ 1 → SpellsMap m t j bytes
     → IsWritten d d' (place_of t seg) bytes → IsNoted m t t' (Map j) (place_of t seg) seg
     → Running d' dirty t' k m0 m seg (Some (es ++ Map j ∷ []))
 
@@ -72,7 +75,8 @@ MapStepping = (d d' : DeviceState) (dirty : Dirty) (t t' : Tables) (k : Checkpoi
 abbrev pub MapDropping : Type 1
 MapDropping =
     (d : DeviceState) (dirty : Dirty) (t t' : Tables) (k : CheckpointValue) (m0 m : LogMap) (seg : ℕ) (chunk : Option (List Entry)) (j : ℕ)
-    → Running d dirty t k m0 m seg chunk → t.at (Map j) ≡ 1 → ((i : ℕ) → i < 128 → shown m t.at (Inode (128 * j + i)) ≡ 0)
+    → Running d dirty t k m0 m seg chunk → t.at (Map j) ≡ 1
+    → ((i : ℕ) → i < BLOCK_POINTERS → shown m t.at (Inode (BLOCK_POINTERS * j + i)) ≡ 0)
     → IsReaddressed t t' (Map j) 0 → Running d dirty t' k m0 m seg chunk
 
 -- A usage block that is stale is to be written, so it lives no more where it was.
@@ -85,13 +89,13 @@ UsageLeaving =
 -- It gets its place before its bytes are known, for it may count itself.
 abbrev pub UsageSettling : Type 1
 UsageSettling = (d : DeviceState) (dirty : Dirty) (t t' : Tables) (k : CheckpointValue) (m0 m : LogMap) (seg : ℕ) (es : List Entry) (j : ℕ)
-    → Running d dirty t k m0 m seg (Some es) → t.used seg < 64 → t.at (Usage j) ≡ 1 → t.stale j ≡ true
+    → Running d dirty t k m0 m seg (Some es) → t.used seg < SEGMENT_SECTORS → t.at (Usage j) ≡ 1 → t.stale j ≡ true
     → IsNoted m t t' (Usage j) (place_of t seg) seg
     → Running d dirty t' k m0 m seg (Some (es ++ Usage j ∷ []))
 
 -- the acknowledged checkpoint needs nothing at an address
 abbrev pub IsUnkept : Tables → ℕ → Type 0
-IsUnkept t at = t.kept (segment_of at) ≤ (at - 2) % 64
+IsUnkept t at = t.kept (segment_of at) ≤ (at - CHECKPOINT_SLOTS) % SEGMENT_SECTORS
 
 -- And it is written there, once all counts are final.
 abbrev pub UsageFilling : Type 1
@@ -105,7 +109,7 @@ abbrev pub Closing : Type 1
 Closing = (d d' : DeviceState) (dirty : Dirty) (t : Tables) (k : CheckpointValue) (m0 m : LogMap) (seg start : ℕ) (es : List Entry)
     (bytes : List ℕ) (none : ℕ)
     → Running d dirty t k m0 m seg (Some es) → t.used seg ≡ start + suc (length es) → entries_in bytes ≡ Some es
-    → IsWritten d d' (2 + 64 * seg + start) bytes → k.segments ≤ none
+    → IsWritten d d' (segment_start seg + start) bytes → k.segments ≤ none
     → Running d' dirty t k m0 m none None
 
 -- All is out: nothing is left in memory, and the usage table is on the device.
@@ -113,7 +117,7 @@ pub record IsOut (dirty : Dirty) (t : Tables) (segments : ℕ) : Type 0 where
   pub empty : (x : Entry) → dirty x ≡ None
   pub maps : (j : ℕ) → t.at (Map j) ≡ 1 → ⊥
   pub usages : (j : ℕ) → t.at (Usage j) ≡ 1 → ⊥
-  pub fresh : (j : ℕ) → j < (segments + 63) / 64 → t.stale j ≡ false
+  pub fresh : (j : ℕ) → j < usage_blocks segments → t.stale j ≡ false
 
 -- an eighth of the segments have no use by the usage table
 abbrev pub ManyClean : Tables → ℕ → Type 0
@@ -166,10 +170,11 @@ pub record IsMountedTables (c : Content) (k : CheckpointValue) (t : Tables) : Ty
   pub held : (s : ℕ) → t.held s ≡ 0
   pub age : (s : ℕ) → t.age s ≡ age_in (view c k) s
   pub kept : (s : ℕ) → t.kept s ≡ t.used s
-  pub stale : (j i : ℕ) → t.stale j ≡ false → i < 64 → live_in (view c k) (64 * j + i) ≡ 0 → age_in (view c k) (64 * j + i) ≡ 0
+  pub stale : (j i : ℕ) → t.stale j ≡ false → i < BLOCK_SEGMENTS → live_in (view c k) (BLOCK_SEGMENTS * j + i) ≡ 0
+      → age_in (view c k) (BLOCK_SEGMENTS * j + i) ≡ 0
 
 -- With nothing in memory, and once all that it found is durable, the log runs.
 abbrev pub Starting : Type 1
-Starting = (d : DeviceState) (t : Tables) (k : CheckpointValue) (m : LogMap) (none : ℕ) → k.segments ≤ 1024 → IsSized d.content
+Starting = (d : DeviceState) (t : Tables) (k : CheckpointValue) (m : LogMap) (none : ℕ) → k.segments ≤ MOST_SEGMENTS → IsSized d.content
     → IsSettled d k m → IsMountedTables d.content k t → k.segments ≤ none
     → Running d (λ x. None) t k m m none None

@@ -8,10 +8,11 @@ use Rattle.lfs_model.specs.Memory.{Memory, count_of}
 use Rattle.lfs_model.specs.Laid.{IsLaid}
 use Rattle.lfs_model.specs.Placing.{IsMoved}
 use Rattle.lfs_model.specs.Lifting.{IsTaken}
+use Rattle.lfs_model.specs.declared.limits.TheConstants.{CHECKPOINT_SLOTS, SEGMENT_SECTORS}
 
 -- the segment of an address
 abbrev pub segment_of : ℕ → ℕ
-segment_of at = (at - 2) / 64
+segment_of at = (at - CHECKPOINT_SLOTS) / SEGMENT_SECTORS
 
 -- As x goes to the open segment, that one's count goes up by one if x is one of those that are counted.
 abbrev pub MovedCounts : Type 0

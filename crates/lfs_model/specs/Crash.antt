@@ -1,12 +1,13 @@
 -- What a crash may do to a content, and what of it can't hurt.
 -- That a checkpoint alone leads to a consistent state, and blocks that
 -- it needs aren't overwritten: the Sprite LFS paper (1992, section 4.1).
-use Rattle.std.specs.Prelude.{◌≡◌, ◌<◌, ◌≤◌, ◌⊎◌, ◌+◌, ◌*◌, ◌%◌, ℕ, List, length, Some}
+use Rattle.std.specs.Prelude.{◌≡◌, ◌<◌, ◌≤◌, ◌⊎◌, ◌+◌, ◌%◌, ℕ, List, length, Some}
 use Rattle.lfs_model.specs.Checkpoint.{CheckpointValue, checkpoint_in}
 use Rattle.lfs_model.specs.Content.{Content, newest}
 use Rattle.lfs_model.specs.Device.{MayWrite, cell_at, put}
-use Rattle.lfs_model.specs.Reach.{view}
+use Rattle.lfs_model.specs.Reach.{view, segment_start}
 use Rattle.lfs_model.specs.Stands.{LogMap, Protected, StandsAt, StandsLog, used_in}
+use Rattle.lfs_model.specs.declared.limits.TheConstants.{SEGMENT_SECTORS}
 
 -- d has what c's newest checkpoint k needs
 pub record Keeps (c : Content) (k : CheckpointValue) (d : Content) : Type 0 where
@@ -18,8 +19,8 @@ pub record Keeps (c : Content) (k : CheckpointValue) (d : Content) : Type 0 wher
 pub record IsFreeSector (c : Content) (k : CheckpointValue) (at : ℕ) : Type 0 where
   pub segment : ℕ
   pub place : ℕ
-  pub is : at ≡ 2 + 64 * segment + place
-  pub within : place < 64
+  pub is : at ≡ segment_start segment + place
+  pub within : place < SEGMENT_SECTORS
   pub below : segment < k.segments
   pub unused : used_in (view c k) segment ≤ place
 

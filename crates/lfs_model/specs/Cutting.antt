@@ -10,12 +10,13 @@ use Rattle.lfs_model.specs.Laid.{IsLaid}
 use Rattle.lfs_model.specs.Memory.{Memory, parent, file_of, is_nameless, count_of}
 use Rattle.lfs_model.specs.Running.{Dirty, Tables, Running}
 use Rattle.lfs_model.specs.Stands.{LogMap}
+use Rattle.lfs_model.specs.declared.limits.TheConstants.{DIRECT_BLOCKS, BLOCK_POINTERS, FIRST_DOUBLE}
 
 -- the data blocks of file n from block `first` on, and the blocks of pointers that have only those below them
 abbrev pub is_past : ℕ → ℕ → Entry → Bool
 is_past n first (Data k i) = k == n && nat_le first i
-is_past n first (Leaf k q) = k == n && nat_le first (112 + 128 * q)
-is_past n first (Double k) = k == n && nat_le first 240
+is_past n first (Leaf k q) = k == n && nat_le first (DIRECT_BLOCKS + BLOCK_POINTERS * q)
+is_past n first (Double k) = k == n && nat_le first FIRST_DOUBLE
 is_past n first (Inode k) = false
 is_past n first (Map j) = false
 is_past n first (Usage j) = false
@@ -23,8 +24,9 @@ is_past n first (Usage j) = false
 -- With the inode in memory, and the double root and the leaf in which the first of them is, what pointed to them from outside is in memory.
 abbrev pub PastAbove : Type 0
 PastAbove = (e : Content) (m : LogMap) (M : Memory) (opened_at n first : ℕ) → IsLaid e m M opened_at → M.at (Inode n) ≡ 1
-    → (240 < first → 0 < M.at (Double n) → M.at (Double n) ≡ 1)
-    → ((q : ℕ) → 112 + 128 * q < first → first < 240 + 128 * q → 0 < M.at (Leaf n q) → M.at (Leaf n q) ≡ 1)
+    → (FIRST_DOUBLE < first → 0 < M.at (Double n) → M.at (Double n) ≡ 1)
+    → ((q : ℕ) → DIRECT_BLOCKS + BLOCK_POINTERS * q < first → first < FIRST_DOUBLE + BLOCK_POINTERS * q → 0 < M.at (Leaf n q)
+    → M.at (Leaf n q) ≡ 1)
     → (x : Entry) → is_past n first x ≡ true → 0 < M.at x → (parent x ≡ x → ⊥) → is_past n first (parent x) ≡ false → M.at (parent x) ≡ 1
 
 -- the log map without a file
@@ -44,6 +46,6 @@ pub record LeavesOut (old new : Dirty) (n : ℕ) : Type 0 where
 abbrev pub FileRemoving : Type 1
 FileRemoving = (d : DeviceState) (dirty dirty' : Dirty) (t t' : Tables) (k : CheckpointValue) (m0 m m' : LogMap) (seg : ℕ)
     (chunk : Option (List Entry)) (n : ℕ) (counts : ℕ → ℕ)
-    → (r : Running d dirty t k m0 m seg chunk) → (HasInode m n → is_nameless m n ≡ false → t.at (Map (n / 128)) ≡ 1)
+    → (r : Running d dirty t k m0 m seg chunk) → (HasInode m n → is_nameless m n ≡ false → t.at (Map (n / BLOCK_POINTERS)) ≡ 1)
     → ((s : ℕ) → counts s ≡ count_of (is_of n) r.memory s)
     → IsWithoutFile m n m' → LeavesOut dirty dirty' n → IsDetachedFrom m t t' n (is_of n) counts → Running d dirty' t' k m0 m' seg chunk

@@ -7,10 +7,11 @@ use Rattle.lfs_model.specs.Device.{cell_at}
 use Rattle.lfs_model.specs.Reach.{address}
 use Rattle.lfs_model.specs.Stands.{LogMap, StandsAt}
 use Rattle.lfs_model.specs.Encodes.{IsLogMap, Encodes}
+use Rattle.lfs_model.specs.declared.limits.TheConstants.{SECTOR_LEN}
 
 -- the device's sectors have 512 bytes
 abbrev pub IsSized : Content → Type 0
-IsSized c = (at : ℕ) (bytes : List ℕ) → cell_at c at ≡ Some bytes → length bytes ≡ 512
+IsSized c = (at : ℕ) (bytes : List ℕ) → cell_at c at ≡ Some bytes → length bytes ≡ SECTOR_LEN
 
 abbrev pub Decoding : Type 0
 Decoding = (c : Content) (k : CheckpointValue) (m : LogMap) → IsSized c → StandsAt c k m → IsLogMap m × Encodes c k (address c k) m

@@ -12,6 +12,8 @@ use Rattle.lfs_model.specs.Memory.{Memory, parent, pointer, file_of, is_nameless
 use Rattle.lfs_model.specs.Running.{Dirty, Tables, Running}
 use Rattle.lfs_model.specs.Staging.{ChangesTo}
 use Rattle.lfs_model.specs.Stands.{LogMap}
+use Rattle.lfs_model.specs.declared.limits.TheConstants.{SECTOR_LEN, BLOCK_POINTERS, LAST_LEAF, BLOCK_SEGMENTS}
+use Rattle.lfs_model.specs.Inode.{direct_word, pointer_words_end}
 
 -- the entries of a file
 abbrev pub is_of : ℕ → Entry → Bool
@@ -32,9 +34,9 @@ pub record IsWithout (m : LogMap) (n : ℕ) (gone : Entry → Bool) (m' : LogMap
 
 -- the block of y, with no pointer to any of them
 pub record IsCleared (gone : Entry → Bool) (y : Entry) (old new : List ℕ) : Type 0 where
-  pub long : length new ≡ 512
+  pub long : length new ≡ SECTOR_LEN
   pub same : (n i : ℕ) → y ≡ Data n i → new ≡ old
-  pub pointers : (c : Entry) → parent c ≡ y → (c ≡ y → ⊥) → ((n q : ℕ) → c ≡ Leaf n q → q ≤ 128)
+  pub pointers : (c : Entry) → parent c ≡ y → (c ≡ y → ⊥) → ((n q : ℕ) → c ≡ Leaf n q → q ≤ LAST_LEAF)
       → word new (pointer c) ≡ cond (gone c) 0 (word old (pointer c))
   pub formed : (n : ℕ) → y ≡ Inode n → HoldsInode n new
   pub header : (n : ℕ) → y ≡ Inode n → header new ≡ header old
@@ -88,7 +90,7 @@ pub record IsDetachedFrom (m : LogMap) (t t' : Tables) (n : ℕ) (gone : Entry �
   pub nameless : is_nameless m n ≡ true → (s : ℕ) → (t'.live s ≡ t.live s) × (t'.held s + counts s ≡ t.held s)
   pub age : (s : ℕ) → t'.age s ≡ t.age s
   pub kept : (s : ℕ) → t'.kept s ≡ t.kept s
-  pub changed : (s : ℕ) → 0 < counts s → t'.stale (s / 64) ≡ true
+  pub changed : (s : ℕ) → 0 < counts s → t'.stale (s / BLOCK_SEGMENTS) ≡ true
   pub stale : (j : ℕ) → t'.stale j ≡ false → t.stale j ≡ false
 
 -- Entries of a file go.
@@ -97,7 +99,7 @@ FileCutting = (d : DeviceState) (dirty dirty' : Dirty) (t t' : Tables) (k : Chec
     (chunk : Option (List Entry)) (n : ℕ) (gone : Entry → Bool) (counts : ℕ → ℕ)
     → (r : Running d dirty t k m0 m seg chunk) → IsCut n gone
     → ((x : Entry) → gone x ≡ true → 0 < r.memory.at x → (parent x ≡ x → ⊥) → gone (parent x) ≡ false → r.memory.at (parent x) ≡ 1)
-    → (gone (Inode n) ≡ true → HasInode m n → is_nameless m n ≡ false → t.at (Map (n / 128)) ≡ 1)
+    → (gone (Inode n) ≡ true → HasInode m n → is_nameless m n ≡ false → t.at (Map (n / BLOCK_POINTERS)) ≡ 1)
     → ((s : ℕ) → counts s ≡ count_of gone r.memory s)
     → IsWithout m n gone m' → Detaches dirty dirty' n gone → IsDetachedFrom m t t' n gone counts → Running d dirty' t' k m0 m' seg chunk
 
@@ -109,14 +111,14 @@ pub record IsHeldFrom (t t' : Tables) (counts : ℕ → ℕ) : Type 0 where
   pub held : (s : ℕ) → t'.held s ≡ counts s + t.held s
   pub age : (s : ℕ) → t'.age s ≡ t.age s
   pub kept : (s : ℕ) → t'.kept s ≡ t.kept s
-  pub changed : (s : ℕ) → 0 < counts s → t'.stale (s / 64) ≡ true
+  pub changed : (s : ℕ) → 0 < counts s → t'.stale (s / BLOCK_SEGMENTS) ≡ true
   pub stale : (j : ℕ) → t'.stale j ≡ false → t.stale j ≡ false
 
 abbrev pub LinkLosing : Type 1
 LinkLosing = (d : DeviceState) (dirty dirty' : Dirty) (t t' : Tables) (k : CheckpointValue) (m0 m m' : LogMap) (seg : ℕ)
     (chunk : Option (List Entry)) (n : ℕ) (old bytes : List ℕ) (counts : ℕ → ℕ)
     → (r : Running d dirty t k m0 m seg chunk) → dirty (Inode n) ≡ Some old → HoldsInode n bytes
-    → ((w : ℕ) → 8 ≤ w → w < 122 → word bytes w ≡ word old w)
+    → ((w : ℕ) → direct_word ≤ w → w < pointer_words_end → word bytes w ≡ word old w)
     → IsWithHeader m n (Some (header bytes)) m' → is_nameless m n ≡ false → is_nameless m' n ≡ true
     → ((s : ℕ) → counts s ≡ count_of (is_of n) r.memory s)
     → ChangesTo dirty dirty' (Inode n) (Some bytes) → IsHeldFrom t t' counts → Running d dirty' t' k m0 m' seg chunk

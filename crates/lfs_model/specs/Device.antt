@@ -4,6 +4,7 @@ use Rattle.std.specs.Prelude.{◌≡◌, ◌⊎◌, ℕ, ◌+◌, ◌^◌, ◌<�
 use Rattle.std.specs.Prelude.{slice_index_or}
 use Rattle.std.specs.List.{AllByRecursion}
 use Rattle.lfs_model.specs.declared.Order.{Order}
+use Rattle.lfs_model.specs.declared.limits.TheConstants.{SECTOR_LEN}
 
 -- what a sector holds: its 512 bytes, or None where it can't be read
 abbrev pub Cell : Type 0
@@ -11,7 +12,7 @@ Cell = Option (List ℕ)
 
 -- a sector's bytes: 512 numbers below 256
 pub record AreSectorBytes (bytes : List ℕ) : Type 0 where
-  pub size : length bytes ≡ 512
+  pub size : length bytes ≡ SECTOR_LEN
   pub each : (i : ℕ) → slice_index bytes i < 256
 
 -- what a sector may hold

@@ -1,10 +1,10 @@
 -- A new volume of a version of the layout: an empty root, in the version's last form. The layout is this project's own.
-use Rattle.std.specs.Prelude.{◌≡◌, ◌<◌, ◌≤◌, ◌+◌, ◌-◌, ◌*◌, ◌/◌, ◌==◌, nat_lt, ℕ, zero, suc, cond, List, [], ◌∷◌, ◌++◌, map, length}
+use Rattle.std.specs.Prelude.{◌≡◌, ◌<◌, ◌≤◌, ◌+◌, ◌-◌, ◌*◌, ◌==◌, nat_lt, ℕ, zero, suc, cond, List, [], ◌∷◌, ◌++◌, map, length}
 use Rattle.std.specs.Prelude.{replicate, Some, None}
 use Rattle.std.specs.List.{range_with_len}
 use Rattle.lfs_model.specs.declared.Kind.TheVariants.{Directory}
 use Rattle.lfs_model.specs.declared.BlockKind.TheVariants as kind
-use Rattle.lfs_model.specs.Checkpoint.{CheckpointValue, IsSegmentCount, IsVersion, checkpoint_sector}
+use Rattle.lfs_model.specs.Checkpoint.{CheckpointValue, IsSegmentCount, IsVersion, checkpoint_sector, usage_blocks}
 use Rattle.lfs_model.specs.Content.{Content, newest}
 use Rattle.lfs_model.specs.Device.{cell_at}
 use Rattle.lfs_model.specs.Entry.{Header}
@@ -13,6 +13,9 @@ use Rattle.lfs_model.specs.Pointers.{pointer_sector}
 use Rattle.lfs_model.specs.Stands.{LogMap, StandsAt}
 use Rattle.lfs_model.specs.Summary.{BlockNameValue, summary_sector}
 use Rattle.lfs_model.specs.Usage.{SegmentUse, no_use, usage_sector}
+use Rattle.lfs_model.specs.declared.limits.TheConstants.{SECTOR_LEN, SEGMENT_SECTORS, LEAST_SEGMENTS, LEAST_SECTORS, DIRECT_BLOCKS}
+use Rattle.lfs_model.specs.declared.limits.TheConstants.{BLOCK_POINTERS, MAP_BLOCKS, USAGE_BLOCKS, BLOCK_SEGMENTS}
+use Rattle.lfs_model.specs.Reach.{segment_start}
 
 -- bytes that are 0
 abbrev pub blank : ℕ → List ℕ
@@ -20,17 +23,19 @@ blank n = replicate n 0
 
 -- ---- what stands in a new volume of N segments
 
--- a usage block has 64 segments
-abbrev pub usage_blocks : ℕ → ℕ
-usage_blocks N = (N + 63) / 64
-
 -- inode map block 0 stands at sector 4, the usage blocks from sector 5 on
 abbrev pub first_usage_address : ℕ → ℕ → ℕ
 first_usage_address N j = cond (nat_lt j (usage_blocks N)) (5 + j) 0
 
 abbrev pub first_checkpoint : ℕ → ℕ → CheckpointValue
 first_checkpoint version N =
-    record { number = 1; segments = N; version = version; map = 4 ∷ blank 31; usage = map (first_usage_address N) (range_with_len 0 16) }
+    record {
+      number = 1;
+      segments = N;
+      version = version;
+      map = 4 ∷ blank (MAP_BLOCKS - 1);
+      usage = map (first_usage_address N) (range_with_len 0 USAGE_BLOCKS);
+    }
 
 -- what the blocks of the first chunk are, one after the other: the root's inode, the inode map block, the usage blocks
 abbrev pub first_name : ℕ → BlockNameValue
@@ -48,23 +53,32 @@ new_form version = version - 1
 -- the root, without entries
 abbrev pub root_inode : ℕ → InodeValue
 root_inode version =
-    record { kind = Directory; form = new_form version; number = 1; links = 2; size = 0; direct = blank 112; single = 0; double = 0 }
+    record {
+      kind = Directory;
+      form = new_form version;
+      number = 1;
+      links = 2;
+      size = 0;
+      direct = blank DIRECT_BLOCKS;
+      single = 0;
+      double = 0;
+    }
 
 -- number 1 has its inode at sector 3
 abbrev pub first_pointers : List ℕ
-first_pointers = 0 ∷ 3 ∷ blank 126
+first_pointers = 0 ∷ 3 ∷ blank (BLOCK_POINTERS - 2)
 
 -- usage block j: the first chunk alone is in use, its summary and its blocks
 abbrev pub first_uses : ℕ → ℕ → List SegmentUse
-first_uses N zero = record { used = 3 + usage_blocks N; live = 2 + usage_blocks N; age = 1 } ∷ replicate 63 no_use
-first_uses N (suc j) = replicate 64 no_use
+first_uses N zero = record { used = 3 + usage_blocks N; live = 2 + usage_blocks N; age = 1 } ∷ replicate (BLOCK_SEGMENTS - 1) no_use
+first_uses N (suc j) = replicate BLOCK_SEGMENTS no_use
 
 -- A content on which a new volume of N segments stands, in a version of the layout. Of the other sectors it says nothing.
 pub record IsNew (version N : ℕ) (c : Content) : Type 0 where
   pub known : IsVersion version
   pub count : IsSegmentCount N
-  pub size : 2 + 64 * N ≤ length c
-  pub empty_slot : cell_at c 0 ≡ Some (blank 512)
+  pub size : segment_start N ≤ length c
+  pub empty_slot : cell_at c 0 ≡ Some (blank SECTOR_LEN)
   pub checkpoint : cell_at c 1 ≡ Some (checkpoint_sector (first_checkpoint version N))
   pub summary : cell_at c 2 ≡ Some (summary_sector (first_names N))
   pub inode : cell_at c 3 ≡ Some (inode_sector (root_inode version))
@@ -86,10 +100,10 @@ Formatted = (version N : ℕ) (c : Content) → IsNew version N c
 
 abbrev pub new_image : ℕ → ℕ → Content
 new_image version N =
-    Some (blank 512) ∷ Some (checkpoint_sector (first_checkpoint version N)) ∷ Some (summary_sector (first_names N))
+    Some (blank SECTOR_LEN) ∷ Some (checkpoint_sector (first_checkpoint version N)) ∷ Some (summary_sector (first_names N))
     ∷ Some (inode_sector (root_inode version)) ∷ Some (pointer_sector first_pointers)
     ∷ map (λ j. Some (usage_sector (first_uses N j))) (range_with_len 0 (usage_blocks N))
-    ++ replicate (64 * N - 3 - usage_blocks N) (Some (blank 512))
+    ++ replicate (SEGMENT_SECTORS * N - 3 - usage_blocks N) (Some (blank SECTOR_LEN))
 
 -- of 64 segments, byte by byte
 abbrev pub checkpoint_bytes : ℕ → List ℕ
@@ -110,10 +124,10 @@ usage_bytes = 4 ∷ 0 ∷ 3 ∷ 0 ∷ 1 ∷ 0 ∷ 0 ∷ 0 ∷ blank 504
 
 -- 4,098 sectors
 abbrev pub image : ℕ → Content
-image version = Some (blank 512) ∷ Some (checkpoint_bytes version) ∷ Some summary_bytes ∷ Some (inode_bytes version) ∷ Some map_bytes
-    ∷ Some usage_bytes ∷ replicate 4092 (Some (blank 512))
+image version = Some (blank SECTOR_LEN) ∷ Some (checkpoint_bytes version) ∷ Some summary_bytes ∷ Some (inode_bytes version) ∷ Some map_bytes
+    ∷ Some usage_bytes ∷ replicate (LEAST_SECTORS - 6) (Some (blank SECTOR_LEN))
 
 -- There is such a content for each version and each count of segments, and for 64 it is this one.
 abbrev pub NewImages : Type 0
 NewImages = (version : ℕ) → IsVersion version → ((N : ℕ) → IsSegmentCount N → IsNew version N (new_image version N))
-    × IsNew version 64 (image version)
+    × IsNew version LEAST_SEGMENTS (image version)

@@ -16,10 +16,11 @@ use Rattle.lfs_model.specs.Step.{Step, Steps, let_go}
 use Rattle.lfs_model.specs.Plain.{run_to, fresh}
 use Rattle.lfs_model.specs.Script.{InRange, Line, Spells, lines}
 use Rattle.lfs_model.specs.Run.{Point, LineRun, Run, final, IsPending}
+use Rattle.lfs_model.specs.declared.limits.TheConstants.{LEAST_SEGMENTS, MOST_FOLLOWED}
 
 -- in a sound state a walk has exactly one end
 abbrev pub OneEnd : Type 0
-OneEnd = (N : ℕ) (s : State) → Sound N s → (follow : Bool) (d : ℕ) (ps : List (List ℕ)) (slash : Bool) (k : ℕ) → k ≤ 40
+OneEnd = (N : ℕ) (s : State) → Sound N s → (follow : Bool) (d : ℕ) (ps : List (List ℕ)) (slash : Bool) (k : ℕ) → k ≤ MOST_FOLLOWED
     → (e : End) × Walk s.tree follow d ps slash k e × ((f : End) → Walk s.tree follow d ps slash k f → f ≡ e)
 
 -- a call has at most one outcome
@@ -36,7 +37,7 @@ ProgramSteps = (N : ℕ) (s : State) (calls : List Call) (r : List Answer × Sta
 
 -- a new volume is sound
 abbrev pub NewIsSound : Type 0
-NewIsSound = (N : ℕ) → 64 ≤ N → Sound N fresh
+NewIsSound = (N : ℕ) → LEAST_SEGMENTS ≤ N → Sound N fresh
 
 -- the call keeps a state sound, whatever it answers
 abbrev pub KeepsSound : Call → Type 0

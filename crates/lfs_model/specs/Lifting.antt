@@ -7,6 +7,7 @@ use Rattle.lfs_model.specs.Content.{Content}
 use Rattle.lfs_model.specs.Stands.{LogMap}
 use Rattle.lfs_model.specs.Memory.{Memory, parent, pointer, patched, IsOfFile, is_shown}
 use Rattle.lfs_model.specs.Laid.{IsLaid}
+use Rattle.lfs_model.specs.declared.limits.TheConstants.{BLOCK_POINTERS}
 
 -- x has no address in M': it is in memory, for v being 1, or has no block, for 0; and nothing else moves
 pub record IsTaken (M : Memory) (x : Entry) (v : ℕ) (M' : Memory) : Type 0 where
@@ -23,7 +24,7 @@ pub record IsLifting (m : LogMap) (M : Memory) (x : Entry) (M' : Memory) : Type 
   pub was : 2 ≤ M.at x
   pub of_file : IsOfFile x
   pub above : (parent x ≡ x → ⊥) → M.at (parent x) ≡ 1
-  pub map : (n : ℕ) → x ≡ Inode n → is_shown m x ≡ true → M.at (Map (n / 128)) ≡ 1
+  pub map : (n : ℕ) → x ≡ Inode n → is_shown m x ≡ true → M.at (Map (n / BLOCK_POINTERS)) ≡ 1
   pub own : M'.bytes x ≡ M.bytes x
   pub patched : (parent x ≡ x → ⊥) → M'.bytes (parent x) ≡ patched (pointer x) 1 (M.bytes (parent x))
   pub kept : (y : Entry) → (y ≡ x → ⊥) → (y ≡ parent x → ⊥) → M'.bytes y ≡ M.bytes y

@@ -8,6 +8,8 @@ use Rattle.lfs_model.specs.Fields.{le32}
 use Rattle.lfs_model.specs.Live.{live_count}
 use Rattle.lfs_model.specs.Reach.{Row, View}
 use Rattle.lfs_model.specs.Stands.{LogMap}
+use Rattle.lfs_model.specs.declared.limits.TheConstants.{DIRECT_BLOCKS, BLOCK_POINTERS}
+use Rattle.lfs_model.specs.Inode.{direct_word, single_word, double_word}
 
 pub record Memory : Type 0 where
   pub segments : ℕ
@@ -19,7 +21,7 @@ pub record Memory : Type 0 where
 
 -- the entry whose block points to an entry; an inode's address, and those of the tables' blocks, stand in tables in memory
 abbrev pub parent : Entry → Entry
-parent (Data n i) = cond (nat_lt i 112) (Inode n) (Leaf n ((i - 112) / 128))
+parent (Data n i) = cond (nat_lt i DIRECT_BLOCKS) (Inode n) (Leaf n ((i - DIRECT_BLOCKS) / BLOCK_POINTERS))
 parent (Leaf n zero) = Inode n
 parent (Leaf n (suc q)) = Double n
 parent (Double n) = Inode n
@@ -29,10 +31,10 @@ parent (Usage j) = Usage j
 
 -- the word of that block at which the entry's address stands
 abbrev pub pointer : Entry → ℕ
-pointer (Data n i) = cond (nat_lt i 112) (8 + i) ((i - 112) % 128)
-pointer (Leaf n zero) = 120
+pointer (Data n i) = cond (nat_lt i DIRECT_BLOCKS) (direct_word + i) ((i - DIRECT_BLOCKS) % BLOCK_POINTERS)
+pointer (Leaf n zero) = single_word
 pointer (Leaf n (suc q)) = q
-pointer (Double n) = 121
+pointer (Double n) = double_word
 pointer (Inode n) = 0
 pointer (Map j) = 0
 pointer (Usage j) = 0
@@ -64,7 +66,7 @@ IsPointers (Usage j) = ⊥
 
 -- a pointer of a block isn't 0
 abbrev pub HasPointer : List ℕ → Type 0
-HasPointer bytes = (i : ℕ) × (i < 128) × (0 < word bytes i)
+HasPointer bytes = (i : ℕ) × (i < BLOCK_POINTERS) × (0 < word bytes i)
 
 -- a file that has no name, and is there only while a handle is open
 abbrev pub is_unlinked : Option Header → Bool

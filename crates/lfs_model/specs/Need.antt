@@ -1,16 +1,17 @@
 -- How much room a tree needs: own choice, over blocks of 512 bytes as the volume's layout cuts them.
-use Rattle.std.specs.Prelude.{ℕ, ◌+◌, ◌*◌, ◌/◌, Bool, not, ◌&&◌, List, ◌==◌, if◌then◌else◌, nat_lt, nat_le, length, take, drop, filter}
+use Rattle.std.specs.Prelude.{ℕ, ◌+◌, ◌-◌, ◌*◌, ◌/◌, Bool, not, ◌&&◌, List, ◌==◌, if◌then◌else◌, nat_lt, nat_le, length, take, drop, filter}
 use Rattle.std.specs.Prelude.{count_by, sum_by, Option, Some, None}
 use Rattle.std.specs.List.{list_any, range_with_len}
 use Rattle.lfs_model.specs.Tree.{Node, File, Dir, Link, Tree, slot_len}
+use Rattle.lfs_model.specs.declared.limits.TheConstants.{SECTOR_LEN, DIRECT_BLOCKS, BLOCK_POINTERS, FIRST_DOUBLE, NEED_OF_META, LEAST_NEED}
 
 -- whether piece i, of 512 bytes, has a nonzero byte
 abbrev pub is_data : List ℕ → ℕ → Bool
-is_data b i = list_any (λ c. not (c == 0)) (take 512 (drop (512 * i) b))
+is_data b i = list_any (λ c. not (c == 0)) (take SECTOR_LEN (drop (SECTOR_LEN * i) b))
 
 -- the indices of the pieces of n bytes
 abbrev pub pieces : ℕ → List ℕ
-pieces n = range_with_len 0 ((n + 511) / 512)
+pieces n = range_with_len 0 ((n + (SECTOR_LEN - 1)) / SECTOR_LEN)
 
 -- the indices of a node's pieces that have a nonzero byte; each entry of a directory counts as nonzero bytes for its whole slot
 abbrev pub data_pieces : Node → List ℕ
@@ -25,9 +26,10 @@ lies_in a b i = nat_le a i && nat_lt i b
 -- the pointer blocks of a node with data at these indices: one for 112..240, one for each group of 128 from 240 on, and one more
 -- where there is such a group (the 1992 LFS paper has inodes with direct and indirect blocks; the numbers are an own choice)
 abbrev pub pointers : List ℕ → ℕ
-pointers is = (if list_any (lies_in 112 240) is then 1 else 0)
-    + count_by (λ g. list_any (lies_in (240 + 128 * g) (368 + 128 * g)) is) (range_with_len 0 128)
-    + (if list_any (nat_le 240) is then 1 else 0)
+pointers is = (if list_any (lies_in DIRECT_BLOCKS FIRST_DOUBLE) is then 1 else 0)
+    + count_by (λ g. list_any (lies_in (FIRST_DOUBLE + BLOCK_POINTERS * g) (FIRST_DOUBLE + BLOCK_POINTERS + BLOCK_POINTERS * g)) is)
+    (range_with_len 0 BLOCK_POINTERS)
+    + (if list_any (nat_le FIRST_DOUBLE) is then 1 else 0)
 
 -- the data blocks of a node
 unfoldable pub data_of : Node → ℕ
@@ -39,7 +41,7 @@ meta_of x = 1 + pointers (data_pieces x)
 
 -- what a node adds to the need
 abbrev pub cost : Node → ℕ
-cost x = data_of x + 7 * meta_of x
+cost x = data_of x + NEED_OF_META * meta_of x
 
 -- what stands at a number adds so much
 abbrev pub cost_at : Option Node → ℕ
@@ -56,4 +58,4 @@ meta_blocks t = sum_by (λ e. meta_of e.1) t
 
 -- the need of a tree, which is at most 47 for each segment
 abbrev pub need : Tree → ℕ
-need t = data_blocks t + 7 * meta_blocks t + 720
+need t = data_blocks t + NEED_OF_META * meta_blocks t + LEAST_NEED

@@ -19,12 +19,14 @@ use Rattle.lfs_model.specs.Stands.{LogMap, count_up}
 use Rattle.lfs_model.specs.Step.{file_bytes, the_node}
 use Rattle.lfs_model.specs.Tree.{File, Node, node, slot_len, with_node, without}
 use Rattle.lfs_model.specs.TreeOf.{map_of, node_by, node_of, object, slots, tree_in}
+use Rattle.lfs_model.specs.declared.limits.TheConstants.{SECTOR_LEN, LAST_NUMBER, FILE_BLOCKS, LARGEST_FILE, DIRECT_BLOCKS, BLOCK_POINTERS}
+use Rattle.lfs_model.specs.declared.limits.TheConstants.{FIRST_DOUBLE, LAST_LEAF, MOST_LINKS}
 
 -- ---- bytes
 
 -- byte p of file n, past its size too; where no block is stored, it is 0
 abbrev pub byte_in : LogMap → ℕ → ℕ → ℕ
-byte_in m n p = slice_index (m.block n (p / 512)) (p % 512)
+byte_in m n p = slice_index (m.block n (p / SECTOR_LEN)) (p % SECTOR_LEN)
 
 -- An object's bytes are those of its blocks.
 abbrev pub ObjectBytes : Type 0
@@ -49,15 +51,15 @@ pub record Overlays (o : ℕ) (w : List ℕ) (old new : ℕ → ℕ) : Type 0 wh
 
 -- One block with w laid over is the file with w laid over. An old or a new block that is none counts as zeros.
 abbrev pub BlockOverlaid : Type 0
-BlockOverlaid = (m m' : LogMap) (n i : ℕ) (bytes : List ℕ) → IsWithBlock m n i bytes m' → (o : ℕ) (w : List ℕ) → o + length w ≤ 512
-    → Overlays o w (slice_index (m.block n i)) (slice_index bytes) → Overlays (512 * i + o) w (byte_in m n) (byte_in m' n)
+BlockOverlaid = (m m' : LogMap) (n i : ℕ) (bytes : List ℕ) → IsWithBlock m n i bytes m' → (o : ℕ) (w : List ℕ) → o + length w ≤ SECTOR_LEN
+    → Overlays o w (slice_index (m.block n i)) (slice_index bytes) → Overlays (SECTOR_LEN * i + o) w (byte_in m n) (byte_in m' n)
 
 -- So is a file with w laid over, said of each of its blocks.
 abbrev pub OverlaidByBlocks : Type 0
 OverlaidByBlocks = (m m' : LogMap) (n o : ℕ) (w : List ℕ)
-    → ((i k : ℕ) → k < 512 → 512 * i + k < o → slice_index (m'.block n i) k ≡ slice_index (m.block n i) k)
-    → ((i k j : ℕ) → k < 512 → j < length w → 512 * i + k ≡ o + j → slice_index (m'.block n i) k ≡ slice_index w j)
-    → ((i k : ℕ) → k < 512 → o + length w ≤ 512 * i + k → slice_index (m'.block n i) k ≡ slice_index (m.block n i) k)
+    → ((i k : ℕ) → k < SECTOR_LEN → SECTOR_LEN * i + k < o → slice_index (m'.block n i) k ≡ slice_index (m.block n i) k)
+    → ((i k j : ℕ) → k < SECTOR_LEN → j < length w → SECTOR_LEN * i + k ≡ o + j → slice_index (m'.block n i) k ≡ slice_index w j)
+    → ((i k : ℕ) → k < SECTOR_LEN → o + length w ≤ SECTOR_LEN * i + k → slice_index (m'.block n i) k ≡ slice_index (m.block n i) k)
     → Overlays o w (byte_in m n) (byte_in m' n)
 
 -- What is laid over in two pieces, the one behind the other, is laid over.
@@ -79,10 +81,10 @@ ObjectWritten = (m m' : LogMap) (n : ℕ) (h h' : Header) → IsLogMap m → m.h
 -- a file that ends at len: the blocks from there on are gone, and the bytes of the last block behind it are zeros
 pub record CutsBytes (m m' : LogMap) (n : ℕ) (h h' : Header) (len : ℕ) : Type 0 where
   pub size : h'.size ≡ len
-  pub whole : (i : ℕ) → 512 * i + 512 ≤ len → m'.block n i ≡ m.block n i
-  pub last : (k : ℕ) → k < len % 512 → slice_index (m'.block n (len / 512)) k ≡ slice_index (m.block n (len / 512)) k
-  pub zeros : (k : ℕ) → len % 512 ≤ k → slice_index (m'.block n (len / 512)) k ≡ 0
-  pub gone : (i : ℕ) → len ≤ 512 * i → m'.block n i ≡ []
+  pub whole : (i : ℕ) → SECTOR_LEN * i + SECTOR_LEN ≤ len → m'.block n i ≡ m.block n i
+  pub last : (k : ℕ) → k < len % SECTOR_LEN → slice_index (m'.block n (len / SECTOR_LEN)) k ≡ slice_index (m.block n (len / SECTOR_LEN)) k
+  pub zeros : (k : ℕ) → len % SECTOR_LEN ≤ k → slice_index (m'.block n (len / SECTOR_LEN)) k ≡ 0
+  pub gone : (i : ℕ) → len ≤ SECTOR_LEN * i → m'.block n i ≡ []
 
 -- It is what ftruncate makes of the file, shorter or longer.
 abbrev pub ObjectCut : Type 0
@@ -108,11 +110,11 @@ pub record IsChangedAt (m : LogMap) (n : ℕ) (m' : LogMap) : Type 0 where
 
 -- The node at a number is that of its header.
 abbrev pub NodeOfHeader : Type 0
-NodeOfHeader = (m : LogMap) (n : ℕ) → 1 ≤ n → n ≤ 4095 → node (tree_in m) n ≡ node_of m n (m.header n)
+NodeOfHeader = (m : LogMap) (n : ℕ) → 1 ≤ n → n ≤ LAST_NUMBER → node (tree_in m) n ≡ node_of m n (m.header n)
 
 -- An object that is there afterwards, whether it was before or not, is put into the tree.
 abbrev pub ObjectPut : Type 0
-ObjectPut = (m m' : LogMap) (n : ℕ) (h : Header) → IsChangedAt m n m' → 1 ≤ n → n ≤ 4095 → m'.header n ≡ Some h
+ObjectPut = (m m' : LogMap) (n : ℕ) (h : Header) → IsChangedAt m n m' → 1 ≤ n → n ≤ LAST_NUMBER → m'.header n ≡ Some h
     → tree_in m' ≡ with_node (tree_in m) n (node_by m' h.kind n h)
 
 -- One that isn't there afterwards is taken from the tree.
@@ -126,14 +128,14 @@ LinksApart = (m m' : LogMap) (n : ℕ) (h h' : Header) → IsWithHeader m n (Som
 
 -- A file that is written is what pwrite makes of the tree.
 abbrev pub FileWritten : Type 0
-FileWritten = (m m' : LogMap) (n : ℕ) (h h' : Header) → IsLogMap m → IsChangedAt m n m' → 1 ≤ n → n ≤ 4095 → m.header n ≡ Some h
+FileWritten = (m m' : LogMap) (n : ℕ) (h h' : Header) → IsLogMap m → IsChangedAt m n m' → 1 ≤ n → n ≤ LAST_NUMBER → m.header n ≡ Some h
     → m'.header n ≡ Some h' → h.kind ≡ kind.File → h'.kind ≡ kind.File
     → (o : ℕ) (w : List ℕ) → WritesBytes m m' n h h' o w
     → tree_in m' ≡ with_node (tree_in m) n (File (put (file_bytes (the_node (tree_in m) n)) o w))
 
 -- One that is cut, or made longer, is what ftruncate makes of it.
 abbrev pub FileCut : Type 0
-FileCut = (m m' : LogMap) (n : ℕ) (h h' : Header) → IsLogMap m → IsChangedAt m n m' → 1 ≤ n → n ≤ 4095 → m.header n ≡ Some h
+FileCut = (m m' : LogMap) (n : ℕ) (h h' : Header) → IsLogMap m → IsChangedAt m n m' → 1 ≤ n → n ≤ LAST_NUMBER → m.header n ≡ Some h
     → m'.header n ≡ Some h' → h.kind ≡ kind.File → h'.kind ≡ kind.File
     → (len : ℕ) → CutsBytes m m' n h h' len → tree_in m' ≡ with_node (tree_in m) n (File (cut (file_bytes (the_node (tree_in m) n)) len))
 
@@ -149,11 +151,11 @@ stored_below m n end = filter (is_stored m n) (range_with_len 0 end)
 
 -- all of them: a log map has none from 16624 on
 abbrev pub stored_blocks : LogMap → ℕ → List ℕ
-stored_blocks m n = stored_below m n 16624
+stored_blocks m n = stored_below m n FILE_BLOCKS
 
 -- each stored block is as long as a sector
 abbrev pub AreLong : LogMap → ℕ → Type 0
-AreLong m n = (i : ℕ) → HasData m n i → length (m.block n i) ≡ 512
+AreLong m n = (i : ℕ) → HasData m n i → length (m.block n i) ≡ SECTOR_LEN
 
 -- What is laid out in memory and on the device has such blocks.
 abbrev pub LaidLong : Type 0
@@ -186,7 +188,7 @@ ObjectCosts = (m : LogMap) (n : ℕ) (h : Header) → IsLogMap m → AreLong m n
 
 -- So the node of an object in the tree adds as many data blocks as are stored for it, and an inode and its blocks of pointers.
 abbrev pub CostsInTree : Type 0
-CostsInTree = (m : LogMap) (n : ℕ) (h : Header) → IsLogMap m → AreLong m n → 1 ≤ n → n ≤ 4095 → m.header n ≡ Some h
+CostsInTree = (m : LogMap) (n : ℕ) (h : Header) → IsLogMap m → AreLong m n → 1 ≤ n → n ≤ LAST_NUMBER → m.header n ≡ Some h
     → (h.kind ≡ kind.Directory → IsDirectory m n h)
     → (data_at (node (tree_in m) n) ≡ length (stored_blocks m n)) × (meta_at (node (tree_in m) n) ≡ 1 + pointers (stored_blocks m n))
 
@@ -201,7 +203,7 @@ one_if b = cond {A = ℕ} b 1 0
 -- With one block changed there is one index more, or one less, or as many as before; and other files have what they had.
 abbrev pub StoredChanged : Type 0
 StoredChanged = (m m' : LogMap) (n i : ℕ) (bytes : List ℕ) → IsWithBlock m n i bytes m'
-    → (i < 16624 → length (stored_blocks m' n) + one_if (is_stored m n i) ≡ length (stored_blocks m n) + one_if (is_stored m' n i))
+    → (i < FILE_BLOCKS → length (stored_blocks m' n) + one_if (is_stored m n i) ≡ length (stored_blocks m n) + one_if (is_stored m' n i))
     × ((q : ℕ) → (q ≡ n → ⊥) → stored_blocks m' q ≡ stored_blocks m q)
 
 -- With one object changed the blocks of the tree change by those of the object.
@@ -227,13 +229,13 @@ pub record IsObject (m : LogMap) (n : ℕ) (h : Header) : Type 0 where
   pub number : 1 ≤ n
   pub root : n ≡ 1 → h.kind ≡ kind.Directory
   pub form : IsForm m.version h.kind h.form
-  pub size : h.size ≤ 8511488
+  pub size : h.size ≤ LARGEST_FILE
   pub whole : AreStoredWhole m n
   pub ends : (p : ℕ) → h.size ≤ p → byte_in m n p ≡ 0
 
 -- Each object of a log map is one, where blocks are long.
 abbrev pub ObjectFits : Type 0
-ObjectFits = (m : LogMap) (n : ℕ) (h : Header) → IsLogMap m → AreLong m n → m.header n ≡ Some h → h.size ≤ 8511488 → IsObject m n h
+ObjectFits = (m : LogMap) (n : ℕ) (h : Header) → IsLogMap m → AreLong m n → m.header n ≡ Some h → h.size ≤ LARGEST_FILE → IsObject m n h
 
 -- With another object that fits, a log map keeps what it has to.
 abbrev pub ObjectKept : Type 0
@@ -247,7 +249,7 @@ ObjectLost = (m m' : LogMap) (n : ℕ) → IsLogMap m → IsChangedAt m n m' →
 -- A block that is none, or a sector with a byte that isn't zero, leaves the file's blocks whole.
 abbrev pub BlockWhole : Type 0
 BlockWhole = (m m' : LogMap) (n i : ℕ) (bytes : List ℕ) → IsWithBlock m n i bytes m' → AreStoredWhole m n
-    → (0 < length bytes → (length bytes ≡ 512) × ((k : ℕ) × (0 < slice_index bytes k))) → AreStoredWhole m' n
+    → (0 < length bytes → (length bytes ≡ SECTOR_LEN) × ((k : ℕ) × (0 < slice_index bytes k))) → AreStoredWhole m' n
 
 -- No byte past the end that a write leaves is other than zero.
 abbrev pub WriteEnds : Type 0
@@ -256,12 +258,12 @@ WriteEnds = (m m' : LogMap) (n : ℕ) (h h' : Header) → IsLogMap m → m.heade
 
 -- what an inode may say of object n
 pub record IsHeaderOf (n : ℕ) (h : Header) : Type 0 where
-  pub number : (1 ≤ n) × (n ≤ 4095)
+  pub number : (1 ≤ n) × (n ≤ LAST_NUMBER)
   pub form : IsForm 2 h.kind h.form
-  pub links : h.links ≤ 1000
+  pub links : h.links ≤ MOST_LINKS
   pub size : IsSize h.form h.kind h.size
   -- what follows from its size
-  pub most : h.size ≤ 8511488
+  pub most : h.size ≤ LARGEST_FILE
   pub slots : h.kind ≡ kind.Directory → h.size % slot_len h.form ≡ 0
 
 -- What is laid out in memory and on the device has such headers.
@@ -273,11 +275,11 @@ LaidHeaders = (e : Content) (m : LogMap) (M : Memory) (opened_at : ℕ) → IsLa
 
 -- whether the file has a block below a leaf: 0 is the single leaf, q + 1 is leaf q of the double root
 unfoldable pub has_leaf : LogMap → ℕ → ℕ → Bool
-has_leaf m n q = list_any (is_stored m n) (range_with_len (112 + 128 * q) 128)
+has_leaf m n q = list_any (is_stored m n) (range_with_len (DIRECT_BLOCKS + BLOCK_POINTERS * q) BLOCK_POINTERS)
 
 -- and below the double root
 unfoldable pub has_double : LogMap → ℕ → Bool
-has_double m n = list_any (λ q. has_leaf m n (suc q)) (range_with_len 0 128)
+has_double m n = list_any (λ q. has_leaf m n (suc q)) (range_with_len 0 BLOCK_POINTERS)
 
 -- The tests say what they are named for.
 abbrev pub LeafTests : Type 0
@@ -286,11 +288,12 @@ LeafTests = (m : LogMap) (n : ℕ) → ((q : ℕ) → (has_leaf m n q ≡ true) 
 -- The blocks of pointers that a file's cost counts are those that a log map stores for it.
 abbrev pub PointerBlocks : Type 0
 PointerBlocks = (m : LogMap) (n : ℕ)
-    → pointers (stored_blocks m n) ≡ one_if (has_leaf m n 0) + count_up (λ q. has_leaf m n (suc q)) 128 + one_if (has_double m n)
+    → pointers (stored_blocks m n) ≡ one_if (has_leaf m n 0) + count_up (λ q. has_leaf m n (suc q)) BLOCK_POINTERS + one_if (has_double m n)
 
 -- With one block changed they change by the leaf above it, and by the double root above that.
 abbrev pub PointersChanged : Type 0
 PointersChanged = (m m' : LogMap) (n i : ℕ) (bytes : List ℕ) → IsWithBlock m n i bytes m'
-    → (i < 112 → pointers (stored_blocks m' n) ≡ pointers (stored_blocks m n))
-    × ((q : ℕ) → q ≤ 128 → 112 + 128 * q ≤ i → i < 240 + 128 * q → pointers (stored_blocks m' n) + one_if (has_leaf m n q) + one_if
+    → (i < DIRECT_BLOCKS → pointers (stored_blocks m' n) ≡ pointers (stored_blocks m n))
+    × ((q : ℕ) → q ≤ LAST_LEAF → DIRECT_BLOCKS + BLOCK_POINTERS * q ≤ i → i < FIRST_DOUBLE + BLOCK_POINTERS * q
+    → pointers (stored_blocks m' n) + one_if (has_leaf m n q) + one_if
     (nat_lt 0 q && has_double m n) ≡ pointers (stored_blocks m n) + one_if (has_leaf m' n q) + one_if (nat_lt 0 q && has_double m' n))

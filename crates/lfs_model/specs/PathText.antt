@@ -2,6 +2,7 @@
 use Rattle.std.specs.Prelude.{ℕ, ◌-◌, Bool, false, List, [], ◌∷◌, ◌==◌, if◌then◌else◌, Option, Some, None, nat_lt, length, take, filter}
 use Rattle.std.specs.List.{last_or, list_any}
 use Rattle.lfs_model.specs.Refusal.{Refusal, NoEntry, NameTooLong, Inval}
+use Rattle.lfs_model.specs.declared.limits.TheConstants.{LONGEST_PATH}
 
 -- a byte before the first part; a slash (47) begins a part
 abbrev pub before_parts : ℕ → List (List ℕ) → List (List ℕ)
@@ -38,5 +39,5 @@ last ps = last_or None ps
 
 -- what refuses a path's text, or a link's: empty (POSIX.1-2017, 4.13), more than 1,023 bytes (PATH_MAX), a zero byte (own choice)
 abbrev pub text_refusal : List ℕ → Option Refusal
-text_refusal p = if nat_lt 0 (length p) then (if nat_lt 1023 (length p) then Some NameTooLong
+text_refusal p = if nat_lt 0 (length p) then (if nat_lt LONGEST_PATH (length p) then Some NameTooLong
     else (if list_any (λ c. nat_lt c 1) p then Some Inval else None)) else Some NoEntry

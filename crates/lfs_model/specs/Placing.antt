@@ -4,20 +4,21 @@ use Rattle.std.specs.Prelude.{◌≡◌, ◌<◌, ◌≤◌, ◌+◌, ◌*◌, �
 use Rattle.lfs_model.specs.Entry.{Entry, Map, Usage, Inode, entries_in, word}
 use Rattle.lfs_model.specs.Content.{Content, block}
 use Rattle.lfs_model.specs.Device.{put}
-use Rattle.lfs_model.specs.Reach.{Row, row_by}
+use Rattle.lfs_model.specs.Reach.{Row, row_by, segment_start}
 use Rattle.lfs_model.specs.Stands.{LogMap}
 use Rattle.lfs_model.specs.Memory.{Memory, parent, pointer, patched, IsOfFile, IsPointers, HasPointer, shown, count_of}
 use Rattle.lfs_model.specs.Laid.{IsLaid}
+use Rattle.lfs_model.specs.declared.limits.TheConstants.{SECTOR_LEN, SEGMENT_SECTORS, BLOCK_POINTERS}
 
 -- the next sector of the open segment
 abbrev pub next_place : Memory → ℕ → ℕ
-next_place M opened_at = 2 + 64 * opened_at + length (M.rows opened_at)
+next_place M opened_at = segment_start opened_at + length (M.rows opened_at)
 
 -- x gets that address in M'
 pub record IsMoved (M : Memory) (opened_at : ℕ) (x : Entry) (M' : Memory) : Type 0 where
   pub was : M.at x ≡ 1
   pub begun : 0 < length (M.rows opened_at)
-  pub room : length (M.rows opened_at) < 64
+  pub room : length (M.rows opened_at) < SEGMENT_SECTORS
   pub opened : opened_at < M.segments
   pub segments : M'.segments ≡ M.segments
   pub at : M'.at x ≡ next_place M opened_at
@@ -43,9 +44,9 @@ Placing = (e : Content) (m : LogMap) (M : Memory) (opened_at : ℕ) (x : Entry) 
 -- an inode map block goes out, once the inodes that it shows are out
 pub record IsMapPlacing (m : LogMap) (M : Memory) (opened_at j : ℕ) (bytes : List ℕ) (M' : Memory) : Type 0 where
   pub moved : IsMoved M opened_at (Map j) M'
-  pub settled : (i : ℕ) → i < 128 → shown m M.at (Inode (128 * j + i)) ≡ 1 → ⊥
-  pub long : length bytes ≡ 512
-  pub spells : (i : ℕ) → i < 128 → word bytes i ≡ shown m M.at (Inode (128 * j + i))
+  pub settled : (i : ℕ) → i < BLOCK_POINTERS → shown m M.at (Inode (BLOCK_POINTERS * j + i)) ≡ 1 → ⊥
+  pub long : length bytes ≡ SECTOR_LEN
+  pub spells : (i : ℕ) → i < BLOCK_POINTERS → word bytes i ≡ shown m M.at (Inode (BLOCK_POINTERS * j + i))
   pub some : HasPointer bytes
   pub own : M'.bytes (Map j) ≡ bytes
   pub kept : (y : Entry) → (y ≡ Map j → ⊥) → M'.bytes y ≡ M.bytes y
@@ -58,7 +59,7 @@ MapPlacing = (e : Content) (m : LogMap) (M : Memory) (opened_at j : ℕ) (bytes 
 -- an inode map block that shows no inode isn't stored
 pub record IsMapLeaving (m : LogMap) (M : Memory) (j : ℕ) (M' : Memory) : Type 0 where
   pub was : M.at (Map j) ≡ 1
-  pub none : (i : ℕ) → i < 128 → shown m M.at (Inode (128 * j + i)) ≡ 0
+  pub none : (i : ℕ) → i < BLOCK_POINTERS → shown m M.at (Inode (BLOCK_POINTERS * j + i)) ≡ 0
   pub segments : M'.segments ≡ M.segments
   pub at : M'.at (Map j) ≡ 0
   pub others : (y : Entry) → (y ≡ Map j → ⊥) → M'.at y ≡ M.at y
@@ -115,7 +116,7 @@ pub record IsReopening (M : Memory) (s : ℕ) (M' : Memory) : Type 0 where
   pub at : M'.at ≡ M.at
   pub bytes : M'.bytes ≡ M.bytes
   pub some : 0 < length (M.rows s)
-  pub room : length (M.rows s) < 64
+  pub room : length (M.rows s) < SEGMENT_SECTORS
   pub row : M'.rows s ≡ M.rows s ++ None ∷ []
   pub rows : (t : ℕ) → (t ≡ s → ⊥) → M'.rows t ≡ M.rows t
 
@@ -130,4 +131,4 @@ Sealing = (e : Content) (m : LogMap) (M : Memory) (opened_at : ℕ) (before : Ro
     → opened_at < M.segments
     → M.rows opened_at ≡ before ++ None ∷ map Some es → row_by e (length before) opened_at ≡ Some before → entries_in bytes ≡ Some es
     → (none : ℕ) → M.segments ≤ none
-    → IsLaid (put e (2 + 64 * opened_at + length before) bytes) m M none
+    → IsLaid (put e (segment_start opened_at + length before) bytes) m M none

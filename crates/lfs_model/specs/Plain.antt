@@ -8,6 +8,7 @@ use Rattle.lfs_model.specs.Refusal.{Refusal, NameTooLong, NoEntry, NotDir, Loop}
 use Rattle.lfs_model.specs.Walk.{End, At, Refused, dot, dot_dot, more, start, slash_with}
 use Rattle.lfs_model.specs.Call.{Call, Answer}
 use Rattle.lfs_model.specs.Step.{Path, Whole, Holder, NoPath, path_of, second_path_of, outcome}
+use Rattle.lfs_model.specs.declared.limits.TheConstants.{MOST_FOLLOWED}
 
 -- what a piece is in a directory
 pub data Seen : Type 0 where
@@ -66,8 +67,8 @@ ends_to (Some r) e = Some (Refused r)
 
 -- the end of a call's path
 abbrev pub path_to : Tree → Path → Option End
-path_to t (Whole p follow) = ends_to (text_refusal p) (walk_to 40 t follow 1 (comps p) (slash p))
-path_to t (Holder p) = ends_to (text_refusal p) (walk_to 40 t true 1 (but_last (comps p)) true)
+path_to t (Whole p follow) = ends_to (text_refusal p) (walk_to MOST_FOLLOWED t follow 1 (comps p) (slash p))
+path_to t (Holder p) = ends_to (text_refusal p) (walk_to MOST_FOLLOWED t true 1 (but_last (comps p)) true)
 path_to t NoPath = Some (At 1)
 
 -- a call's answer and the state after it

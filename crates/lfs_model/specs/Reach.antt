@@ -5,6 +5,12 @@ use Rattle.std.specs.Prelude.{ℕ, zero, suc, ◌+◌, ◌-◌, ◌*◌, ◌/◌
 use Rattle.lfs_model.specs.Entry.{Entry, Data, Leaf, Double, Inode, Map, Usage, word, half, entries_in}
 use Rattle.lfs_model.specs.Checkpoint.{CheckpointValue}
 use Rattle.lfs_model.specs.Content.{Content, bytes_of, block}
+use Rattle.lfs_model.specs.declared.limits.TheConstants.{CHECKPOINT_SLOTS, SEGMENT_SECTORS, DIRECT_BLOCKS, BLOCK_POINTERS, BLOCK_SEGMENTS}
+use Rattle.lfs_model.specs.Inode.{direct_word, single_word, double_word}
+
+-- the first sector of a segment; the segments stand behind the checkpoints
+abbrev pub segment_start : ℕ → ℕ
+segment_start s = CHECKPOINT_SLOTS + SEGMENT_SECTORS * s
 
 abbrev pub usage_block : Content → CheckpointValue → ℕ → List ℕ
 usage_block content k j = block content (get_or k.usage j 0)
@@ -13,19 +19,19 @@ abbrev pub map_block : Content → CheckpointValue → ℕ → List ℕ
 map_block content k j = block content (get_or k.map j 0)
 
 abbrev pub inode_address : Content → CheckpointValue → ℕ → ℕ
-inode_address content k n = word (map_block content k (n / 128)) (n % 128)
+inode_address content k n = word (map_block content k (n / BLOCK_POINTERS)) (n % BLOCK_POINTERS)
 
 abbrev pub inode_block : Content → CheckpointValue → ℕ → List ℕ
 inode_block content k n = block content (inode_address content k n)
 
 abbrev pub double_address : Content → CheckpointValue → ℕ → ℕ
-double_address content k n = word (inode_block content k n) 121
+double_address content k n = word (inode_block content k n) double_word
 
 abbrev pub double_block : Content → CheckpointValue → ℕ → List ℕ
 double_block content k n = block content (double_address content k n)
 
 abbrev pub leaf_address : Content → CheckpointValue → ℕ → ℕ → ℕ
-leaf_address content k n zero = word (inode_block content k n) 120
+leaf_address content k n zero = word (inode_block content k n) single_word
 leaf_address content k n (suc q) = word (double_block content k n) q
 
 abbrev pub leaf_block : Content → CheckpointValue → ℕ → ℕ → List ℕ
@@ -33,7 +39,8 @@ leaf_block content k n q = block content (leaf_address content k n q)
 
 abbrev pub data_address : Content → CheckpointValue → ℕ → ℕ → ℕ
 data_address content k n i =
-    cond (nat_lt i 112) (word (inode_block content k n) (8 + i)) (word (leaf_block content k n ((i - 112) / 128)) ((i - 112) % 128))
+    cond (nat_lt i DIRECT_BLOCKS) (word (inode_block content k n) (direct_word + i))
+    (word (leaf_block content k n ((i - DIRECT_BLOCKS) / BLOCK_POINTERS)) ((i - DIRECT_BLOCKS) % BLOCK_POINTERS))
 
 unfoldable pub address : Content → CheckpointValue → Entry → ℕ
 address content k (Data n i) = data_address content k n i
@@ -46,20 +53,21 @@ address content k (Usage j) = get_or k.usage j 0
 -- The same, one step at a time: where an entry's address stands, if `blocks` are the blocks of the entries.
 abbrev pub linked : CheckpointValue → (Entry → List ℕ) → Entry → ℕ
 linked k blocks (Data n i) =
-    cond (nat_lt i 112) (word (blocks (Inode n)) (8 + i)) (word (blocks (Leaf n ((i - 112) / 128))) ((i - 112) % 128))
-linked k blocks (Leaf n zero) = word (blocks (Inode n)) 120
+    cond (nat_lt i DIRECT_BLOCKS) (word (blocks (Inode n)) (direct_word + i))
+    (word (blocks (Leaf n ((i - DIRECT_BLOCKS) / BLOCK_POINTERS))) ((i - DIRECT_BLOCKS) % BLOCK_POINTERS))
+linked k blocks (Leaf n zero) = word (blocks (Inode n)) single_word
 linked k blocks (Leaf n (suc q)) = word (blocks (Double n)) q
-linked k blocks (Double n) = word (blocks (Inode n)) 121
-linked k blocks (Inode n) = word (blocks (Map (n / 128))) (n % 128)
+linked k blocks (Double n) = word (blocks (Inode n)) double_word
+linked k blocks (Inode n) = word (blocks (Map (n / BLOCK_POINTERS))) (n % BLOCK_POINTERS)
 linked k blocks (Map j) = get_or k.map j 0
 linked k blocks (Usage j) = get_or k.usage j 0
 
 -- the sectors in use of segment s, and those of them that the checkpoint reaches
 abbrev pub used : Content → CheckpointValue → ℕ → ℕ
-used content k s = half (usage_block content k (s / 64)) (4 * (s % 64))
+used content k s = half (usage_block content k (s / BLOCK_SEGMENTS)) (4 * (s % BLOCK_SEGMENTS))
 
 abbrev pub live : Content → CheckpointValue → ℕ → ℕ
-live content k s = half (usage_block content k (s / 64)) (4 * (s % 64) + 1)
+live content k s = half (usage_block content k (s / BLOCK_SEGMENTS)) (4 * (s % BLOCK_SEGMENTS) + 1)
 
 -- for each sector of a row of chunks: `None` for a summary, else the entry that the summary gives it
 abbrev pub Row : Type 0
@@ -83,11 +91,11 @@ chunks (e ∷ waiting) (sector ∷ sectors) = after (Some e) (chunks waiting sec
 
 -- the first u sectors of segment s
 unfoldable pub row_by : Content → ℕ → ℕ → Option Row
-row_by content u s = chunks [] (take u (drop (2 + 64 * s) content))
+row_by content u s = chunks [] (take u (drop (segment_start s) content))
 
 -- the chunks of segment s in its sectors from .. to
 abbrev pub chunks_between : Content → ℕ → ℕ → ℕ → Option Row
-chunks_between content s from to = chunks [] (take (to - from) (drop (2 + 64 * s + from) content))
+chunks_between content s from to = chunks [] (take (to - from) (drop (segment_start s + from) content))
 
 -- the used part of segment s
 abbrev pub row : Content → CheckpointValue → ℕ → Option Row

@@ -10,12 +10,13 @@ use Rattle.lfs_model.specs.Memory.{IsOfFile, IsPointers}
 use Rattle.lfs_model.specs.Running.{Dirty, Tables, Running, IsTight, Moves, IsLifted}
 use Rattle.lfs_model.specs.Staging.{IsAtAddress, Fetches, ChangesTo}
 use Rattle.lfs_model.specs.Stands.{LogMap}
+use Rattle.lfs_model.specs.declared.limits.TheConstants.{SECTOR_LEN}
 
 -- A data block on the device is another, which is in memory.
 abbrev pub BlockReplacing : Type 1
 BlockReplacing = (d : DeviceState) (dirty dirty' : Dirty) (t t' : Tables) (k : CheckpointValue) (m0 m m' : LogMap) (seg : ℕ)
     (chunk : Option (List Entry)) (n i address : ℕ) (bytes : List ℕ)
-    → Running d dirty t k m0 m seg chunk → IsAtAddress dirty t (Data n i) address → 2 ≤ address → length bytes ≡ 512
+    → Running d dirty t k m0 m seg chunk → IsAtAddress dirty t (Data n i) address → 2 ≤ address → length bytes ≡ SECTOR_LEN
     → IsWithBlock m n i bytes m'
     → Fetches dirty dirty' (Data n i) bytes → IsLifted m t t' (Data n i) 1 (segment_of address) → Running d dirty' t' k m0 m' seg chunk
 

@@ -3,7 +3,7 @@
 use Rattle.std.specs.Prelude.{◌≡◌, ◌<◌, ◌≤◌, ◌+◌, ◌*◌, ◌/◌, ◌==◌, cond, ℕ, suc, Bool, true, false, List, ◌∷◌, ◌++◌, map, length, Option}
 use Rattle.std.specs.Prelude.{Some, None, option_map}
 use Rattle.lfs_model.specs.Entry.{Entry, Usage, half, word}
-use Rattle.lfs_model.specs.Checkpoint.{CheckpointValue}
+use Rattle.lfs_model.specs.Checkpoint.{CheckpointValue, usage_blocks}
 use Rattle.lfs_model.specs.Content.{Content}
 use Rattle.lfs_model.specs.Device.{DeviceState}
 use Rattle.lfs_model.specs.Reach.{Row, row_by}
@@ -11,6 +11,7 @@ use Rattle.lfs_model.specs.Stands.{LogMap}
 use Rattle.lfs_model.specs.Memory.{Memory, parent, pointer, patched, IsOfFile, IsPointers, HasPointer, is_shown, is_held, live_of, held_of}
 use Rattle.lfs_model.specs.Laid.{IsLaid}
 use Rattle.lfs_model.specs.Settled.{IsSettled, IsFreeFrom}
+use Rattle.lfs_model.specs.declared.limits.TheConstants.{SECTOR_LEN, SEGMENT_SECTORS, BLOCK_SEGMENTS}
 
 -- the blocks of files in memory
 abbrev pub Dirty : Type 0
@@ -54,10 +55,10 @@ age_saved t s = cond (t.live s == 0) 0 (t.age s)
 
 -- the bytes are usage block j
 pub record SpellsUsage (t : Tables) (j : ℕ) (bytes : List ℕ) : Type 0 where
-  pub long : length bytes ≡ 512
-  pub used : (i : ℕ) → i < 64 → half bytes (4 * i) ≡ used_saved t (64 * j + i)
-  pub live : (i : ℕ) → i < 64 → half bytes (4 * i + 1) ≡ t.live (64 * j + i)
-  pub age : (i : ℕ) → i < 64 → word bytes (2 * i + 1) ≡ age_saved t (64 * j + i)
+  pub long : length bytes ≡ SECTOR_LEN
+  pub used : (i : ℕ) → i < BLOCK_SEGMENTS → half bytes (4 * i) ≡ used_saved t (BLOCK_SEGMENTS * j + i)
+  pub live : (i : ℕ) → i < BLOCK_SEGMENTS → half bytes (4 * i + 1) ≡ t.live (BLOCK_SEGMENTS * j + i)
+  pub age : (i : ℕ) → i < BLOCK_SEGMENTS → word bytes (2 * i + 1) ≡ age_saved t (BLOCK_SEGMENTS * j + i)
 
 -- The last chunk of the segment has these entries so far, and its summary isn't written yet. The
 -- chunks before it are, and it starts where the acknowledged checkpoint needs nothing.
@@ -83,7 +84,7 @@ pub record Running (d : DeviceState) (dirty : Dirty) (t : Tables) (k : Checkpoin
   pub settled : IsSettled d k m0
   pub cached : IsCached dirty memory
   pub tables : IsTables t m memory
-  pub fresh : (j : ℕ) → t.stale j ≡ false → j < (k.segments + 63) / 64 → SpellsUsage t j (memory.bytes (Usage j))
+  pub fresh : (j : ℕ) → t.stale j ≡ false → j < usage_blocks k.segments → SpellsUsage t j (memory.bytes (Usage j))
   -- what was in use as the acknowledged checkpoint was written still is, and it needs no more
   pub part : (s : ℕ) → t.kept s ≤ t.used s
   pub kept : (s : ℕ) → s < k.segments → IsFreeFrom d.content k s (t.kept s)
@@ -131,7 +132,7 @@ pub record IsNoted (m : LogMap) (t t' : Tables) (x : Entry) (address s : ℕ) : 
   pub held : CountsUp (is_held m x) t.held t'.held s
   pub age : (i : ℕ) → (i ≡ s → ⊥) → t'.age i ≡ t.age i
   pub kept : (i : ℕ) → t'.kept i ≡ t.kept i
-  pub stale : IsSet t.stale t'.stale (s / 64) true
+  pub stale : IsSet t.stale t'.stale (s / BLOCK_SEGMENTS) true
 
 -- x leaves its address in segment s
 pub record IsLifted (m : LogMap) (t t' : Tables) (x : Entry) (v s : ℕ) : Type 0 where
@@ -141,7 +142,7 @@ pub record IsLifted (m : LogMap) (t t' : Tables) (x : Entry) (v s : ℕ) : Type 
   pub held : CountsDown (is_held m x) t.held t'.held s
   pub age : (i : ℕ) → t'.age i ≡ t.age i
   pub kept : (i : ℕ) → t'.kept i ≡ t.kept i
-  pub stale : IsSet t.stale t'.stale (s / 64) true
+  pub stale : IsSet t.stale t'.stale (s / BLOCK_SEGMENTS) true
 
 -- segment s is taken from the clean ones, its first sector kept for a summary
 pub record IsTakenFrom (t t' : Tables) (s : ℕ) : Type 0 where
@@ -157,14 +158,14 @@ pub record IsTakenFrom (t t' : Tables) (s : ℕ) : Type 0 where
 -- a chunk more begins in segment s, whose next sector is kept for a summary
 pub record GoesOnIn (t t' : Tables) (s : ℕ) : Type 0 where
   pub some : 0 < t.used s
-  pub room : t.used s < 64
+  pub room : t.used s < SEGMENT_SECTORS
   pub at : (y : Entry) → t'.at y ≡ t.at y
   pub used : IsSet t.used t'.used s (suc (t.used s))
   pub live : (i : ℕ) → t'.live i ≡ t.live i
   pub held : (i : ℕ) → t'.held i ≡ t.held i
   pub age : (i : ℕ) → (i ≡ s → ⊥) → t'.age i ≡ t.age i
   pub kept : (i : ℕ) → t'.kept i ≡ t.kept i
-  pub stale : IsSet t.stale t'.stale (s / 64) true
+  pub stale : IsSet t.stale t'.stale (s / BLOCK_SEGMENTS) true
 
 -- usage block j is as the device has it
 pub record IsFresh (t t' : Tables) (j : ℕ) : Type 0 where

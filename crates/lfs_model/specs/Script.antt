@@ -10,6 +10,7 @@ use Rattle.lfs_model.specs.Call.{AreArguments, DirectoryEntry, TreeRow, Answer, 
 use Rattle.lfs_model.specs.Call.{Room, FormatVersion, Rows}
 use Rattle.lfs_model.specs.declared.Kind.{Kind}
 use Rattle.lfs_model.specs.declared.Kind.TheVariants as kinds
+use Rattle.lfs_model.specs.declared.limits.TheConstants.{LONGEST_LINE}
 
 -- a byte before the first line; 0x0a ends a line
 abbrev pub before_lines : ℕ → List (List ℕ) → List (List ℕ)
@@ -98,7 +99,7 @@ InRange (Fill h off n byte) = (h < 2 ^ 32) × (off < 2 ^ 64) × (n < 2 ^ 32) × 
 -- these bytes are this line
 pub record Spells (bytes : List ℕ) (line : Line) : Type 0 where
   pub text : bytes ≡ text_of line
-  pub short : length bytes ≤ 140000
+  pub short : length bytes ≤ LONGEST_LINE
   pub in_range : InRange line
 
 -- a bad line: no line is spelled so

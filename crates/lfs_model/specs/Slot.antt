@@ -6,6 +6,7 @@ use Rattle.std.specs.List.{list_all}
 use Rattle.std.specs.Str.{bytes_eq}
 use Rattle.lfs_model.specs.Fields.{le32, zeros, join, part, read32, value_in}
 use Rattle.lfs_model.specs.Tree.{name_len}
+use Rattle.lfs_model.specs.declared.limits.TheConstants.{LAST_NUMBER}
 
 pub record SlotValue : Type 0 where
   pub number : ℕ
@@ -33,7 +34,7 @@ pub record IsName (limit : ℕ) (name : List ℕ) : Type 0 where
   pub dotdot : name ≢ 46 ∷ 46 ∷ []
 
 pub record FitsSlot (form : ℕ) (s : SlotValue) : Type 0 where
-  pub number : (1 ≤ s.number) × (s.number ≤ 4095)
+  pub number : (1 ≤ s.number) × (s.number ≤ LAST_NUMBER)
   pub name : IsName (name_len form) s.name
 
 -- the same, as tests
@@ -44,7 +45,7 @@ is_name limit name =
     && (not (bytes_eq name (46 ∷ [])) && not (bytes_eq name (46 ∷ 46 ∷ [])))))
 
 abbrev pub may_be_slot : ℕ → SlotValue → Bool
-may_be_slot form s = (nat_le 1 s.number && nat_le s.number 4095) && is_name (name_len form) s.name
+may_be_slot form s = (nat_le 1 s.number && nat_le s.number LAST_NUMBER) && is_name (name_len form) s.name
 
 -- the slot that bytes spell in a directory of this form, if they spell one
 unfoldable pub slot_in : ℕ → List ℕ → Option SlotValue

@@ -7,6 +7,8 @@ use Rattle.lfs_model.specs.Bytes.{AreBytes}
 use Rattle.lfs_model.specs.Tree.{Node, File, Dir, Link, Tree, State, node, entry, names, links, is_dir, byte_cmp, opened, name_len}
 use Rattle.lfs_model.specs.Walk.{dot, dot_dot}
 use Rattle.lfs_model.specs.Need.{need}
+use Rattle.lfs_model.specs.declared.limits.TheConstants.{LAST_NUMBER, LARGEST_FILE, LONGEST_PATH, MOST_ENTRIES, MOST_LINKS, MOST_HANDLES}
+use Rattle.lfs_model.specs.declared.limits.TheConstants.{NEED_OF_SEGMENT}
 
 -- each name gives a node
 abbrev pub NamesGive : Tree → Type 0
@@ -29,9 +31,9 @@ pub record IsGoodName (limit : ℕ) (name : List ℕ) : Type 0 where
 
 -- the limits on one node
 abbrev pub IsWithinLimits : Node → Type 0
-IsWithinLimits (File b) = (length b ≤ 8511488) × AreBytes b
-IsWithinLimits (Dir form m) = T (is_sorted byte_cmp m) × (length m ≤ 1024) × AllByRecursion (λ e. IsGoodName (name_len form) e.0) m
-IsWithinLimits (Link text) = (0 < length text) × (length text ≤ 1023) × AllByRecursion (λ c. c ≢ 0) text × AreBytes text
+IsWithinLimits (File b) = (length b ≤ LARGEST_FILE) × AreBytes b
+IsWithinLimits (Dir form m) = T (is_sorted byte_cmp m) × (length m ≤ MOST_ENTRIES) × AllByRecursion (λ e. IsGoodName (name_len form) e.0) m
+IsWithinLimits (Link text) = (0 < length text) × (length text ≤ LONGEST_PATH) × AllByRecursion (λ c. c ≢ 0) text × AreBytes text
 
 -- a directory's form is below the version: in version 1 every form is 0
 abbrev pub IsOfVersion : ℕ → Node → Type 0
@@ -54,9 +56,9 @@ pub record Sound (N : ℕ) (s : State) : Type 0 where
   pub version : (s.version ≡ 1) ⊎ (s.version ≡ 2)
   pub forms : (n : ℕ) (x : Node) → node s.tree n ≡ Some x → IsOfVersion s.version x
   pub root : is_dir (node s.tree 1) ≡ true
-  pub numbers : (n : ℕ) → node s.tree n ≢ None → (1 ≤ n) × (n ≤ 4095)
+  pub numbers : (n : ℕ) → node s.tree n ≢ None → (1 ≤ n) × (n ≤ LAST_NUMBER)
   pub limits : (n : ℕ) (x : Node) → node s.tree n ≡ Some x → IsWithinLimits x
-  pub few_links : (n : ℕ) → node s.tree n ≢ None → links s.tree n ≤ 1000
+  pub few_links : (n : ℕ) → node s.tree n ≢ None → links s.tree n ≤ MOST_LINKS
   pub named : NamesGive s.tree
   pub root_unnamed : names s.tree 1 ≡ 0
   -- every directory but the root has one name, and is reached from the root
@@ -64,5 +66,5 @@ pub record Sound (N : ℕ) (s : State) : Type 0 where
   pub reached : (n : ℕ) → is_dir (node s.tree n) ≡ true → IsReachable s.tree n
   -- what has no name is a file that a handle keeps
   pub held : (n : ℕ) → n ≢ 1 → node s.tree n ≢ None → names s.tree n ≡ 0 → IsKeptOpen s n
-  pub handles : (h n : ℕ) → find nat_cmp h s.handles ≡ Some n → (h < 64) × IsFile (node s.tree n)
-  pub room : need s.tree ≤ 47 * N
+  pub handles : (h n : ℕ) → find nat_cmp h s.handles ≡ Some n → (h < MOST_HANDLES) × IsFile (node s.tree n)
+  pub room : need s.tree ≤ NEED_OF_SEGMENT * N

@@ -11,12 +11,14 @@ use Rattle.lfs_model.specs.Laid.{HoldsInode}
 use Rattle.lfs_model.specs.Memory.{parent, pointer, patched, IsOfFile, IsPointers, is_nameless, is_shown}
 use Rattle.lfs_model.specs.Running.{Dirty, Tables, Running, Moves, IsLifted, IsReaddressed}
 use Rattle.lfs_model.specs.Stands.{LogMap}
+use Rattle.lfs_model.specs.declared.limits.TheConstants.{SECTOR_LEN, BLOCK_POINTERS, LAST_LEAF}
+use Rattle.lfs_model.specs.Inode.{direct_word, pointer_words_end}
 
 -- where a block stands, as its parent's block in memory says, or the inode map
 pub record IsAtAddress (dirty : Dirty) (t : Tables) (x : Entry) (address : ℕ) : Type 0 where
   pub top : parent x ≡ x → t.at x ≡ address
   pub pointed : (parent x ≡ x → ⊥) → (b : List ℕ) × (dirty (parent x) ≡ Some b) × (word b (pointer x) ≡ address)
-  pub low : (n q : ℕ) → x ≡ Leaf n q → q ≤ 128
+  pub low : (n q : ℕ) → x ≡ Leaf n q → q ≤ LAST_LEAF
 
 -- x is in memory with these bytes, and its parent says so
 pub record Fetches (old new : Dirty) (x : Entry) (bytes : List ℕ) : Type 0 where
@@ -29,7 +31,7 @@ abbrev pub Fetching : Type 1
 Fetching = (d : DeviceState) (dirty dirty' : Dirty) (t t' : Tables) (k : CheckpointValue) (m0 m : LogMap) (seg : ℕ)
     (chunk : Option (List Entry)) (x : Entry) (address : ℕ) (bytes : List ℕ)
     → Running d dirty t k m0 m seg chunk → IsOfFile x → IsAtAddress dirty t x address → 2 ≤ address → block d.content address ≡ bytes
-    → ((n : ℕ) → x ≡ Inode n → is_shown m x ≡ true → t.at (Map (n / 128)) ≡ 1)
+    → ((n : ℕ) → x ≡ Inode n → is_shown m x ≡ true → t.at (Map (n / BLOCK_POINTERS)) ≡ 1)
     → Fetches dirty dirty' x bytes → IsLifted m t t' x 1 (segment_of address) → Running d dirty' t' k m0 m seg chunk
 
 -- An inode map block that is on the device will be written.
@@ -56,14 +58,14 @@ pub record ChangesTo (old new : Dirty) (x : Entry) (value : Option (List ℕ)) :
 abbrev pub BlockRewriting : Type 1
 BlockRewriting = (d : DeviceState) (dirty dirty' : Dirty) (t : Tables) (k : CheckpointValue) (m0 m m' : LogMap) (seg : ℕ)
     (chunk : Option (List Entry)) (n i : ℕ) (old bytes : List ℕ)
-    → Running d dirty t k m0 m seg chunk → dirty (Data n i) ≡ Some old → length bytes ≡ 512 → IsWithBlock m n i bytes m'
+    → Running d dirty t k m0 m seg chunk → dirty (Data n i) ≡ Some old → length bytes ≡ SECTOR_LEN → IsWithBlock m n i bytes m'
     → ChangesTo dirty dirty' (Data n i) (Some bytes) → Running d dirty' t k m0 m' seg chunk
 
 -- a data block where none was
 abbrev pub BlockAdding : Type 1
 BlockAdding = (d : DeviceState) (dirty dirty' : Dirty) (t : Tables) (k : CheckpointValue) (m0 m m' : LogMap) (seg : ℕ)
     (chunk : Option (List Entry)) (n i : ℕ) (bytes : List ℕ)
-    → Running d dirty t k m0 m seg chunk → IsAtAddress dirty t (Data n i) 0 → length bytes ≡ 512 → IsWithBlock m n i bytes m'
+    → Running d dirty t k m0 m seg chunk → IsAtAddress dirty t (Data n i) 0 → length bytes ≡ SECTOR_LEN → IsWithBlock m n i bytes m'
     → Fetches dirty dirty' (Data n i) bytes → Running d dirty' t k m0 m' seg chunk
 
 -- a data block in memory that is none
@@ -77,15 +79,15 @@ BlockRemoving = (d : DeviceState) (dirty dirty' : Dirty) (t : Tables) (k : Check
 abbrev pub PointersGrowing : Type 1
 PointersGrowing = (d : DeviceState) (dirty dirty' : Dirty) (t : Tables) (k : CheckpointValue) (m0 m : LogMap) (seg : ℕ)
     (chunk : Option (List Entry)) (x : Entry) (bytes : List ℕ)
-    → Running d dirty t k m0 m seg chunk → IsPointers x → IsAtAddress dirty t x 0 → length bytes ≡ 512
-    → ((w : ℕ) → w < 128 → word bytes w ≡ 0)
+    → Running d dirty t k m0 m seg chunk → IsPointers x → IsAtAddress dirty t x 0 → length bytes ≡ SECTOR_LEN
+    → ((w : ℕ) → w < BLOCK_POINTERS → word bytes w ≡ 0)
     → Fetches dirty dirty' x bytes → Running d dirty' t k m0 m seg chunk
 
 -- a block of pointers that has become empty goes
 abbrev pub PointersShrinking : Type 1
 PointersShrinking = (d : DeviceState) (dirty dirty' : Dirty) (t : Tables) (k : CheckpointValue) (m0 m : LogMap) (seg : ℕ)
     (chunk : Option (List Entry)) (x : Entry) (bytes : List ℕ)
-    → Running d dirty t k m0 m seg chunk → IsPointers x → dirty x ≡ Some bytes → ((w : ℕ) → w < 128 → word bytes w ≡ 0)
+    → Running d dirty t k m0 m seg chunk → IsPointers x → dirty x ≡ Some bytes → ((w : ℕ) → w < BLOCK_POINTERS → word bytes w ≡ 0)
     → Moves dirty dirty' x 0 → Running d dirty' t k m0 m seg chunk
 
 -- ---- headers
@@ -95,14 +97,16 @@ abbrev pub HeaderChanging : Type 1
 HeaderChanging = (d : DeviceState) (dirty dirty' : Dirty) (t : Tables) (k : CheckpointValue) (m0 m m' : LogMap) (seg : ℕ)
     (chunk : Option (List Entry)) (n : ℕ) (old bytes : List ℕ)
     → Running d dirty t k m0 m seg chunk → dirty (Inode n) ≡ Some old → HoldsInode n bytes
-    → ((w : ℕ) → 8 ≤ w → w < 122 → word bytes w ≡ word old w)
-    → IsWithHeader m n (Some (header bytes)) m' → is_nameless m' n ≡ is_nameless m n → (is_nameless m' n ≡ false → t.at (Map (n / 128)) ≡ 1)
+    → ((w : ℕ) → direct_word ≤ w → w < pointer_words_end → word bytes w ≡ word old w)
+    → IsWithHeader m n (Some (header bytes)) m' → is_nameless m' n ≡ is_nameless m n
+    → (is_nameless m' n ≡ false → t.at (Map (n / BLOCK_POINTERS)) ≡ 1)
     → ChangesTo dirty dirty' (Inode n) (Some bytes) → Running d dirty' t k m0 m' seg chunk
 
 -- a new file
 abbrev pub FileCreating : Type 1
 FileCreating = (d : DeviceState) (dirty dirty' : Dirty) (t t' : Tables) (k : CheckpointValue) (m0 m m' : LogMap) (seg : ℕ)
     (chunk : Option (List Entry)) (n : ℕ) (bytes : List ℕ)
-    → Running d dirty t k m0 m seg chunk → t.at (Inode n) ≡ 0 → HoldsInode n bytes → ((w : ℕ) → 8 ≤ w → w < 122 → word bytes w ≡ 0)
-    → IsWithHeader m n (Some (header bytes)) m' → (is_nameless m' n ≡ false → t.at (Map (n / 128)) ≡ 1)
+    → Running d dirty t k m0 m seg chunk → t.at (Inode n) ≡ 0 → HoldsInode n bytes
+    → ((w : ℕ) → direct_word ≤ w → w < pointer_words_end → word bytes w ≡ 0)
+    → IsWithHeader m n (Some (header bytes)) m' → (is_nameless m' n ≡ false → t.at (Map (n / BLOCK_POINTERS)) ≡ 1)
     → ChangesTo dirty dirty' (Inode n) (Some bytes) → IsReaddressed t t' (Inode n) 1 → Running d dirty' t' k m0 m' seg chunk

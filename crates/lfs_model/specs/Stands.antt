@@ -5,9 +5,10 @@ use Rattle.std.specs.Prelude.{length, count_by, Option, Some, None, slice_index}
 use Rattle.std.specs.List.{range_with_len}
 use Rattle.lfs_model.specs.declared.Kind.TheVariants.{Directory}
 use Rattle.lfs_model.specs.Entry.{Entry, Data, Leaf, Double, Inode, Map, Usage, Header, IsInode, header, word, half}
-use Rattle.lfs_model.specs.Checkpoint.{CheckpointValue, layout_version}
+use Rattle.lfs_model.specs.Checkpoint.{CheckpointValue, layout_version, usage_blocks}
 use Rattle.lfs_model.specs.Content.{Content, newest}
-use Rattle.lfs_model.specs.Reach.{View, view, Row, place_in}
+use Rattle.lfs_model.specs.Reach.{View, view, Row, place_in, segment_start}
+use Rattle.lfs_model.specs.declared.limits.TheConstants.{SECTOR_LEN, CHECKPOINT_SLOTS, SEGMENT_SECTORS, BLOCK_POINTERS, BLOCK_SEGMENTS}
 
 -- each file number's header, each file's nonzero blocks, and the version of the layout; a block that isn't stored is empty
 pub record LogMap : Type 0 where
@@ -32,13 +33,13 @@ count_up is n = count_by is (range_with_len 0 n)
 
 module _ (v : View) where
   abbrev pub used_in : ℕ → ℕ
-  used_in s = half (v.block (Usage (s / 64))) (4 * (s % 64))
+  used_in s = half (v.block (Usage (s / BLOCK_SEGMENTS))) (4 * (s % BLOCK_SEGMENTS))
 
   abbrev pub live_in : ℕ → ℕ
-  live_in s = half (v.block (Usage (s / 64))) (4 * (s % 64) + 1)
+  live_in s = half (v.block (Usage (s / BLOCK_SEGMENTS))) (4 * (s % BLOCK_SEGMENTS) + 1)
 
   abbrev pub age_in : ℕ → ℕ
-  age_in s = word (v.block (Usage (s / 64))) (2 * (s % 64) + 1)
+  age_in s = word (v.block (Usage (s / BLOCK_SEGMENTS))) (2 * (s % BLOCK_SEGMENTS) + 1)
 
   abbrev pub Reached : Entry → Type 0
   Reached e = 0 < v.address e
@@ -46,28 +47,28 @@ module _ (v : View) where
   -- each address of the stage is in a segment, and differs from every other of it and of the stages before
   abbrev pub Fresh : ℕ → Type 0
   Fresh stage = (e : Entry) → stage_of e ≡ stage → Reached e →
-      (2 ≤ v.address e) × (v.address e < 2 + 64 * v.checkpoint.segments)
+      (2 ≤ v.address e) × (v.address e < segment_start v.checkpoint.segments)
       × ((f : Entry) → stage_of f ≤ stage → v.address f ≡ v.address e → f ≡ e)
 
   abbrev pub HasWord : Entry → Type 0
-  HasWord e = (i : ℕ) × (i < 128) × (0 < word (v.block e) i)
+  HasWord e = (i : ℕ) × (i < BLOCK_POINTERS) × (0 < word (v.block e) i)
 
   -- the entry that the summary of its chunk gives a sector
   abbrev pub label_at : ℕ → Option Entry
-  label_at at = place_in (v.row ((at - 2) / 64)) ((at - 2) % 64)
+  label_at at = place_in (v.row ((at - CHECKPOINT_SLOTS) / SEGMENT_SECTORS)) ((at - CHECKPOINT_SLOTS) % SEGMENT_SECTORS)
 
   -- the sector at a place of segment s is reached as the entry that its summary gives it
   abbrev pub is_live : ℕ → ℕ → Bool
-  is_live s at = elim (place_in (v.row s) at) [ None ↦ false | Some e ↦ v.address e == 2 + 64 * s + at ]
+  is_live s at = elim (place_in (v.row s) at) [ None ↦ false | Some e ↦ v.address e == segment_start s + at ]
 
   abbrev pub is_clean : ℕ → Bool
   is_clean s = used_in s == 0
 
   pub record Usages : Type 0 where
-    pub addresses : (j : ℕ) → Reached (Usage j) ↔ (j < (v.checkpoint.segments + 63) / 64)
+    pub addresses : (j : ℕ) → Reached (Usage j) ↔ (j < usage_blocks v.checkpoint.segments)
     pub fresh : Fresh 1
-    pub readable : (j : ℕ) → Reached (Usage j) → length (v.block (Usage j)) ≡ 512
-    pub fit : (s : ℕ) → used_in s ≤ 64
+    pub readable : (j : ℕ) → Reached (Usage j) → length (v.block (Usage j)) ≡ SECTOR_LEN
+    pub fit : (s : ℕ) → used_in s ≤ SEGMENT_SECTORS
     pub less : (s : ℕ) → (used_in s ≡ 0) ⊎ ((0 < live_in s) × (live_in s < used_in s))
     pub both : (s : ℕ) → used_in s ≡ 0 → live_in s ≡ 0
     pub past : (s : ℕ) → v.checkpoint.segments ≤ s → (used_in s ≡ 0) × (age_in s ≡ 0)
@@ -95,8 +96,8 @@ module _ (v : View) where
   pub record Blocks : Type 0 where
     pub fresh : Fresh 7
     pub nonzero : (n i : ℕ) → Reached (Data n i) → (o : ℕ) × (0 < slice_index (v.block (Data n i)) o)
-    pub within : (n i : ℕ) → Reached (Data n i) → 512 * i < (header (v.block (Inode n))).size
-    pub past : (n i : ℕ) → Reached (Data n i) → (o : ℕ) → (header (v.block (Inode n))).size ≤ 512 * i + o
+    pub within : (n i : ℕ) → Reached (Data n i) → SECTOR_LEN * i < (header (v.block (Inode n))).size
+    pub past : (n i : ℕ) → Reached (Data n i) → (o : ℕ) → (header (v.block (Inode n))).size ≤ SECTOR_LEN * i + o
         → slice_index (v.block (Data n i)) o ≡ 0
 
   -- the stages that speak of whole segments
@@ -113,8 +114,8 @@ module _ (v : View) where
   -- n of a segment's sectors are reached
   pub record HoldsCount (s n : ℕ) : Type 0 where
     pub is_held : ℕ → Bool
-    pub exact : (at : ℕ) → at < 64 → (is_held at ≡ true) ↔ IsHeld (2 + 64 * s + at)
-    pub count : n ≡ count_up is_held 64
+    pub exact : (at : ℕ) → at < SEGMENT_SECTORS → (is_held at ≡ true) ↔ IsHeld (segment_start s + at)
+    pub count : n ≡ count_up is_held SEGMENT_SECTORS
 
   abbrev pub AreCounted : Type 0
   AreCounted = (s : ℕ) → s < v.checkpoint.segments → HoldsCount s (live_in s)
@@ -143,7 +144,7 @@ module _ (v : View) where
 
 -- the content holds the log map, at this checkpoint
 pub record HoldsAt (content : Content) (k : CheckpointValue) (m : LogMap) : Type 0 where
-  pub size : 2 + 64 * k.segments ≤ length content
+  pub size : segment_start k.segments ≤ length content
   pub stages : Stages (view content k)
   pub header : (n : ℕ) → m.header n ≡ header_in (view content k) n
   pub block : (n i : ℕ) → m.block n i ≡ (view content k).block (Data n i)
@@ -162,4 +163,4 @@ pub record StandsLog (content : Content) (m : LogMap) : Type 0 where
 -- the sectors that a checkpoint needs
 pub data Protected (v : View) : ℕ → Type 0 where
   reached : (e : Entry) → 0 < v.address e → Protected v (v.address e)
-  summary : (s at : ℕ) → at < used_in v s → place_in (v.row s) at ≡ None → Protected v (2 + 64 * s + at)
+  summary : (s at : ℕ) → at < used_in v s → place_in (v.row s) at ≡ None → Protected v (segment_start s + at)

@@ -20,6 +20,8 @@ use Rattle.lfs_model.specs.Call.{DirectoryEntry, TreeRow, Answer, Refuse, Done, 
 use Rattle.lfs_model.specs.Call.{FormatVersion, Rows}
 use Rattle.lfs_model.specs.declared.Kind.{Kind}
 use Rattle.lfs_model.specs.declared.Kind.TheVariants as kinds
+use Rattle.lfs_model.specs.declared.limits.TheConstants.{LAST_NUMBER, LARGEST_FILE, MOST_ENTRIES, MOST_LINKS, MOST_HANDLES}
+use Rattle.lfs_model.specs.declared.limits.TheConstants.{LONGEST_TRANSFER, NEED_OF_SEGMENT}
 
 -- what a node is
 abbrev pub kind_of : Node → Kind
@@ -114,7 +116,7 @@ gives_dir t d p = is_dir (node t (target t d p))
 
 -- d has no room for one more name
 abbrev pub is_full : Tree → ℕ → Bool
-is_full t d = nat_le 1024 (length (names_in t d))
+is_full t d = nat_le MOST_ENTRIES (length (names_in t d))
 
 -- what refuses a name that is to be there: unlink's, and link's first
 abbrev pub old_entry : Tree → ℕ → List ℕ → List (Bool × Answer)
@@ -128,15 +130,15 @@ new_entry t d p is_mkdir = when (no_last p || last_dots p) Exist ∷ when (is_lo
 
 -- all handles are open
 abbrev pub no_handle : State → Bool × Answer
-no_handle s = when (nat_le 64 (least_handle s.handles)) TooManyOpen
+no_handle s = when (nat_le MOST_HANDLES (least_handle s.handles)) TooManyOpen
 
 -- all numbers are taken
 abbrev pub no_number : Tree → Bool × Answer
-no_number t = when (nat_lt 4095 (least t)) NoNumber
+no_number t = when (nat_lt LAST_NUMBER (least t)) NoNumber
 
 -- the tree needs more than N segments have
 abbrev pub no_space : ℕ → Tree → Bool × Answer
-no_space N t = when (nat_lt (47 * N) (need t)) NoSpace
+no_space N t = when (nat_lt (NEED_OF_SEGMENT * N) (need t)) NoSpace
 
 -- h isn't open
 abbrev pub bad_handle : State → ℕ → Bool × Answer
@@ -185,33 +187,33 @@ closes s h = let rest = without nat_cmp h s.handles in
 
 -- pread
 abbrev pub reads : State → ℕ → ℕ → ℕ → Answer × State
-reads s h off n = checked s (bad_handle s h ∷ when (nat_lt 65536 n) Inval ∷ [])
+reads s h off n = checked s (bad_handle s h ∷ when (nat_lt LONGEST_TRANSFER n) Inval ∷ [])
     (Data (bytes.part (file_bytes (the_node s.tree (file_at s h))) off n), s)
 
 -- pwrite: whole or refused
 abbrev pub writes : ℕ → State → ℕ → ℕ → List ℕ → Answer × State
 writes N s h off w = let n = file_at s h in let t' = with_node s.tree n (File (bytes.put (file_bytes (the_node s.tree n)) off w)) in
-    checked s (bad_handle s h ∷ when (nat_lt 65536 (length w)) Inval ∷ (length w == 0, Count 0)
-    ∷ when (nat_lt 8511488 (off + length w)) FileTooBig ∷ no_space N t' ∷ [])
+    checked s (bad_handle s h ∷ when (nat_lt LONGEST_TRANSFER (length w)) Inval ∷ (length w == 0, Count 0)
+    ∷ when (nat_lt LARGEST_FILE (off + length w)) FileTooBig ∷ no_space N t' ∷ [])
     (Count (length w), with_tree s t')
 
 -- ftruncate
 abbrev pub truncates : State → ℕ → ℕ → Answer × State
 truncates s h n = let f = file_at s h in
-    checked s (bad_handle s h ∷ when (nat_lt 8511488 n) FileTooBig ∷ [])
+    checked s (bad_handle s h ∷ when (nat_lt LARGEST_FILE n) FileTooBig ∷ [])
     (Done, with_tree s (with_node s.tree f (File (bytes.cut (file_bytes (the_node s.tree f)) n))))
 
 -- mkdir, with the parent d; the form of a new directory is the version's
 abbrev pub makes_dir : ℕ → State → List ℕ → ℕ → Answer × State
 makes_dir N s p d = let t' = with_new s.tree d p (Dir (s.version - 1) []) in
-    checked s (new_entry s.tree d p true ++ when (nat_le 1000 (links s.tree d)) TooManyLinks ∷ no_number s.tree ∷ no_space N t' ∷ [])
+    checked s (new_entry s.tree d p true ++ when (nat_le MOST_LINKS (links s.tree d)) TooManyLinks ∷ no_number s.tree ∷ no_space N t' ∷ [])
     (Done, with_tree s t')
 
 -- link: b names what a names; the second path is walked after a's refusals
 abbrev pub links_to : ℕ → State → List ℕ → List ℕ → ℕ → End → Answer × State
 links_to N s a b da eb = checked s (old_entry s.tree da a) (reached s eb (λ db.
     let n = target s.tree da a in let t' = with_name s.tree db (name b) n in
-    checked s (new_entry s.tree db b false ++ when (nat_le 1000 (links s.tree n)) TooManyLinks ∷ no_space N t' ∷ [])
+    checked s (new_entry s.tree db b false ++ when (nat_le MOST_LINKS (links s.tree n)) TooManyLinks ∷ no_space N t' ∷ [])
     (Done, with_tree s t')))
 
 -- symlink, with the parent d
@@ -248,7 +250,7 @@ rename_list N s a b da db t' = let t = s.tree in let n = target t da a in let ol
     ∷ when (is_there t db b && gives_dir t da a && not (gives_dir t db b)) NotDir
     ∷ when (is_there t db b && nat_lt 0 (length (names_in t old))) NotEmpty
     ∷ when (not (is_there t db b) && not (da == db) && is_full t db) DirFull
-    ∷ when (gives_dir t da a && not (is_there t db b) && not (da == db) && nat_le 1000 (links t db)) TooManyLinks
+    ∷ when (gives_dir t da a && not (is_there t db b) && not (da == db) && nat_le MOST_LINKS (links t db)) TooManyLinks
     ∷ no_space N t' ∷ []
 
 -- rename: a's name is gone and b names a's node, in one change; what b named has lost a name
@@ -279,7 +281,7 @@ widens N s n = let t' = widened s.tree n in
 
 -- space
 abbrev pub room : ℕ → Tree → Answer
-room N t = Room (data_blocks t) (meta_blocks t) (need t) (47 * N)
+room N t = Room (data_blocks t) (meta_blocks t) (need t) (NEED_OF_SEGMENT * N)
 
 -- the walks that a call takes: of a whole path, following a last link or not, or to a path's parent
 pub data Path : Type 0 where

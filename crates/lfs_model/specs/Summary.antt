@@ -6,6 +6,7 @@ use Rattle.std.specs.List.{flat_map, list_all}
 use Rattle.lfs_model.specs.declared.BlockKind.{BlockKind}
 use Rattle.lfs_model.specs.declared.BlockKind.TheVariants.{Data, Leaf, Double, Inode, Map, Usage}
 use Rattle.lfs_model.specs.Fields.{le16, le32, zeros, join, read16, read32, run, value_in}
+use Rattle.lfs_model.specs.declared.limits.TheConstants.{CHUNK_BLOCKS, LAST_NUMBER, LAST_BLOCK, LAST_LEAF, MAP_BLOCKS, USAGE_BLOCKS}
 
 -- a block of a chunk: whose it is, what it is, and its place there
 pub record BlockNameValue : Type 0 where
@@ -25,16 +26,16 @@ block_kind_byte Map = 5
 block_kind_byte Usage = 6
 
 abbrev pub IsFileNumber : ℕ → Type 0
-IsFileNumber n = (1 ≤ n) × (n ≤ 4095)
+IsFileNumber n = (1 ≤ n) × (n ≤ LAST_NUMBER)
 
 -- what file and index a block of each kind has
 unfoldable pub IsPlaced : BlockKind → ℕ → ℕ → Type 0
-IsPlaced Data file index = IsFileNumber file × (index ≤ 16623)
-IsPlaced Leaf file index = IsFileNumber file × (index ≤ 128)
+IsPlaced Data file index = IsFileNumber file × (index ≤ LAST_BLOCK)
+IsPlaced Leaf file index = IsFileNumber file × (index ≤ LAST_LEAF)
 IsPlaced Double file index = IsFileNumber file × (index ≡ 0)
 IsPlaced Inode file index = IsFileNumber file × (index ≡ 0)
-IsPlaced Map file index = (file ≡ 0) × (index ≤ 31)
-IsPlaced Usage file index = (file ≡ 0) × (index ≤ 15)
+IsPlaced Map file index = (file ≡ 0) × (index ≤ MAP_BLOCKS - 1)
+IsPlaced Usage file index = (file ≡ 0) × (index ≤ USAGE_BLOCKS - 1)
 
 unfoldable pub summary_entry : BlockNameValue → List ℕ
 summary_entry b = le16 b.file ++ ((block_kind_byte b.kind ∷ 0 ∷ []) ++ le32 b.index)
@@ -44,7 +45,7 @@ summary_sector bs = join (
     le16 (length bs) ∷
     zeros 6 ∷
     flat_map summary_entry bs ∷
-    zeros (8 * (63 - length bs)) ∷ []
+    zeros (8 * (CHUNK_BLOCKS - length bs)) ∷ []
     )
 
 unfoldable pub block_kind_of : ℕ → BlockKind
@@ -67,23 +68,23 @@ pub record IsEntryAt (at : ℕ) (s : List ℕ) : Type 0 where
 -- what a summary may be
 pub record FitsSummary (bs : List BlockNameValue) : Type 0 where
   pub some : 1 ≤ length bs
-  pub room : length bs ≤ 63
+  pub room : length bs ≤ CHUNK_BLOCKS
   pub each : (i : ℕ) → i < length bs → IsPlaced (get_or bs i no_block).kind (get_or bs i no_block).file (get_or bs i no_block).index
 
 -- the same, as tests
 abbrev pub is_of_file : ℕ → Bool
-is_of_file n = nat_le 1 n && nat_le n 4095
+is_of_file n = nat_le 1 n && nat_le n LAST_NUMBER
 
 unfoldable pub is_placed : BlockKind → ℕ → ℕ → Bool
-is_placed Data file index = is_of_file file && nat_le index 16623
-is_placed Leaf file index = is_of_file file && nat_le index 128
+is_placed Data file index = is_of_file file && nat_le index LAST_BLOCK
+is_placed Leaf file index = is_of_file file && nat_le index LAST_LEAF
 is_placed Double file index = is_of_file file && (index == 0)
 is_placed Inode file index = is_of_file file && (index == 0)
-is_placed Map file index = (file == 0) && nat_le index 31
-is_placed Usage file index = (file == 0) && nat_le index 15
+is_placed Map file index = (file == 0) && nat_le index (MAP_BLOCKS - 1)
+is_placed Usage file index = (file == 0) && nat_le index (USAGE_BLOCKS - 1)
 
 abbrev pub may_be_summary : List BlockNameValue → Bool
-may_be_summary bs = nat_le 1 (length bs) && (nat_le (length bs) 63 && list_all (λ b. is_placed b.kind b.file b.index) bs)
+may_be_summary bs = nat_le 1 (length bs) && (nat_le (length bs) CHUNK_BLOCKS && list_all (λ b. is_placed b.kind b.file b.index) bs)
 
 -- the blocks that a summary's sector names, if it is one
 unfoldable pub summary_in : List ℕ → Option (List BlockNameValue)

@@ -9,6 +9,7 @@ use Rattle.lfs_model.specs.Need.{data_blocks, meta_blocks, pointers}
 use Rattle.lfs_model.specs.Objects.{AreLong, IsChangedAt, IsDirectory, has_leaf, is_stored, stored_blocks}
 use Rattle.lfs_model.specs.Stands.{LogMap}
 use Rattle.lfs_model.specs.TreeOf.{tree_in}
+use Rattle.lfs_model.specs.declared.limits.TheConstants.{LAST_NUMBER, FILE_BLOCKS, DIRECT_BLOCKS, BLOCK_POINTERS, FILE_LEAVES}
 
 -- how many blocks of file n at the indices from..to are stored
 unfoldable pub stored_in : LogMap → ℕ → ℕ → ℕ → ℕ
@@ -20,14 +21,14 @@ leaves_in m n from to = length (filter (has_leaf m n) (range_with_len from (to -
 
 -- the first leaf that may have a block at an index or behind it, and the one behind the last that may have a block before it
 abbrev pub leaf_from : ℕ → ℕ
-leaf_from i = (i - 112) / 128
+leaf_from i = (i - DIRECT_BLOCKS) / BLOCK_POINTERS
 
 abbrev pub leaf_to : ℕ → ℕ
-leaf_to i = div_ceil (i - 112) 128
+leaf_to i = div_ceil (i - DIRECT_BLOCKS) BLOCK_POINTERS
 
 -- its leaves that have no block at the indices from..to
 abbrev pub leaves_beside : LogMap → ℕ → ℕ → ℕ → ℕ
-leaves_beside m n from to = leaves_in m n 0 (leaf_from from) + leaves_in m n (leaf_to to) 129
+leaves_beside m n from to = leaves_in m n 0 (leaf_from from) + leaves_in m n (leaf_to to) FILE_LEAVES
 
 -- its data blocks
 abbrev pub data_of_file : LogMap → ℕ → ℕ
@@ -44,10 +45,10 @@ sum_upto f (suc k) = sum_upto f k + f (suc k)
 
 -- the data blocks of all files, and their inodes and blocks of pointers
 abbrev pub data_in : LogMap → ℕ
-data_in m = sum_upto (data_of_file m) 4095
+data_in m = sum_upto (data_of_file m) LAST_NUMBER
 
 abbrev pub meta_in : LogMap → ℕ
-meta_in m = sum_upto (meta_of_file m) 4095
+meta_in m = sum_upto (meta_of_file m) LAST_NUMBER
 
 -- These are the totals of a log map.
 pub record IsCounted (m : LogMap) (blocks others : ℕ) : Type 0 where
@@ -61,7 +62,7 @@ pub record HasMeasure (m : LogMap) (n from to blocks others : ℕ) : Type 0 wher
 
 -- Only object n changes, and of its blocks those at from..to: the totals change by its measure.
 abbrev pub TotalsOfChange : Type 0
-TotalsOfChange = (m m' : LogMap) (n from to : ℕ) → IsChangedAt m n m' → 1 ≤ n → n ≤ 4095 → from ≤ to → to ≤ 16624
+TotalsOfChange = (m m' : LogMap) (n from to : ℕ) → IsChangedAt m n m' → 1 ≤ n → n ≤ LAST_NUMBER → from ≤ to → to ≤ FILE_BLOCKS
     → ((i : ℕ) → (i < from) ⊎ (to ≤ i) → m'.block n i ≡ m.block n i)
     → (data_in m' + stored_in m n from to ≡ data_in m + stored_in m' n from to)
     × (meta_in m' + meta_of_file m n ≡ meta_in m + meta_of_file m' n)

@@ -15,6 +15,7 @@ use Rattle.lfs_model.specs.Slot.{SlotValue, slot_in}
 use Rattle.lfs_model.specs.Sound.{NamesGive, IsReachable}
 use Rattle.lfs_model.specs.Stands.{LogMap, StandsAt}
 use Rattle.lfs_model.specs.Tree.{Names, Node, File, Dir, Link, Tree, State, byte_cmp, is_dir, links, names, node, slot_len}
+use Rattle.lfs_model.specs.declared.limits.TheConstants.{SECTOR_LEN, LAST_NUMBER, NEED_OF_SEGMENT}
 
 -- the map of the slots of a directory of this form
 abbrev pub with_slot : Option SlotValue → Names → Names
@@ -33,7 +34,7 @@ with_object n (Some x) t = (n, x) ∷ t
 module _ (m : LogMap) where
   -- the bytes of object n; a block that isn't stored reads as zeros
   unfoldable pub object : ℕ → Header → List ℕ
-  object n h = map (λ o. slice_index (m.block n (o / 512)) (o % 512)) (range_with_len 0 h.size)
+  object n h = map (λ o. slice_index (m.block n (o / SECTOR_LEN)) (o % SECTOR_LEN)) (range_with_len 0 h.size)
 
   -- a directory's slots
   unfoldable pub slots : ℕ → Header → List (List ℕ)
@@ -54,7 +55,7 @@ module _ (m : LogMap) where
   nodes_from (suc count) a = with_object a (node_of a (m.header a)) (nodes_from count (a + 1))
 
   unfoldable pub tree_in : Tree
-  tree_in = nodes_from 4095 1
+  tree_in = nodes_from LAST_NUMBER 1
 
   -- each slot of a directory is well-formed, and no two have one name
   abbrev pub AreFormed : Type 0
@@ -79,7 +80,7 @@ module _ (m : LogMap) where
   AreLinks = (n : ℕ) (h : Header) → m.header n ≡ Some h → h.links ≡ links tree_in n
 
   abbrev pub HasRoom : ℕ → Type 0
-  HasRoom N = need tree_in ≤ 47 * N
+  HasRoom N = need tree_in ≤ NEED_OF_SEGMENT * N
 
 -- the log map of a volume of N segments is a tree's
 pub record IsTree (N : ℕ) (m : LogMap) : Type 0 where

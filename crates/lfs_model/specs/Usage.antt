@@ -4,6 +4,7 @@ use Rattle.std.specs.Prelude.{◌≡◌, ◌<◌, ◌≤◌, ◌^◌, ◌↔◌,
 use Rattle.std.specs.Prelude.{get_or}
 use Rattle.std.specs.List.{flat_map, list_all}
 use Rattle.lfs_model.specs.Fields.{le16, le32, read16, read32, run, value_in}
+use Rattle.lfs_model.specs.declared.limits.TheConstants.{SEGMENT_SECTORS, BLOCK_SEGMENTS}
 
 pub record SegmentUse : Type 0 where
   pub used : ℕ
@@ -24,11 +25,11 @@ unfoldable pub use_at : ℕ → List ℕ → SegmentUse
 use_at at s = record { used = read16 at s; live = read16 (at + 2) s; age = read32 (at + 4) s }
 
 abbrev pub usage_of : List ℕ → List SegmentUse
-usage_of s = run use_at 8 64 0 s
+usage_of s = run use_at 8 BLOCK_SEGMENTS 0 s
 
 -- what an entry may be: used sectors at most 64, and fewer live blocks than these unless both are 0
 pub record IsUse (u : SegmentUse) : Type 0 where
-  pub used : u.used ≤ 64
+  pub used : u.used ≤ SEGMENT_SECTORS
   pub both : u.used ≡ 0 ↔ u.live ≡ 0
   pub live : u.live ≤ u.used
   pub fewer : 1 ≤ u.used → u.live < u.used
@@ -42,13 +43,13 @@ pub record IsUnused (u : SegmentUse) : Type 0 where
 
 -- what a usage block may be where `count` of its entries belong to segments of the volume
 pub record FitsUsage (count : ℕ) (us : List SegmentUse) : Type 0 where
-  pub entries : length us ≡ 64
-  pub each : (i : ℕ) → i < 64 → IsUse (get_or us i no_use)
-  pub past : (i : ℕ) → count ≤ i → i < 64 → IsUnused (get_or us i no_use)
+  pub entries : length us ≡ BLOCK_SEGMENTS
+  pub each : (i : ℕ) → i < BLOCK_SEGMENTS → IsUse (get_or us i no_use)
+  pub past : (i : ℕ) → count ≤ i → i < BLOCK_SEGMENTS → IsUnused (get_or us i no_use)
 
 -- the same, as tests
 abbrev pub is_use : SegmentUse → Bool
-is_use u = nat_le u.used 64 && cond (u.used == 0) (u.live == 0) (nat_le 1 u.live && nat_lt u.live u.used)
+is_use u = nat_le u.used SEGMENT_SECTORS && cond (u.used == 0) (u.live == 0) (nat_le 1 u.live && nat_lt u.live u.used)
 
 abbrev pub is_unused : SegmentUse → Bool
 is_unused u = (u.used == 0) && ((u.live == 0) && (u.age == 0))

@@ -1,6 +1,6 @@
 -- What contents and the trees they stand for have to do with each other, and how a mount refuses.
 -- All of it is an own choice: POSIX.1-2017 says neither how a mount is refused nor what a stop leaves.
-use Rattle.std.specs.Prelude.{◌≡◌, ◌<◌, ◌≤◌, ◌⊎◌, ◌+◌, ◌*◌, ◌%◌, ℕ, List, [], ◌∷◌, length, Some, None}
+use Rattle.std.specs.Prelude.{◌≡◌, ◌<◌, ◌≤◌, ◌⊎◌, ◌%◌, ℕ, List, [], ◌∷◌, length, Some, None}
 use Rattle.std.specs.List.{AllByRecursion}
 use Rattle.lfs_model.specs.Checkpoint.{CheckpointValue, layout_version}
 use Rattle.lfs_model.specs.Content.{Content, newest}
@@ -9,13 +9,14 @@ use Rattle.lfs_model.specs.Damage.{IsDamaged, stage}
 use Rattle.lfs_model.specs.Device.{AllLeft, DeviceState, IsSector, MayWrite}
 use Rattle.lfs_model.specs.Image.{IsNew, new_form}
 use Rattle.lfs_model.specs.Call.{Call, Answer}
-use Rattle.lfs_model.specs.Reach.{view}
+use Rattle.lfs_model.specs.Reach.{view, segment_start}
 use Rattle.lfs_model.specs.Run.{Point, StandsForPending}
 use Rattle.lfs_model.specs.Sound.{Sound}
 use Rattle.lfs_model.specs.Encodes.{IsLogMap}
 use Rattle.lfs_model.specs.Stands.{LogMap, StandsAt, log_in}
 use Rattle.lfs_model.specs.Tree.{State, Tree, Dir, drop_nameless}
 use Rattle.lfs_model.specs.TreeOf.{AreFormed, AreLinks, Stands, TreeOf, dropped, tree_in}
+use Rattle.lfs_model.specs.declared.limits.TheConstants.{LEAST_SECTORS}
 
 -- the state that a mount finds: a tree in this version of the layout, and no handles
 abbrev pub mounted : ℕ → Tree → State
@@ -24,14 +25,14 @@ mounted version t = record { tree = t; handles = []; version = version }
 -- The refusals of a mount, the first of these that holds.
 -- too few sectors for a volume, or for the one that is there
 abbrev pub IsTooSmall : Content → Type 0
-IsTooSmall c = (length c < 4098) ⊎ ((k : CheckpointValue) × (newest c ≡ Some k) × (length c < 2 + 64 * k.segments))
+IsTooSmall c = (length c < LEAST_SECTORS) ⊎ ((k : CheckpointValue) × (newest c ≡ Some k) × (length c < segment_start k.segments))
 
 abbrev pub IsWithoutCheckpoint : Content → Type 0
-IsWithoutCheckpoint c = (4098 ≤ length c) × (newest c ≡ None)
+IsWithoutCheckpoint c = (LEAST_SECTORS ≤ length c) × (newest c ≡ None)
 
 -- the volume is damaged: this is the code
 abbrev pub IsDamagedBy : Content → ℕ → Type 0
-IsDamagedBy c code = (k : CheckpointValue) × (newest c ≡ Some k) × (2 + 64 * k.segments ≤ length c) × IsDamaged (view c k) code
+IsDamagedBy c code = (k : CheckpointValue) × (newest c ≡ Some k) × (segment_start k.segments ≤ length c) × IsDamaged (view c k) code
 
 -- A content stands for one state at most.
 abbrev pub SingleState : Type 0
@@ -49,7 +50,7 @@ StateSlotWrite = (c : Content) (s : State) (is : Stands c s) (e : Content) → K
 
 -- Where all stages hold of a volume that is large enough, the content stands for the tree that is read from it.
 abbrev pub FoundStands : Type 0
-FoundStands = (c : Content) (k : CheckpointValue) → newest c ≡ Some k → 2 + 64 * k.segments ≤ length c
+FoundStands = (c : Content) (k : CheckpointValue) → newest c ≡ Some k → segment_start k.segments ≤ length c
     → ((code : ℕ) → stage (view c k) code)
     → Stands c (mounted (layout_version k) (tree_in (log_in (view c k))))
 

@@ -4,6 +4,7 @@ use Rattle.std.specs.Prelude.{MatchOption}
 use Rattle.lfs_model.specs.Tree.{Tree, Node, File, Dir, Link, Names, node, entry, up, name_limit}
 use Rattle.lfs_model.specs.PathText.{comps, slash, from_root, but_last, text_refusal}
 use Rattle.lfs_model.specs.Refusal.{Refusal, NoEntry, NotDir, NameTooLong, Loop}
+use Rattle.lfs_model.specs.declared.limits.TheConstants.{MOST_FOLLOWED}
 
 -- where a walk ends: at a node, or refused
 pub data End : Type 0 where
@@ -66,9 +67,9 @@ pub data Walk (t : Tree) (follow : Bool) : ℕ → List (List ℕ) → Bool → 
   link : {d n : ℕ} {text : List ℕ} {piece : List ℕ} {ps : List (List ℕ)} {s : Bool} {k : ℕ}
       → Gives t d piece n (Link text) → more ps s || follow ≡ false → Walk t follow d (piece ∷ ps) s k (At n)
   loops : {d n : ℕ} {text : List ℕ} {piece : List ℕ} {ps : List (List ℕ)} {s : Bool} {k : ℕ}
-      → Gives t d piece n (Link text) → more ps s || follow ≡ true → 40 ≤ k → Walk t follow d (piece ∷ ps) s k (Refused Loop)
+      → Gives t d piece n (Link text) → more ps s || follow ≡ true → MOST_FOLLOWED ≤ k → Walk t follow d (piece ∷ ps) s k (Refused Loop)
   followed : {d n : ℕ} {text : List ℕ} {piece : List ℕ} {ps : List (List ℕ)} {s : Bool} {k : ℕ} {e : End}
-      → Gives t d piece n (Link text) → more ps s || follow ≡ true → k < 40
+      → Gives t d piece n (Link text) → more ps s || follow ≡ true → k < MOST_FOLLOWED
       → Walk t follow (start text d) (comps text ++ ps) (slash_with text ps s) (k + 1) e → Walk t follow d (piece ∷ ps) s k e
 
 -- the end of a path: its text's refusal, or the walk's end

@@ -1,5 +1,6 @@
 use Rattle.std.proofs.Common.{◌+◌, ◌≤◌, ◌≡◌, ℕ, List, length, take, ap, subst, sym, ◌∙◌, arith}
-use Rattle.lfs_model.specs.Image.{usage_blocks, first_names}
+use Rattle.lfs_model.specs.Checkpoint.{usage_blocks}
+use Rattle.lfs_model.specs.Image.{first_names}
 use Rattle.lfs_model.specs.Summary.{BlockNameValue, FitsSummary, summary_sector}
 use Rattle.lfs_format.proofs.FirstSectors.{named, fits_first_names}
 use Rattle.lfs_format.proofs.image.summary_block.Goals as goal

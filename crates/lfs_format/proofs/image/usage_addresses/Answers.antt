@@ -1,5 +1,5 @@
 use Rattle.std.proofs.Common.{◌≡◌, arith}
-use Rattle.lfs_model.specs.Image.{usage_blocks}
+use Rattle.lfs_model.specs.Checkpoint.{usage_blocks}
 use Rattle.lfs_format.proofs.FirstSectors.{addressed}
 use Rattle.lfs_format.proofs.image.usage_addresses.Goals as goal
 

@@ -1,5 +1,5 @@
 use Rattle.std.proofs.Common.{◌+◌}
-use Rattle.lfs_model.specs.Image.{usage_blocks}
+use Rattle.lfs_model.specs.Checkpoint.{usage_blocks}
 use Rattle.lfs_format.proofs.FirstMoments.{touches_then}
 use Rattle.lfs_format.proofs.making.write_chunk.Goals as goal
 

@@ -1,5 +1,5 @@
 use Rattle.std.proofs.Common.{ℕ, ◌+◌, ◌<◌, arith}
-use Rattle.lfs_model.specs.Image.{usage_blocks}
+use Rattle.lfs_model.specs.Checkpoint.{usage_blocks}
 use Rattle.lfs_format.proofs.FirstMoments.{touches_none, touches_write}
 use Rattle.lfs_format.proofs.making.write_first_blocks.Goals as goal
 

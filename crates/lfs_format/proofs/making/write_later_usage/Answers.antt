@@ -1,5 +1,5 @@
 use Rattle.std.proofs.Common.{◌+◌, ◌<◌, length, ◌∙◌, arith}
-use Rattle.lfs_model.specs.Image.{usage_blocks}
+use Rattle.lfs_model.specs.Checkpoint.{usage_blocks}
 use Rattle.lfs_model.proofs.Moments.{carries_then}
 use Rattle.lfs_format.proofs.FirstMoments.{touches_write}
 use Rattle.lfs_format.proofs.FirstWrites.{chunk_write, chunk_more}

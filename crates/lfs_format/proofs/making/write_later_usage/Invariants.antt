@@ -1,7 +1,7 @@
 use Rattle.std.proofs.Common.{◌≡◌, ◌+◌, ℕ}
 use Rattle.lfs_model.specs.Content.{Content}
 use Rattle.lfs_model.specs.Device.{Carries}
-use Rattle.lfs_model.specs.Image.{usage_blocks}
+use Rattle.lfs_model.specs.Checkpoint.{usage_blocks}
 use Rattle.lfs_format.specs.Making.{HasChunk}
 use Rattle.lfs_format.proofs.FirstMoments.{Touches}
 use Rattle.lfs_format.proofs.FirstWrites.{Chunk}

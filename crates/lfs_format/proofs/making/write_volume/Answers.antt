@@ -1,5 +1,5 @@
 use Rattle.std.proofs.Common.{◌+◌, ◌*◌, ◌%◌, ◌<◌, ◌≤◌, length, arith}
-use Rattle.lfs_model.specs.Image.{usage_blocks}
+use Rattle.lfs_model.specs.Checkpoint.{usage_blocks}
 use Rattle.lfs_format.proofs.FirstMoments.{moments_chunked, moments_synced, moments_written, touches_slot, touches_slots, touches_still}
 use Rattle.lfs_format.proofs.FirstMoments.{touches_then}
 use Rattle.lfs_format.proofs.making.write_volume.Goals as goal
