@@ -1,6 +1,7 @@
 -- What the layers above see of the files of a volume, with the draft of one call's changes.
 use Rattle.std.specs.Prelude.{◌≡◌, ◌⊎◌, ◌<◌, ◌≤◌, ◌+◌, ◌-◌, ◌*◌, ◌/◌, ℕ, max, Bool, false, List, length, slice_index, Option, Some, None}
 use Rattle.std.specs.Int.{div_ceil}
+use Rattle.lfs_model.specs.declared.limits.TheConstants.{DIRECT_BLOCKS, MOST_ENTRIES, SECTOR_LEN}
 use Rattle.lfs_model.specs.Changing.{IsWithHeader}
 use Rattle.lfs_model.specs.Cutting.{is_past}
 use Rattle.lfs_model.specs.Device.{DeviceState}
@@ -50,7 +51,7 @@ pub record FilesState (S D : Type 0) : Type 1 where
 
 -- the bytes are those of a file's block, zeros where it isn't stored
 pub record HoldsBlock (m : LogMap) (n index : ℕ) (block : List ℕ) : Type 0 where
-  pub long : length block ≡ 512
+  pub long : length block ≡ SECTOR_LEN
   pub bytes : (k : ℕ) → slice_index block k ≡ slice_index (m.block n index) k
 
 -- File n with w laid over it from a place on, and its header; all other files are as they were.
@@ -64,7 +65,7 @@ pub record WritesFile (m m' : LogMap) (n : ℕ) (h h' : Header) (at : ℕ) (w : 
 pub record SizesFile (m m' : LogMap) (n : ℕ) (h h' : Header) (len : ℕ) : Type 0 where
   pub shorter : len < h.size → CutsBytes m m' n (as_header h) (as_header h') len
   pub longer : h.size ≤ len → IsLogMap m → m.header n ≡ Some (as_header h) → CutsBytes m m' n (as_header h) (as_header h') len
-  pub below : (i : ℕ) → i < len / 512 → m'.block n i ≡ m.block n i
+  pub below : (i : ℕ) → i < len / SECTOR_LEN → m'.block n i ≡ m.block n i
   pub only : IsChangedAt m n m'
   pub whole : AreStoredWhole m n → AreStoredWhole m' n
   pub header : m'.header n ≡ Some (as_header h')
@@ -146,7 +147,7 @@ module _ {S D : Type 0} where
   pub record TakesWrite (s : FilesState S D) (m m' : LogMap) (n : ℕ) (h : Header) (at : ℕ) (w : List ℕ) : Type 0 where
     pub there : m'.header n ≡ Some (as_header h)
     pub apart : IsApart s.lost n
-    pub within : m.header n ≡ None → at + length w ≤ 57344
+    pub within : m.header n ≡ None → at + length w ≤ DIRECT_BLOCKS * SECTOR_LEN
     pub header : FitsHeader h.kind h.form h.links (max h.size (at + length w))
 
   -- With the draft there is another log map, where bytes are laid over a file; its blocks around them are as they were.
@@ -154,13 +155,13 @@ module _ {S D : Type 0} where
     pub map : LogMap
     pub has : s'.has m map
     pub file : WritesFile m' map n h h' at w
-    pub around : (i : ℕ) → (i < at / 512) ⊎ (div_ceil (at + length w) 512 ≤ i) → map.block n i ≡ m'.block n i
+    pub around : (i : ℕ) → (i < at / SECTOR_LEN) ⊎ (div_ceil (at + length w) SECTOR_LEN ≤ i) → map.block n i ≡ m'.block n i
 
   -- A draft that lays bytes over a file.
   pub record Writes (s s' : FilesState S D) (n : ℕ) (head : Header) (at : ℕ) (w : List ℕ) : Type 0 where
     pub lost : (x : Entry) → s'.lost x ≡ s.lost x
     pub headers : s'.headers ≤ s.headers + 1
-    pub blocks : s'.blocks ≤ s.blocks + (div_ceil (at + length w) 512 - at / 512)
+    pub blocks : s'.blocks ≤ s.blocks + (div_ceil (at + length w) SECTOR_LEN - at / SECTOR_LEN)
     pub fits : (m m' : LogMap) → s.has m m' → s.fits m → TakesWrite s m m' n head at w → s'.fits m
     pub file : (m m' : LogMap) → s'.device.keeps_model → s.has m m'
         → HasWritten s' m m' n head (resized head (max head.size (at + length w))) at w
@@ -170,7 +171,7 @@ module _ {S D : Type 0} where
   pub record IsLoneWrite (s : FilesState S D) (w : List ℕ) : Type 0 where
     pub headers : s.headers ≤ 1
     pub blocks : s.blocks ≡ 0
-    pub few : length w ≤ 1024 * slot_len 1
+    pub few : length w ≤ MOST_ENTRIES * slot_len 1
 
   -- ---- another form
 
@@ -210,7 +211,7 @@ module _ {S D : Type 0} where
 
   -- A draft that gives a file another size, and does nothing else.
   pub record SetsLen (s s' : FilesState S D) (n : ℕ) (head : Header) (len : ℕ) : Type 0 where
-    pub cut : len < head.size → (x : Entry) → s'.lost x ≡ is_past n (div_ceil len 512) x
+    pub cut : len < head.size → (x : Entry) → s'.lost x ≡ is_past n (div_ceil len SECTOR_LEN) x
     pub kept : head.size ≤ len → (x : Entry) → s'.lost x ≡ false
     pub headers : s'.headers ≤ 1
     pub blocks : s'.blocks ≤ 1
@@ -225,7 +226,7 @@ module _ {S D : Type 0} where
   pub record TakesShrink (s : FilesState S D) (m m' : LogMap) (n : ℕ) (h : Header) (len : ℕ) : Type 0 where
     pub there : m'.header n ≡ Some (as_header h)
     pub apart : IsApart s.lost n
-    pub within : m.header n ≡ None → len < 57344
+    pub within : m.header n ≡ None → len < DIRECT_BLOCKS * SECTOR_LEN
     pub header : FitsHeader h.kind h.form h.links len
 
   -- With the draft there is another log map, where the file is cut, if it was there with this header.

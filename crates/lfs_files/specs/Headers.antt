@@ -1,6 +1,7 @@
 -- What an inode says of a file.
 use Rattle.std.specs.Prelude.{◌≡◌, ◌≤◌, ℕ, Option, Some, None}
 use Rattle.lfs_model.specs.declared.Kind.{Kind}
+use Rattle.lfs_model.specs.declared.limits.TheConstants.{MOST_LINKS}
 use Rattle.lfs_model.specs.Entry as entry
 use Rattle.lfs_model.specs.Inode.{IsForm, IsSize}
 use Rattle.lfs_model.specs.Stands.{LogMap}
@@ -26,5 +27,5 @@ HeaderAnswer m n (Some h) = m.header n ≡ Some (as_header h)
 -- what an inode's header may be in some version of the layout, where the file may have lost its last link
 pub record FitsHeader (kind : Kind) (form links size : ℕ) : Type 0 where
   pub known : IsForm 2 kind form
-  pub links_few : links ≤ 1000
+  pub links_few : links ≤ MOST_LINKS
   pub size_fits : IsSize form kind size

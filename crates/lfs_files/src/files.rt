@@ -5,6 +5,7 @@ ghost use Rattle.lfs_files.specs.Files.{Counts, FilesState, CountsReformed, IsFa
 
 use crate::fault::{LogFault, StoreFault};
 use crate::header::Header;
+use lfs_model::limits::{LARGEST_FILE, SECTOR_LEN};
 use lfs_model::FileNumber;
 
 /// The files of a volume, and a draft of changes to them, which reads see.
@@ -60,7 +61,7 @@ pub trait Files {
         bytes: &[u8],
     ) -> Result<(), StoreFault>
         requires bytes { 0 < length bytes.now }
-        requires end { at + length bytes.now ≤ 8511488 }
+        requires end { at + length bytes.now ≤ LARGEST_FILE }
         ensures redrafts { Redrafts (state self.old) (state self.new) }
         ensures done { OnOk result
             (Writes (state self.old) (state self.new) number.value header at bytes.now) }
@@ -99,7 +100,7 @@ pub trait Files {
     ///
     /// As those of `write_at`.
     fn set_len(&mut self, number: FileNumber, header: Header, len: u32) -> Result<(), StoreFault>
-        requires most { len ≤ 8511488 }
+        requires most { len ≤ LARGEST_FILE }
         requires empty { (state self.old).empty }
         ensures redrafts { Redrafts (state self.old) (state self.new) }
         ensures done { OnOk result (SetsLen (state self.old) (state self.new) number.value header
@@ -119,8 +120,8 @@ pub trait Files {
     /// As those of `write_at`.
     fn shrink(&mut self, number: FileNumber, header: Header, len: u32) -> Result<(), StoreFault>
         requires less { len < header.size }
-        requires last { header.size ≤ 512 * (len / 512) + 512 }
-        requires most { header.size ≤ 8511488 }
+        requires last { header.size ≤ SECTOR_LEN * (len / SECTOR_LEN) + SECTOR_LEN }
+        requires most { header.size ≤ LARGEST_FILE }
         ensures redrafts { Redrafts (state self.old) (state self.new) }
         ensures done { OnOk result (Shrinks (state self.old) (state self.new) number.value header
             len) }
