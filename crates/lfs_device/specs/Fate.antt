@@ -4,6 +4,7 @@ use Rattle.std.specs.List.{AllByRecursion}
 use Rattle.std.specs.declared.fs.attrs.Metadata.{Metadata}
 use Rattle.std.proofs.Common.{sym, ◌∙◌, ap, subst}
 use Rattle.std.proofs.lemmas.List.{length-replicate}
+use Rattle.lfs_model.specs.declared.limits.TheConstants.{SECTOR_LEN}
 use Rattle.lfs_model.specs.Device.{Cell, IsSector}
 use Rattle.lfs_model.proofs.Cells.{all_same, zeros_are_bytes}
 use Rattle.lfs_device.specs.declared.rows.Left.{Left}
@@ -28,7 +29,7 @@ abbrev pub Fates : Type 1
 Fates = Metadata → (n : ℕ) → Fate n
 
 zero_sector : Cell
-zero_sector = Some (replicate 512 0)
+zero_sector = Some (replicate SECTOR_LEN 0)
 
 zero_is_sector : IsSector zero_sector
 unfolding zero_sector

@@ -50,6 +50,7 @@ pub struct MemDevice {
 }
 
 impl MemDevice {
+    ghost use Rattle.lfs_model.specs.declared.limits.TheConstants.{SECTOR_LEN};
     ghost use Rattle.lfs_model.specs.Device.{lose};
     ghost use Rattle.lfs_device.specs.Rows.{stopped};
     ghost use Rattle.lfs_device.specs.Bench.{no_faults, with_fault};
@@ -60,7 +61,7 @@ impl MemDevice {
     pub fn new(alloc: Global, sectors: u32) -> Result<MemDevice, NoMemory>
         ensures size { IfOk result (λ d. (device_state d).size ≡ sectors) }
         ensures zeros { IfOk result
-            (λ d. (device_state d).content ≡ replicate sectors (Some (replicate 512 0))) }
+            (λ d. (device_state d).content ≡ replicate sectors (Some (replicate SECTOR_LEN 0))) }
         ensures durable { IfOk result (λ d. Only (device_state d).content (device_state d)) }
         ensures told { IfOk result (λ d. (device_state d).told ≡ []) }
         ensures bench { IfOk result (λ d. bench_of d ≡ no_faults) }
