@@ -7,8 +7,12 @@ use Rattle.lfs_model.specs.Device.{Cell, cell_at, put, MayWrite, left_old, left_
 use Rattle.lfs_model.specs.Device.{Carries, Elapses, LeavesOnly, ComesFrom, SameOutside, IsLawful, CrashWrites}
 use Rattle.lfs_model.specs.Fields.{read32, read64, part}
 use Rattle.lfs_model.specs.Image.{blank, first_checkpoint, IsNew}
-use Rattle.lfs_model.proofs.Moments.{started, goes_on, joined, weaker, same_outside_none, write_outside}
-use Rattle.lfs_format.specs.Making.{MayClearSlots, AreClear, HasChunk, MayStand}
+use Rattle.lfs_model.proofs.Moments.{Run, run_write, carries_none, carries_then, started, goes_on, joined, weaker, same_outside_none}
+use Rattle.lfs_model.proofs.Moments.{write_outside}
+use Rattle.lfs_model.proofs.Image.{formatted}
+use Rattle.lfs_model.proofs.Volume.{new_volume}
+use Rattle.lfs_format.specs.Making.{MayClearSlots, AreClear, HasChunk, HasMade, IsMaking, MayStand, SameBehindChunk, WritesChunk}
+use Rattle.lfs_format.proofs.FirstWrites.{clear_survives}
 
 none_blank : checkpoint_in (blank 512) ≡ None
 unfolding checkpoint_in read32 read64 part
@@ -115,7 +119,7 @@ module _ (version N : ℕ) (a b : DeviceState) (cleared : LeavesOnly a b (ComesF
 -- ---- the sectors that are written
 
 -- what is left comes from what was left before, but for the first n sectors
-abbrev pub Touches : ℕ → DeviceState → DeviceState → Type 0
+abbrev Touches : ℕ → DeviceState → DeviceState → Type 0
 Touches n old new = LeavesOnly old new (ComesFrom old (SameOutside 0 n))
 
 left_now : (old new : DeviceState) (Q : Content → Type 0) → IsLawful new → LeavesOnly old new Q → AllLeft new Q
@@ -125,17 +129,14 @@ same_then : (n : ℕ) (c d e : Content) → SameOutside 0 n c d → SameOutside 
 same_then n c d e one two =
     record { size = two.size ∙ one.size; before = λ k lt. absurd (omega (arith, lt)); after = λ k le. two.after k le ∙ one.after k le }
 
-pub touches_none : (n : ℕ) (d : DeviceState) → IsLawful d → Touches n d d
-touches_none n d lawful = started d (ComesFrom d (SameOutside 0 n)) lawful (λ c left. (c, left, same_outside_none 0 n c))
-
-pub touches_then : (n : ℕ) (a b c : DeviceState) → IsLawful b → Touches n a b → Touches n b c → Touches n a c
+touches_then : (n : ℕ) (a b c : DeviceState) → IsLawful b → Touches n a b → Touches n b c → Touches n a c
 touches_then n a b c lawful one two =
     joined a b c (ComesFrom a (SameOutside 0 n)) (ComesFrom b (SameOutside 0 n)) (ComesFrom a (SameOutside 0 n)) one two (λ x has. has)
     (λ x from.
     let was = left_now a b (ComesFrom a (SameOutside 0 n)) lawful one from.0 from.1 in
     (was.0, was.1, same_then n was.0 from.0 x was.2 from.2))
 
-pub touches_write : (n : ℕ) (a b c : DeviceState) (s : ℕ) (bytes : List ℕ) → s < n → IsLawful b → Touches n a b → CrashWrites s bytes b c
+touches_write : (n : ℕ) (a b c : DeviceState) (s : ℕ) (bytes : List ℕ) → s < n → IsLawful b → Touches n a b → CrashWrites s bytes b c
     → Carries b c → Elapses b c → Touches n a c
 touches_write n a b c s bytes low lawful one crash carries time =
     goes_on a b c (ComesFrom a (SameOutside 0 n)) one carries time (λ x left.
@@ -143,12 +144,12 @@ touches_write n a b c s bytes low lawful one crash carries time =
     let was = left_now a b (ComesFrom a (SameOutside 0 n)) lawful one from.0 from.1 in
     (was.0, was.1, write_outside 0 n s bytes (omega arith) (omega (arith, low)) was.0 from.0 x was.2 from.2))
 
-pub touches_still : (n : ℕ) (a b c : DeviceState) → IsLawful b → Touches n a b → IsUntouched b c → Carries b c → Elapses b c → Touches n a c
+touches_still : (n : ℕ) (a b c : DeviceState) → IsLawful b → Touches n a b → IsUntouched b c → Carries b c → Elapses b c → Touches n a c
 touches_still n a b c lawful one same carries time =
     goes_on a b c (ComesFrom a (SameOutside 0 n)) one carries time
     (λ x left. left_now a b (ComesFrom a (SameOutside 0 n)) lawful one x (same.crash x left))
 
-pub touches_slots : (n : ℕ) (a b : DeviceState) → 2 ≤ n → LeavesOnly a b (ComesFrom a MayClearSlots) → Touches n a b
+touches_slots : (n : ℕ) (a b : DeviceState) → 2 ≤ n → LeavesOnly a b (ComesFrom a MayClearSlots) → Touches n a b
 touches_slots n a b le leaves =
     weaker a b (ComesFrom a MayClearSlots) (ComesFrom a (SameOutside 0 n)) (λ x from. (from.0, from.1, wider from.2.others)) leaves
   where
@@ -156,9 +157,138 @@ touches_slots n a b le leaves =
     wider same =
         record { size = same.size; before = λ k lt. absurd (omega (arith, lt)); after = λ k past. same.after k (omega (arith, le, past)) }
 
-pub touches_slot : (n : ℕ) (a b : DeviceState) (s : ℕ) (bytes : List ℕ) → s < n → LeavesOnly a b (ComesFrom a (MayWrite s bytes))
+touches_slot : (n : ℕ) (a b : DeviceState) (s : ℕ) (bytes : List ℕ) → s < n → LeavesOnly a b (ComesFrom a (MayWrite s bytes))
     → Touches n a b
 touches_slot n a b s bytes low leaves =
     weaker a b (ComesFrom a (MayWrite s bytes)) (ComesFrom a (SameOutside 0 n)) (λ x from.
     (from.0, from.1, write_outside 0 n s bytes (omega arith) (omega (arith, low)) from.0 from.0 x (same_outside_none 0 n from.0) from.2))
     leaves
+
+-- ---- the steps
+
+-- no block of the first chunk
+pub writes_none : (N : ℕ) (d : DeviceState) → IsLawful d → WritesChunk N d d
+writes_none N d lawful = record {
+  any_moment = λ clear. started d AreClear lawful clear;
+  left = λ clear. clear;
+  touched = started d (ComesFrom d (SameBehindChunk N)) lawful (λ c left. (c, left, same_outside_none 0 (5 + usage_blocks N) c));
+  carries = carries_none d;
+}
+
+-- and one block more
+pub writes_write : (N : ℕ) (a b c : DeviceState) (s : ℕ) (bytes : List ℕ) → 2 ≤ s → s < 5 + usage_blocks N → IsLawful b → WritesChunk N a b
+    → CrashWrites s bytes b c → Carries b c → Elapses b c → WritesChunk N a c
+writes_write N a b c s bytes past low lawful one crash carries time = record {
+  any_moment = λ clear. (run clear).leaves;
+  left = λ clear. (run clear).now;
+  touched = touches_write (5 + usage_blocks N) a b c s bytes low lawful one.touched crash carries time;
+  carries = carries_then a b c one.carries carries;
+}
+  where
+    run : AllLeft a AreClear → Run a c AreClear
+    run clear = run_write a b c AreClear s bytes
+        (record { carries = one.carries; leaves = one.any_moment clear; now = one.left clear }) (clear_survives s bytes past) crash carries
+        time
+
+pub writes_then : (N : ℕ) (a b c : DeviceState) → IsLawful b → WritesChunk N a b → WritesChunk N b c → WritesChunk N a c
+writes_then N a b c lawful one two = record {
+  any_moment = λ clear.
+      joined a b c AreClear AreClear AreClear (one.any_moment clear) (two.any_moment (one.left clear)) (λ x has. has) (λ x has. has);
+  left = λ clear. two.left (one.left clear);
+  touched = touches_then (5 + usage_blocks N) a b c lawful one.touched two.touched;
+  carries = carries_then a b c one.carries two.carries;
+}
+
+-- the slots are cleared
+pub making_cleared : (version N : ℕ) (a b : DeviceState) → LeavesOnly a b (ComesFrom a MayClearSlots) → Carries a b → IsMaking version N a b
+making_cleared version N a b cleared carries = record {
+  any_moment = λ keeps. moments_cleared version N a b cleared;
+  touched = touches_slots (5 + usage_blocks N) a b (omega arith) cleared;
+  carries = carries;
+}
+
+-- then the chunk is written
+module _ (version N : ℕ) (a b c : DeviceState) (lawful : IsLawful b) (cleared : LeavesOnly a b (ComesFrom a MayClearSlots))
+    (clears : Carries a b) (clear : b.keeps_model → AreClear b.content) (only : b.keeps_model → Only b.content b)
+    (writes : WritesChunk N b c) where
+  pub making_chunked : IsMaking version N a c
+  making_chunked = record {
+    any_moment = λ keeps.
+        let kept = writes.carries.kept_before keeps in
+        moments_chunked version N a b cleared (clear kept) (only kept) c writes.any_moment;
+    touched = touches_then (5 + usage_blocks N) a b c lawful (touches_slots (5 + usage_blocks N) a b (omega arith) cleared) writes.touched;
+    carries = carries_then a b c clears writes.carries;
+  }
+
+  -- it is synced
+  module _ (s : DeviceState) (lawful_c : IsLawful c) (same : IsUntouched c s) (carries : Carries c s) (time : Elapses c s) where
+    pub making_synced : IsMaking version N a s
+    making_synced = record {
+      any_moment = λ keeps.
+          let kept = writes.carries.kept_before (carries.kept_before keeps) in
+          moments_synced version N a b cleared (clear kept) (only kept) c writes.any_moment s writes.left same carries time;
+      touched = touches_still (5 + usage_blocks N) a c s lawful_c making_chunked.touched same carries time;
+      carries = carries_then a c s making_chunked.carries carries;
+    }
+
+    -- and the checkpoint is written
+    pub making_written : (r : DeviceState) (k : CheckpointValue) → IsLawful s → k ≡ first_checkpoint version N → IsVersion version
+        → IsSegmentCount N → 2 + 64 * N ≤ a.size
+        → (c.keeps_model → HasChunk version N (usage_blocks N) b.content c.content) → (s.keeps_model → Only s.content s)
+        → LeavesOnly s r (ComesFrom s (MayWrite (k.number % 2) (checkpoint_sector k))) → Carries s r → IsMaking version N a r
+    making_written r k lawful_s is known count room chunk alone written replaces = record {
+      any_moment = λ keeps.
+          let synced = replaces.kept_before keeps in
+          let kept = carries.kept_before synced in
+          let was = writes.carries.kept_before kept in
+          let long : 2 + 64 * N ≤ length b.content = omega (arith, room, clears.size, lawful.size) in
+          moments_written version N a b cleared (clear was) (only was) c writes.any_moment s writes.left same carries time r k is known
+          count
+          long (chunk kept) (alone synced) written;
+      touched = touches_then (5 + usage_blocks N) a s r lawful_s making_synced.touched
+          (touches_slot (5 + usage_blocks N) s r (k.number % 2) (checkpoint_sector k) (omega arith) written);
+      carries = carries_then a s r making_synced.carries replaces;
+    }
+
+    -- which makes the volume
+    pub volume_made : (r : DeviceState) (k : CheckpointValue) → k ≡ first_checkpoint version N → IsVersion version → IsSegmentCount N
+        → 2 + 64 * N ≤ a.size → (b.keeps_model → SameOutside 0 2 a.content b.content)
+        → (c.keeps_model → HasChunk version N (usage_blocks N) b.content c.content) → Carries s r
+        → (r.keeps_model → r.content ≡ put s.content (k.number % 2) (checkpoint_sector k)) → (r.keeps_model → Only r.content r)
+        → r.failures ≡ a.failures → HasMade version N a r
+    volume_made r k is known count room slots chunk replaces written alone failures = record {
+      no_failure = failures;
+      image = image;
+      volume = λ keeps. new_volume version N r.content (image keeps);
+      checkpoint = λ keeps. (formatted version N r.content (image keeps)).0;
+      durable = alone;
+      others = others;
+    }
+      where
+        kept : r.keeps_model → c.keeps_model
+        kept keeps = carries.kept_before (replaces.kept_before keeps)
+
+        was : r.keeps_model → b.keeps_model
+        was keeps = writes.carries.kept_before (kept keeps)
+
+        first : r.keeps_model → r.content ≡ put c.content 1 (checkpoint_sector (first_checkpoint version N))
+        first keeps = written keeps ∙ ap (λ (m : CheckpointValue). put s.content (m.number % 2) (checkpoint_sector m)) is
+            ∙ ap (λ (x : Content). put x 1 (checkpoint_sector (first_checkpoint version N))) same.content
+
+        image : r.keeps_model → IsNew version N r.content
+        image keeps =
+            let long : 2 + 64 * N ≤ length b.content = omega (arith, room, clears.size, lawful.size) in
+            whole version N known count b.content c.content long (clear (was keeps)) (chunk (kept keeps)) r.content (first keeps)
+
+        others : r.keeps_model → SameBehindChunk N a.content r.content
+        others keeps =
+            let below = slots (was keeps) in
+            let behind = (chunk (kept keeps)).others in
+            let x : Cell = Some (checkpoint_sector (first_checkpoint version N)) in
+            record {
+              size = ap length (first keeps) ∙ length-set c.content 1 x ∙ behind.size ∙ below.size;
+              before = λ at lt. absurd (omega (arith, lt));
+              after = λ at past. ap (λ (d : Content). cell_at d at) (first keeps)
+                  ∙ get_or-set_other c.content 1 at x None (λ e. omega (arith, e, past)) ∙ behind.after at (omega (arith, past))
+                  ∙ below.after at (omega (arith, past));
+            }

@@ -1,18 +1,23 @@
 -- What a content holds while an empty volume is made on it, and what a stop leaves then.
 -- First the slots are cleared, then the first chunk is written, and its checkpoint last; the layout is this project's own.
-use Rattle.std.specs.Prelude.{◌≡◌, ◌⊎◌, ◌+◌, ◌<◌, ℕ, Some, None}
+use Rattle.std.specs.Prelude.{◌≡◌, ◌⊎◌, ◌+◌, ◌<◌, ℕ, [], ◌∷◌, Some, None}
+use Rattle.lfs_model.specs.declared.limits.TheConstants.{SECTOR_LEN}
+use Rattle.lfs_model.specs.Checkpoint.{usage_blocks}
 use Rattle.lfs_model.specs.Content.{Content, newest}
-use Rattle.lfs_model.specs.Device.{Cell, cell_at, DeviceState, ComesFrom, SameOutside}
-use Rattle.lfs_model.specs.Image.{blank, first_names, first_pointers, first_uses, root_inode, IsNew}
+use Rattle.lfs_model.specs.Device.{Cell, cell_at, DeviceState, AllLeft, Carries, ComesFrom, LeavesOnly, Only, SameOutside}
+use Rattle.lfs_model.specs.Image.{blank, first_names, first_pointers, first_checkpoint, first_uses, new_form, root_inode, IsNew}
 use Rattle.lfs_model.specs.Inode.{inode_sector}
 use Rattle.lfs_model.specs.Pointers.{pointer_sector}
 use Rattle.lfs_model.specs.Summary.{summary_sector}
+use Rattle.lfs_model.specs.Tree.{Dir}
+use Rattle.lfs_model.specs.TreeOf.{Stands}
 use Rattle.lfs_model.specs.Usage.{usage_sector}
+use Rattle.lfs_model.specs.Volume.{mounted}
 
 -- a slot as it was, cleared, or unreadable
 pub data MayClear (old new : Cell) : Type 0 where
   left_as_was : new ≡ old → MayClear old new
-  left_clear : new ≡ Some (blank 512) → MayClear old new
+  left_clear : new ≡ Some (blank SECTOR_LEN) → MayClear old new
   left_unreadable : new ≡ None → MayClear old new
 
 -- the same but for the slots, each of which may be cleared
@@ -22,8 +27,8 @@ pub record MayClearSlots (old new : Content) : Type 0 where
 
 -- both slots are cleared
 pub record AreClear (c : Content) : Type 0 where
-  pub first : cell_at c 0 ≡ Some (blank 512)
-  pub second : cell_at c 1 ≡ Some (blank 512)
+  pub first : cell_at c 0 ≡ Some (blank SECTOR_LEN)
+  pub second : cell_at c 1 ≡ Some (blank SECTOR_LEN)
 
 -- The first chunk of a volume of N segments, in a version of the layout, was written over a content, as far as its first n usage blocks.
 pub record HasChunk (version N n : ℕ) (old new : Content) : Type 0 where
@@ -38,3 +43,29 @@ pub record HasChunk (version N n : ℕ) (old new : Content) : Type 0 where
 -- or no checkpoint; or the new volume.
 abbrev pub MayStand : ℕ → ℕ → DeviceState → Content → Type 0
 MayStand version N old c = ComesFrom old MayClearSlots c ⊎ ((newest c ≡ None) ⊎ IsNew version N c)
+
+-- the same but for the slots and the first chunk of a volume of N segments
+abbrev pub SameBehindChunk : ℕ → Content → Content → Type 0
+SameBehindChunk N = SameOutside 0 (5 + usage_blocks N)
+
+-- Writes of blocks of the first chunk: clear slots stay clear at any moment, and no sector behind the chunk changes.
+pub record WritesChunk (N : ℕ) (old new : DeviceState) : Type 0 where
+  pub any_moment : AllLeft old AreClear → LeavesOnly old new AreClear
+  pub left : AllLeft old AreClear → AllLeft new AreClear
+  pub touched : LeavesOnly old new (ComesFrom old (SameBehindChunk N))
+  pub carries : Carries old new
+
+-- A volume of N segments was being made, whatever came of it: what a stop leaves at any moment, and what stays as it was.
+pub record IsMaking (version N : ℕ) (old new : DeviceState) : Type 0 where
+  pub any_moment : new.keeps_model → LeavesOnly old new (MayStand version N old)
+  pub touched : LeavesOnly old new (ComesFrom old (SameBehindChunk N))
+  pub carries : Carries old new
+
+-- A volume of N segments was made: no call failed, and a stop leaves the new volume alone, which stands for an empty root.
+pub record HasMade (version N : ℕ) (old new : DeviceState) : Type 0 where
+  pub no_failure : new.failures ≡ old.failures
+  pub image : new.keeps_model → IsNew version N new.content
+  pub volume : new.keeps_model → Stands new.content (mounted version ((1, Dir (new_form version) []) ∷ []))
+  pub checkpoint : new.keeps_model → newest new.content ≡ Some (first_checkpoint version N)
+  pub durable : new.keeps_model → Only new.content new
+  pub others : new.keeps_model → SameBehindChunk N old.content new.content

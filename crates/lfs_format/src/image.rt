@@ -11,6 +11,7 @@ ghost use Rattle.lfs_model.specs.Usage.{usage_sector};
 use lfs_layout::{
     BlockName, Checkpoint, Inode, SegmentUsage, encode_pointers, encode_summary, encode_usage,
 };
+use lfs_model::limits::{BLOCK_SEGMENTS, MOST_SEGMENTS, USAGE_BLOCKS};
 use lfs_model::{BlockKind, Kind};
 
 /// The sector of the root's inode, the first block of the first chunk.
@@ -22,18 +23,21 @@ pub const MAP: u32 = 4;
 /// The sector of usage block 0; the other usage blocks follow.
 pub const USAGE: u32 = 5;
 
+/// The blocks of the first chunk at most: the inode, the map block and all usage blocks.
+const FIRST_BLOCKS: u32 = 2 + USAGE_BLOCKS;
+
 /// How many usage blocks a volume of so many segments has.
 pub fn usage_count(segments: u32) -> u32
-    requires { segments ≤ 1024 }
+    requires { segments ≤ MOST_SEGMENTS }
     ensures { result ≡ usage_blocks segments }
 {
-    segments.div_ceil(64)
+    segments.div_ceil(BLOCK_SEGMENTS)
 }
 
 /// What block `index` of the first chunk is.
 #[tactic(auto, unfolding(lfs_model::specs::Summary::IsPlaced))]
 fn name_of(index: u32) -> BlockName
-    requires { index < 18 }
+    requires { index < FIRST_BLOCKS }
     ensures placed { IsPlaced result.kind result.file result.index }
     ensures value { result ≡ first_name index }
 {
@@ -61,8 +65,8 @@ pub fn summary_block(segments: u32) -> [u8; 512]
     requires { IsSegmentCount segments }
     ensures { result ≡ summary_sector (first_names segments) }
 {
-    let mut names = [name_of(0); 18];
-    for index in 0..18u32 {
+    let mut names = [name_of(0); FIRST_BLOCKS as usize];
+    for index in 0..FIRST_BLOCKS {
         names[index as usize] = name_of(index);
     }
     encode_summary(&names[..2 + usage_count(segments) as usize])
@@ -111,7 +115,7 @@ pub fn usage_block(segments: u32) -> [u8; 512]
 /// The addresses of the usage blocks.
 fn usage_addresses(segments: u32) -> [u32; 16]
     requires { IsSegmentCount segments }
-    ensures { result ≡ map (first_usage_address segments) (range_with_len 0 16) }
+    ensures { result ≡ map (first_usage_address segments) (range_with_len 0 USAGE_BLOCKS) }
 {
     let mut usage = [0; 16];
     for index in 0..usage_count(segments) {

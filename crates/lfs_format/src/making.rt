@@ -1,13 +1,10 @@
 //! Making an empty volume.
-ghost use Rattle.std.specs.Prelude.{◌≡◌, ◌≤◌, ◌<◌, ◌+◌, ◌*◌, ◌↔◌, ◌⊎◌, ℕ, [], ◌∷◌, Some, OnOk, OnErr, IsErrOf};
+ghost use Rattle.std.specs.Prelude.{◌≡◌, ◌≤◌, ◌<◌, ◌↔◌, ◌⊎◌, ℕ, OnOk, OnErr, IsErrOf};
 ghost use Rattle.lfs_model.specs.Checkpoint.{IsSegmentCount, IsVersion, usage_blocks};
-ghost use Rattle.lfs_model.specs.Content.{Content, newest};
-ghost use Rattle.lfs_model.specs.Device.{Only, AllLeft, Carries, LeavesOnly, ComesFrom, SameOutside};
-ghost use Rattle.lfs_model.specs.Image.{first_checkpoint, new_form, IsNew};
-ghost use Rattle.lfs_model.specs.Tree.{Dir};
-ghost use Rattle.lfs_model.specs.TreeOf.{Stands};
-ghost use Rattle.lfs_model.specs.Volume.{mounted};
-ghost use Rattle.lfs_format.specs.Making.{AreClear, HasChunk, MayClearSlots, MayStand};
+ghost use Rattle.lfs_model.specs.Content.{Content};
+ghost use Rattle.lfs_model.specs.Device.{Only, Carries, LeavesOnly, ComesFrom, SameOutside};
+ghost use Rattle.lfs_model.specs.Reach.{segment_start};
+ghost use Rattle.lfs_format.specs.Making.{AreClear, HasChunk, HasMade, IsMaking, MayClearSlots, WritesChunk};
 
 use crate::fault::FormatFault;
 use crate::image::{
@@ -15,6 +12,7 @@ use crate::image::{
 };
 use lfs_device::{DeviceFault, SectorDevice};
 use lfs_layout::{is_segment_count, is_version};
+use lfs_model::limits::{CHECKPOINT_SLOTS, SEGMENT_SECTORS};
 use lfs_root::replace;
 
 /// Makes the device an empty volume of version 1 and of so many segments, as `format_version` does.
@@ -27,30 +25,14 @@ use lfs_root::replace;
 pub fn format<D: SectorDevice>(device: &mut D, segments: u32) -> Result<(), FormatFault>
     ensures inval { IsErrOf result FormatFault.Inval ↔ ¬ (IsSegmentCount segments) }
     ensures too_small { IsErrOf result FormatFault.TooSmall ↔ IsSegmentCount segments
-        × ((D.state device.old).size < 2 + 64 * segments) }
+        × ((D.state device.old).size < segment_start segments) }
     ensures refused { IsErrOf result FormatFault.Inval ⊎ IsErrOf result FormatFault.TooSmall
         → device.new ≡ device.old }
     ensures failed { IsErrOf result FormatFault.Device
         → (D.state device.old).failures < (D.state device.new).failures }
-    ensures no_failure { OnOk result
-        ((D.state device.new).failures ≡ (D.state device.old).failures) }
-    ensures image { OnOk result ((D.state device.new).keeps_model
-        → IsNew 1 segments (D.state device.new).content) }
-    ensures volume { OnOk result ((D.state device.new).keeps_model
-        → Stands (D.state device.new).content (mounted 1 ((1, Dir 0 []) ∷ []))) }
-    ensures checkpoint { OnOk result ((D.state device.new).keeps_model
-        → newest (D.state device.new).content ≡ Some (first_checkpoint 1 segments)) }
-    ensures durable { OnOk result ((D.state device.new).keeps_model
-        → Only (D.state device.new).content (D.state device.new)) }
-    ensures others { OnOk result ((D.state device.new).keeps_model
-        → SameOutside 0 (5 + usage_blocks segments) (D.state device.old).content
-        (D.state device.new).content) }
-    ensures any_moment { (D.state device.new).keeps_model
-        → LeavesOnly (D.state device.old) (D.state device.new)
-        (MayStand 1 segments (D.state device.old)) }
-    ensures touched { LeavesOnly (D.state device.old) (D.state device.new)
-        (ComesFrom (D.state device.old) (SameOutside 0 (5 + usage_blocks segments))) }
-    ensures carries { Carries (D.state device.old) (D.state device.new) }
+    ensures made { OnOk result
+        (HasMade 1 segments (D.state device.old) (D.state device.new)) }
+    ensures making { IsMaking 1 segments (D.state device.old) (D.state device.new) }
 {
     format_version(device, segments, 1)
 }
@@ -73,35 +55,19 @@ pub fn format_version<D: SectorDevice>(
     ensures inval { IsErrOf result FormatFault.Inval
         ↔ ¬ (IsSegmentCount segments × IsVersion version) }
     ensures too_small { IsErrOf result FormatFault.TooSmall ↔ IsSegmentCount segments
-        × IsVersion version × ((D.state device.old).size < 2 + 64 * segments) }
+        × IsVersion version × ((D.state device.old).size < segment_start segments) }
     ensures refused { IsErrOf result FormatFault.Inval ⊎ IsErrOf result FormatFault.TooSmall
         → device.new ≡ device.old }
     ensures failed { IsErrOf result FormatFault.Device
         → (D.state device.old).failures < (D.state device.new).failures }
-    ensures no_failure { OnOk result
-        ((D.state device.new).failures ≡ (D.state device.old).failures) }
-    ensures image { OnOk result ((D.state device.new).keeps_model
-        → IsNew version segments (D.state device.new).content) }
-    ensures volume { OnOk result ((D.state device.new).keeps_model
-        → Stands (D.state device.new).content (mounted version ((1, Dir (new_form version) []) ∷ []))) }
-    ensures checkpoint { OnOk result ((D.state device.new).keeps_model
-        → newest (D.state device.new).content ≡ Some (first_checkpoint version segments)) }
-    ensures durable { OnOk result ((D.state device.new).keeps_model
-        → Only (D.state device.new).content (D.state device.new)) }
-    ensures others { OnOk result ((D.state device.new).keeps_model
-        → SameOutside 0 (5 + usage_blocks segments) (D.state device.old).content
-        (D.state device.new).content) }
-    ensures any_moment { (D.state device.new).keeps_model
-        → LeavesOnly (D.state device.old) (D.state device.new)
-        (MayStand version segments (D.state device.old)) }
-    ensures touched { LeavesOnly (D.state device.old) (D.state device.new)
-        (ComesFrom (D.state device.old) (SameOutside 0 (5 + usage_blocks segments))) }
-    ensures carries { Carries (D.state device.old) (D.state device.new) }
+    ensures made { OnOk result
+        (HasMade version segments (D.state device.old) (D.state device.new)) }
+    ensures making { IsMaking version segments (D.state device.old) (D.state device.new) }
 {
     if !is_segment_count(segments) || !is_version(version) {
         return Err(FormatFault::Inval);
     }
-    if device.sectors() < 2 + 64 * segments {
+    if device.sectors() < CHECKPOINT_SLOTS + SEGMENT_SECTORS * segments {
         return Err(FormatFault::TooSmall);
     }
     match write_volume(device, version, segments) {
@@ -118,23 +84,11 @@ fn write_volume<D: SectorDevice>(
 ) -> Result<(), DeviceFault>
     requires known { IsVersion version }
     requires count { IsSegmentCount segments }
-    requires size { 2 + 64 * segments ≤ (D.state device.old).size }
-    ensures any_moment { (D.state device.new).keeps_model
-        → LeavesOnly (D.state device.old) (D.state device.new)
-        (MayStand version segments (D.state device.old)) }
-    ensures volume { OnOk result ((D.state device.new).keeps_model
-        → IsNew version segments (D.state device.new).content) }
-    ensures others { OnOk result ((D.state device.new).keeps_model
-        → SameOutside 0 (5 + usage_blocks segments) (D.state device.old).content
-        (D.state device.new).content) }
-    ensures durable { OnOk result ((D.state device.new).keeps_model
-        → Only (D.state device.new).content (D.state device.new)) }
+    requires size { segment_start segments ≤ (D.state device.old).size }
+    ensures made { OnOk result
+        (HasMade version segments (D.state device.old) (D.state device.new)) }
+    ensures making { IsMaking version segments (D.state device.old) (D.state device.new) }
     ensures failed { OnErr result ((D.state device.old).failures < (D.state device.new).failures) }
-    ensures no_failure { OnOk result
-        ((D.state device.new).failures ≡ (D.state device.old).failures) }
-    ensures touched { LeavesOnly (D.state device.old) (D.state device.new)
-        (ComesFrom (D.state device.old) (SameOutside 0 (5 + usage_blocks segments))) }
-    ensures carries { Carries (D.state device.old) (D.state device.new) }
 {
     clear_slots(device)?;
     write_chunk(device, version, segments)?;
@@ -145,7 +99,7 @@ fn write_volume<D: SectorDevice>(
 
 /// Clears both slots and syncs.
 fn clear_slots<D: SectorDevice>(device: &mut D) -> Result<(), DeviceFault>
-    requires { 2 ≤ (D.state device.old).size }
+    requires { CHECKPOINT_SLOTS ≤ (D.state device.old).size }
     ensures any_moment { LeavesOnly (D.state device.old) (D.state device.new)
         (ComesFrom (D.state device.old) MayClearSlots) }
     ensures clear { OnOk result ((D.state device.new).keeps_model
@@ -173,19 +127,14 @@ fn write_chunk<D: SectorDevice>(
 ) -> Result<(), DeviceFault>
     requires known { IsVersion version }
     requires count { IsSegmentCount segments }
-    requires size { 2 + 64 * segments ≤ (D.state device.old).size }
-    ensures any_moment { AllLeft (D.state device.old) AreClear
-        → LeavesOnly (D.state device.old) (D.state device.new) AreClear }
-    ensures left { AllLeft (D.state device.old) AreClear → AllLeft (D.state device.new) AreClear }
+    requires size { segment_start segments ≤ (D.state device.old).size }
+    ensures writes { WritesChunk segments (D.state device.old) (D.state device.new) }
     ensures chunk { OnOk result ((D.state device.new).keeps_model
         → HasChunk version segments (usage_blocks segments) (D.state device.old).content
         (D.state device.new).content) }
     ensures failed { OnErr result ((D.state device.old).failures < (D.state device.new).failures) }
     ensures no_failure { OnOk result
         ((D.state device.new).failures ≡ (D.state device.old).failures) }
-    ensures touched { LeavesOnly (D.state device.old) (D.state device.new)
-        (ComesFrom (D.state device.old) (SameOutside 0 (5 + usage_blocks segments))) }
-    ensures carries { Carries (D.state device.old) (D.state device.new) }
 {
     write_first_blocks(device, version, segments)?;
     write_later_usage(device, segments)?;
@@ -200,18 +149,13 @@ fn write_first_blocks<D: SectorDevice>(
 ) -> Result<(), DeviceFault>
     requires known { IsVersion version }
     requires count { IsSegmentCount segments }
-    requires size { 2 + 64 * segments ≤ (D.state device.old).size }
-    ensures any_moment { AllLeft (D.state device.old) AreClear
-        → LeavesOnly (D.state device.old) (D.state device.new) AreClear }
-    ensures left { AllLeft (D.state device.old) AreClear → AllLeft (D.state device.new) AreClear }
+    requires size { segment_start segments ≤ (D.state device.old).size }
+    ensures writes { WritesChunk segments (D.state device.old) (D.state device.new) }
     ensures chunk { OnOk result ((D.state device.new).keeps_model
         → HasChunk version segments 1 (D.state device.old).content (D.state device.new).content) }
     ensures failed { OnErr result ((D.state device.old).failures < (D.state device.new).failures) }
     ensures no_failure { OnOk result
         ((D.state device.new).failures ≡ (D.state device.old).failures) }
-    ensures touched { LeavesOnly (D.state device.old) (D.state device.new)
-        (ComesFrom (D.state device.old) (SameOutside 0 (5 + usage_blocks segments))) }
-    ensures carries { Carries (D.state device.old) (D.state device.new) }
 {
     device.write(2, &summary_block(segments))?;
     device.write(INODE, &root_block(version))?;
@@ -223,19 +167,14 @@ fn write_first_blocks<D: SectorDevice>(
 /// Writes the other usage blocks: none of their segments is in use.
 fn write_later_usage<D: SectorDevice>(device: &mut D, segments: u32) -> Result<(), DeviceFault>
     requires count { IsSegmentCount segments }
-    requires size { 2 + 64 * segments ≤ (D.state device.old).size }
-    ensures any_moment { AllLeft (D.state device.old) AreClear
-        → LeavesOnly (D.state device.old) (D.state device.new) AreClear }
-    ensures left { AllLeft (D.state device.old) AreClear → AllLeft (D.state device.new) AreClear }
+    requires size { segment_start segments ≤ (D.state device.old).size }
+    ensures writes { WritesChunk segments (D.state device.old) (D.state device.new) }
     ensures chunk { OnOk result ((D.state device.new).keeps_model → (version : ℕ) (before : Content)
         → HasChunk version segments 1 before (D.state device.old).content
         → HasChunk version segments (usage_blocks segments) before (D.state device.new).content) }
     ensures failed { OnErr result ((D.state device.old).failures < (D.state device.new).failures) }
     ensures no_failure { OnOk result
         ((D.state device.new).failures ≡ (D.state device.old).failures) }
-    ensures touched { LeavesOnly (D.state device.old) (D.state device.new)
-        (ComesFrom (D.state device.old) (SameOutside 0 (5 + usage_blocks segments))) }
-    ensures carries { Carries (D.state device.old) (D.state device.new) }
 {
     for index in 1..usage_count(segments) {
         device.write(USAGE + index, &[0; 512])?;

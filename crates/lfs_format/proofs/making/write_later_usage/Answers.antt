@@ -1,16 +1,22 @@
-use Rattle.std.proofs.Common.{◌+◌, ◌<◌, length, ◌∙◌, arith}
+use Rattle.std.proofs.Common.{◌+◌, ◌<◌, length, refl, ◌∙◌, arith}
 use Rattle.lfs_model.specs.Checkpoint.{usage_blocks}
-use Rattle.lfs_model.proofs.Moments.{carries_then}
-use Rattle.lfs_format.proofs.FirstMoments.{touches_write}
-use Rattle.lfs_format.proofs.FirstWrites.{chunk_write, chunk_more}
+use Rattle.lfs_format.proofs.FirstMoments.{writes_none, writes_write}
+use Rattle.lfs_format.proofs.FirstWrites.{chunk_more}
 use Rattle.lfs_format.proofs.making.write_later_usage.Goals as goal
 
-pub returns-in_err-write-clause-touched : goal.returns-in_err-write-clause-touched
-returns-in_err-write-clause-touched g c =
+pub loop-index-init : goal.loop-index-init
+loop-index-init g c = record {
+  writes = writes_none c.args.segments _ (g.met.D.SectorDevice.lawful c.args.device.now);
+  chunk = λ keeps version before first. first;
+  failures = refl;
+}
+
+pub returns-in_err-write-clause-writes : goal.returns-in_err-write-clause-writes
+returns-in_err-write-clause-writes g c =
     let low : 5 + c.loop-index.index < 5 + usage_blocks c.args.segments =
     omega (arith, c.usage_count-index-end.ensures, c.loop-index-test.true) in
-    touches_write (5 + usage_blocks c.args.segments) _ _ _ (5 + c.loop-index.index) _ low (g.met.D.SectorDevice.lawful c.loop-index.device)
-    c.loop-index.invariant.touched c.write.ensures.crash c.write.ensures.carries c.write.ensures.time
+    writes_write c.args.segments _ _ _ (5 + c.loop-index.index) _ (omega arith) low (g.met.D.SectorDevice.lawful c.loop-index.device)
+    c.loop-index.invariant.writes c.write.ensures.crash c.write.ensures.carries c.write.ensures.time
 
 pub loop-index-preserved : goal.loop-index-preserved
 loop-index-preserved g c =
@@ -18,8 +24,8 @@ loop-index-preserved g c =
     let low : 5 + c.loop-index.index < 5 + usage_blocks c.args.segments =
     omega (arith, c.usage_count-index-end.ensures, c.loop-index-test.true) in
     record {
-      run = chunk_write _ _ _ (5 + c.loop-index.index) _ (omega arith) so_far.run c.write.ensures.crash c.write.ensures.carries
-          c.write.ensures.time;
+      writes = writes_write c.args.segments _ _ _ (5 + c.loop-index.index) _ (omega arith) low (g.met.D.SectorDevice.lawful
+          c.loop-index.device) so_far.writes c.write.ensures.crash c.write.ensures.carries c.write.ensures.time;
       chunk = λ keeps version before first.
           let room : 5 + c.loop-index.index < length before =
           omega (
@@ -34,8 +40,5 @@ loop-index-preserved g c =
           ) in
           chunk_more version c.args.segments c.loop-index.index before _ _ (omega (arith, c.loop-index.auto.index)) room
           (so_far.chunk (c.write.ensures.carries.kept_before keeps) version before first) (c.in_ok-write.ensures.written keeps);
-      touched = touches_write (5 + usage_blocks c.args.segments) _ _ _ (5 + c.loop-index.index) _ low (g.met.D.SectorDevice.lawful
-          c.loop-index.device) so_far.touched c.write.ensures.crash c.write.ensures.carries c.write.ensures.time;
       failures = c.in_ok-write.ensures.no_failure ∙ so_far.failures;
-      carries = carries_then _ _ _ so_far.carries c.write.ensures.carries;
     }

@@ -1,10 +1,6 @@
-use Rattle.std.proofs.Common.{◌≡◌, ◌+◌, ℕ}
+use Rattle.std.proofs.Common.{◌≡◌, ℕ}
 use Rattle.lfs_model.specs.Content.{Content}
-use Rattle.lfs_model.specs.Device.{Carries}
-use Rattle.lfs_model.specs.Checkpoint.{usage_blocks}
-use Rattle.lfs_format.specs.Making.{HasChunk}
-use Rattle.lfs_format.proofs.FirstMoments.{Touches}
-use Rattle.lfs_format.proofs.FirstWrites.{Chunk}
+use Rattle.lfs_format.specs.Making.{HasChunk, WritesChunk}
 use Rattle.lfs_format.proofs.making.write_later_usage.Given as goal
 
 abbrev pub invariant-loop-index : goal.invariant-loop-index
@@ -12,10 +8,8 @@ invariant-loop-index g l =
     let old = g.D.SectorDevice.state l.initial.device in
     let now = g.D.SectorDevice.state l.device in
     record {
-      run : Chunk old now;
+      writes : WritesChunk l.segments old now;
       chunk : now.keeps_model → (version : ℕ) (before : Content) → HasChunk version l.segments 1 before old.content
           → HasChunk version l.segments l.index before now.content;
-      touched : Touches (5 + usage_blocks l.segments) old now;
       failures : now.failures ≡ old.failures;
-      carries : Carries old now;
     }
