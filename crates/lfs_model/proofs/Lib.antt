@@ -121,3 +121,5 @@ pub mod MetasCounted
 pub mod Marking
 pub mod Raising
 pub mod Exits
+pub mod NodeSums
+pub mod RowPlaces
