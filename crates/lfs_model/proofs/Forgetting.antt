@@ -1,22 +1,20 @@
 -- What a mount finds after a stop is sound: the nodes without a name are gone, and no handle is open.
-use Rattle.std.proofs.Common.{◌≡◌, ◌≢◌, refl, sym, ap, ◌∙◌, ℕ, ◌+◌, ◌≤◌, Bool, true, false, ◌||◌, List, [], Option, Some, None, arith, cond}
+use Rattle.std.proofs.Common.{◌≡◌, ◌≢◌, refl, sym, ap, ◌∙◌, ℕ, ◌≤◌, Bool, true, false, ◌||◌, List, [], Option, Some, None, arith, cond}
 use Rattle.std.proofs.Common.{inl, inr, eqb, ◌⊎◌}
-use Rattle.std.specs.Prelude.{count_by, unwrap_or, ◌==◌, not, filter}
-use Rattle.std.proofs.Math.Path.{fun_ext}
+use Rattle.std.specs.Prelude.{unwrap_or, ◌==◌, not, filter}
 use Rattle.std.proofs.lemmas.Bool.{eqb-true, eq-eqb}
 use Rattle.std.proofs.lemmas.Bool.Decides.{nat_tests}
 use Rattle.std.specs.Ordering.{nat_cmp}
 use Rattle.std.specs.Cmp.{ranked}
 use Rattle.std.specs.declared.cmp.Ordering.TheVariants.{Equal}
 use Rattle.std.proofs.lemmas.Cmp.{nat_cmp_total}
-use Rattle.std.specs.FinMap.{find}
 use Rattle.std.specs.FinMap.Entries.{find-where_key, is_sorted-where_key}
-use Rattle.lfs_model.specs.Tree.{Tree, Names, Node, File, Dir, Link, State, node, names_of, is_dir, entry, byte_cmp, names, links, links_at}
+use Rattle.lfs_model.specs.Tree.{Tree, Node, File, State, node, names_of, names_in, is_dir, entry, names, links, links_at}
 use Rattle.lfs_model.specs.Tree.{drop_nameless}
 use Rattle.lfs_model.specs.Need.{need, data_of, meta_of}
-use Rattle.lfs_model.specs.Sound.{Sound, IsReachable, root, below, IsFile}
+use Rattle.lfs_model.specs.Sound.{Sound, IsFile}
 use Rattle.lfs_model.proofs.Sums.{total_filter, total_filter-le}
-use Rattle.lfs_model.proofs.Growing.{gives}
+use Rattle.lfs_model.proofs.Alike.{gives, links_of_names, same_entries, same_reached}
 use Rattle.lfs_model.proofs.Shrinking.{named_counts}
 
 module _ (N : ℕ) (s : State) (sound : Sound N s) where
@@ -67,11 +65,8 @@ module _ (N : ℕ) (s : State) (sound : Sound N s) where
   dirs : (q : ℕ) → is_dir (node t' q) ≡ is_dir (node t q)
   dirs = unseen is_dir (λ b. refl)
 
-  abbrev names_at : Option Node → Names
-  names_at o = names_of (unwrap_or o (File []))
-
-  entries : (q : ℕ) (x : List ℕ) → entry t' q x ≡ entry t q x
-  entries q x = ap (find byte_cmp x) (unseen names_at (λ b. refl) q)
+  lists : (q : ℕ) → names_in t' q ≡ names_in t q
+  lists = unseen (λ (o : Option Node). names_of (unwrap_or o (File []))) (λ b. refl)
 
   pub same_names : (q : ℕ) → names t' q ≡ names t q
   same_names q = total_filter nat_cmp_total (gives q) stays t sound.in_order (λ k x is h. elim (goes_file k h) as (λ _. gives q x ≡ 0) [
@@ -82,10 +77,6 @@ module _ (N : ℕ) (s : State) (sound : Sound N s) where
       some_is : {x y : Node} → Some x ≡ Some y → x ≡ y
       some_is e = cc
 
-  subdirs : (ms : Names) → count_by (λ x. is_dir (node t' x.1)) ms ≡ count_by (λ x. is_dir (node t x.1)) ms
-  subdirs ms = let f : (λ (q : ℕ). is_dir (node t' q)) ≡ (λ (q : ℕ). is_dir (node t q)) = fun_ext dirs in
-      ap (λ (f : ℕ → Bool). count_by (λ (x : List ℕ × ℕ). f x.1) ms) f
-
   pub there : (q : ℕ) → node t' q ≢ None → stays q ≡ true
   there q some = either q (λ h. h) (λ h. absurd (some (gone q h)))
 
@@ -93,13 +84,7 @@ module _ (N : ℕ) (s : State) (sound : Sound N s) where
   was_there q some none = some (kept q (there q some) ∙ none)
 
   pub same_links : (q : ℕ) → stays q ≡ true → links t' q ≡ links t q
-  same_links q h = ap (links_at t' q) (kept q h) ∙ by (node t q)
-    where
-      by : (o : Option Node) → links_at t' q o ≡ links_at t q o
-      by None = same_names q
-      by (Some (File b)) = same_names q
-      by (Some (Link text)) = same_names q
-      by (Some (Dir f ms)) = ap (λ c. 2 + c) (subdirs ms)
+  same_links q h = ap (links_at t' q) (kept q h) ∙ links_of_names t t' dirs q (same_names q) (node t q)
 
   -- what has a name stays
   named_stays : (k : ℕ) → 1 ≤ names t k → stays k ≡ true
@@ -108,10 +93,6 @@ module _ (N : ℕ) (s : State) (sound : Sound N s) where
       by : (a b : Bool) → b ≡ false → (a || not b) ≡ true
       by true b e = refl
       by false b e = ap not e
-
-  reached_kept : {q : ℕ} → IsReachable t q → IsReachable t' q
-  reached_kept root = root
-  reached_kept (below x r e) = below x (reached_kept r) (entries _ x ∙ e)
 
   less_need : need t' ≤ need t
   less_need = let a = total_filter-le nat_cmp_total data_of stays t in let b = total_filter-le nat_cmp_total meta_of stays t in
@@ -137,11 +118,11 @@ module _ (N : ℕ) (s : State) (sound : Sound N s) where
     limits = λ q x h. sound.limits q x (sym (kept q (there q (λ none. cc))) ∙ h);
     few_links = λ q some. (let same = same_links q (there q some) in let few = sound.few_links q (was_there q some) in omega arith);
     named = λ q x k e none. (
-        let one : entry t q x ≡ Some k = sym (entries q x) ∙ e in
+        let one : entry t q x ≡ Some k = sym (same_entries t t' lists q x) ∙ e in
         sound.named q x k one (sym (kept k (named_stays k (named_counts t q x k one))) ∙ none));
     root_unnamed = same_names 1 ∙ sound.root_unnamed;
     one_name = λ q ne dir. same_names q ∙ sound.one_name q ne (sym (dirs q) ∙ dir);
-    reached = λ q dir. reached_kept (sound.reached q (sym (dirs q) ∙ dir));
+    reached = λ q dir. same_reached t t' lists (sound.reached q (sym (dirs q) ∙ dir));
     held = λ q ne some none. absurd (nameless q ne (there q some) (sym (same_names q) ∙ none));
     handles = λ h q e. absurd (cc e);
     room = let less = less_need in let fits = sound.room in omega arith;

@@ -2,7 +2,6 @@
 use Rattle.std.proofs.Common.{◌≡◌, ◌≢◌, refl, sym, ap, subst, ◌∙◌, ℕ, ◌+◌, Bool, true, false, List, [], Option, Some, None, arith, cond}
 use Rattle.std.proofs.Common.{inl, inr, eqb, ◌⊎◌}
 use Rattle.std.specs.Prelude.{T, count_by, unwrap_or, if◌then◌else◌, ◌==◌}
-use Rattle.std.proofs.Math.Path.{fun_ext}
 use Rattle.std.specs.Ordering.{nat_cmp, eq_by_cmp, is_eq}
 use Rattle.std.specs.declared.cmp.Ordering.TheVariants.{Less, Equal, Greater}
 use Rattle.std.specs.Cmp.Lexicographic.{nat_list_cmp_total}
@@ -17,7 +16,7 @@ use Rattle.lfs_model.specs.Sound.{IsReachable, root, below}
 use Rattle.lfs_model.proofs.Walks.{Some-injective}
 use Rattle.lfs_model.proofs.Sums.{total_put, weight}
 use Rattle.lfs_model.proofs.Trees.{find_here, find_other}
-use Rattle.lfs_model.proofs.Growing.{same_or_not, gives}
+use Rattle.lfs_model.proofs.Alike.{same_or_not, same_subdirs, gives}
 
 module _ (t : Tree) (d n form : ℕ) (m : Names) (nm : List ℕ) (in_order : T (is_sorted nat_cmp t)) (is : node t d ≡ Some (Dir form m))
     (dir_order : T (is_sorted byte_cmp m)) (absent : find byte_cmp nm m ≡ None) where
@@ -100,16 +99,12 @@ module _ (t : Tree) (d n form : ℕ) (m : Names) (nm : List ℕ) (in_order : T (
       entry_dir x ∙ ap (λ b. cond b (Some n) (find byte_cmp x m)) (tied x k found) ∙ found) e)
       (λ ne. ap (λ o. find byte_cmp x (names_at o)) (at_other q ne) ∙ e)
 
-  subdirs : (ms : Names) → count_by (λ x. is_dir (node after x.1)) ms ≡ count_by (λ x. is_dir (node t x.1)) ms
-  subdirs ms = let f : (λ (q : ℕ). is_dir (node after q)) ≡ (λ (q : ℕ). is_dir (node t q)) = fun_ext dirs in
-      ap (λ (f : ℕ → Bool). count_by (λ (x : List ℕ × ℕ). f x.1) ms) f
-
   -- the directory has one link more where the name gives a directory
   pub links_dir : links after d ≡ links t d + (if is_dir (node t n) then 1 else 0)
   links_dir =
       let more = counted (λ q. is_dir (node t q)) in
       let now : links after d ≡ 2 + count_by (λ x. is_dir (node t x.1)) (put byte_cmp nm n m) = ap (links_at after d) at_dir
-      ∙ ap (λ c. 2 + c) (subdirs (put byte_cmp nm n m)) in
+      ∙ ap (λ c. 2 + c) (same_subdirs t after dirs (put byte_cmp nm n m)) in
       let was : links t d ≡ 2 + count_by (λ x. is_dir (node t x.1)) m = ap (links_at t d) is in
       omega (arith, more, now, was)
 
@@ -125,7 +120,7 @@ module _ (t : Tree) (d n form : ℕ) (m : Names) (nm : List ℕ) (in_order : T (
       by None h = leaf None refl h
       by (Some (File b)) h = leaf (Some (File b)) refl h
       by (Some (Link text)) h = leaf (Some (Link text)) refl h
-      by (Some (Dir f ms)) h = ap (λ c. 2 + c) (subdirs ms)
+      by (Some (Dir f ms)) h = ap (λ c. 2 + c) (same_subdirs t after dirs ms)
 
   pub reached_kept : {q : ℕ} → IsReachable t q → IsReachable after q
   reached_kept root = root

@@ -1,29 +1,19 @@
 -- A tree with a new name in a directory that gives a new file or link.
-use Rattle.std.proofs.Common.{◌≡◌, ◌≢◌, refl, sym, ap, subst, ◌∙◌, ℕ, ◌+◌, Bool, true, false, List, [], Option, Some, None, arith, cond}
-use Rattle.std.proofs.Common.{inl, inr, eqb, ◌⊎◌, add-zero}
+use Rattle.std.proofs.Common.{◌≡◌, ◌≢◌, refl, sym, ap, subst, ◌∙◌, ℕ, ◌+◌, false, List, [], Option, Some, None, arith}
+use Rattle.std.proofs.Common.{inl, ◌⊎◌, add-zero}
 use Rattle.std.specs.Prelude.{T, count_by, unwrap_or, if◌then◌else◌, ◌==◌}
-use Rattle.std.proofs.Math.Path.{fun_ext}
-use Rattle.std.specs.Ordering.{nat_cmp, eq_by_cmp, is_eq}
-use Rattle.std.specs.declared.cmp.Ordering.TheVariants.{Less, Equal, Greater}
+use Rattle.std.specs.Ordering.{nat_cmp}
 use Rattle.lfs_model.specs.Tree.{Tree, Names, Node, File, Dir, Link, node, with_node, names_in, names_of, is_dir, entry, byte_cmp, names}
 use Rattle.lfs_model.specs.Tree.{links, links_at}
-use Rattle.lfs_model.specs.Sound.{IsReachable, root, below}
-use Rattle.std.specs.Cmp.Lexicographic.{nat_list_cmp_total}
+use Rattle.lfs_model.specs.Sound.{IsReachable}
 use Rattle.std.proofs.lemmas.Cmp.{nat_cmp_total}
-use Rattle.std.proofs.lemmas.Bool.Decides.{eqb_tells, nat_tests}
 use Rattle.std.specs.FinMap.{find, put, is_sorted}
-use Rattle.std.specs.FinMap.Entries.{is_sorted-put, find-put, find_tied}
-use Rattle.lfs_model.proofs.Walks.{Some-injective}
+use Rattle.std.specs.FinMap.Entries.{is_sorted-put}
 use Rattle.lfs_model.proofs.Sums.{total_put, weight}
 use Rattle.lfs_model.proofs.Trees.{find_here, find_other}
-
--- what a number has under a test
-pub same_or_not : (a b : ℕ) {P : Type 0} → (a ≡ b → P) → (a ≢ b → P) → P
-same_or_not a b {P} f g = elim (eqb_tells a b) as (λ _. P) [ inl h ↦ f h.1 | inr h ↦ g h.1 ]
-
--- how many names of a directory give q
-abbrev pub gives : ℕ → Node → ℕ
-gives q x = count_by (λ e. e.1 == q) (names_of x)
+use Rattle.lfs_model.proofs.Alike.{links_of_names, same_entries, same_reached}
+use Rattle.lfs_model.proofs.Gaining as named
+pub use Rattle.lfs_model.proofs.Alike.{same_or_not, gives}
 
 -- ---- what a file or a link has
 
@@ -46,17 +36,17 @@ module _ (t : Tree) (d n form : ℕ) (m : Names) (nm : List ℕ) (made : Node) (
   abbrev pub grown : Node
   grown = Dir form (put byte_cmp nm n m)
 
-  abbrev pub mid : Tree
+  abbrev mid : Tree
   mid = with_node t d grown
 
   abbrev pub after : Tree
   after = with_node mid n made
 
-  pub other : d ≢ n
+  other : d ≢ n
   other e = let a : node t n ≡ Some (Dir form m) = subst (λ x. node t x ≡ Some (Dir form m)) e is in let b = fresh in cc
 
-  pub mid_order : T (is_sorted nat_cmp mid)
-  mid_order = is_sorted-put nat_cmp nat_cmp_total d grown t in_order
+  mid_order : T (is_sorted nat_cmp mid)
+  mid_order = named.after_order t d n form m nm in_order is dir_order absent
 
   pub after_order : T (is_sorted nat_cmp after)
   after_order = is_sorted-put nat_cmp nat_cmp_total n made mid mid_order
@@ -64,119 +54,63 @@ module _ (t : Tree) (d n form : ℕ) (m : Names) (nm : List ℕ) (made : Node) (
   pub at_new : node after n ≡ Some made
   at_new = find_here mid n made
 
+  not_yet : node mid n ≡ None
+  not_yet = named.at_other t d n form m nm in_order is dir_order absent n (λ e. other (sym e)) ∙ fresh
+
   pub at_dir : node after d ≡ Some grown
-  at_dir = find_other mid n made d other ∙ find_here t d grown
+  at_dir = find_other mid n made d other ∙ named.at_dir t d n form m nm in_order is dir_order absent
 
   pub at_other : (q : ℕ) → q ≢ n → q ≢ d → node after q ≡ node t q
-  at_other q a b = find_other mid n made q a ∙ find_other t d grown q b
+  at_other q a b = find_other mid n made q a ∙ named.at_other t d n form m nm in_order is dir_order absent q b
+
+  -- ---- the new node is no directory and names nothing
+  unseen : {A : Type 0} (f : Option Node → A) → f (Some made) ≡ f None → (q : ℕ) → f (node after q) ≡ f (node mid q)
+  unseen f same q = same_or_not q n
+      (λ e. subst (λ x. f (node after x) ≡ f (node mid x)) (sym e) (ap f at_new ∙ same ∙ sym (ap f not_yet)))
+      (λ a. ap f (find_other mid n made q a))
+
+  same_dirs : (q : ℕ) → is_dir (node after q) ≡ is_dir (node mid q)
+  same_dirs = unseen is_dir leaf
+
+  lists : (q : ℕ) → names_in after q ≡ names_in mid q
+  lists = unseen (λ (o : Option Node). names_of (unwrap_or o (File []))) (leaf_names made leaf)
+
+  same_names : (q : ℕ) → names after q ≡ names mid q
+  same_names q =
+      let all = total_put nat_cmp_total (gives q) n made mid mid_order in
+      let no_more = leaf_gives q made leaf in
+      let none : weight nat_cmp_total (gives q) (node mid n) ≡ 0 = ap (weight nat_cmp_total (gives q)) not_yet in
+      omega (arith, all, no_more, none)
+
+  same_links : (q : ℕ) → q ≢ n → links after q ≡ links mid q
+  same_links q a = ap (links_at after q) (find_other mid n made q a) ∙ links_of_names mid after same_dirs q (same_names q) (node mid q)
 
   -- the directories are the same
   pub dirs : (q : ℕ) → is_dir (node after q) ≡ is_dir (node t q)
-  dirs q = same_or_not q n
-      (λ e. subst (λ x. is_dir (node after x) ≡ is_dir (node t x)) (sym e) (ap is_dir at_new ∙ leaf ∙ sym (ap is_dir fresh)))
-      (λ a. same_or_not q d
-      (λ e. subst (λ x. is_dir (node after x) ≡ is_dir (node t x)) (sym e) (ap is_dir at_dir ∙ sym (ap is_dir is)))
-      (λ b. ap is_dir (at_other q a b)))
-
-  -- a directory's counts with the new name
-  counted : (f : ℕ → Bool) → count_by (λ e. f e.1) (put byte_cmp nm n m) ≡ count_by (λ e. f e.1) m + (if f n then 1 else 0)
-  counted f =
-      let all = total_put nat_list_cmp_total (λ v. if f v then 1 else 0) nm n m dir_order in
-      let zero_before : weight nat_list_cmp_total (λ v. if f v then 1 else 0) (find byte_cmp nm m) ≡ 0 =
-      ap (weight nat_list_cmp_total (λ v. if f v then 1 else 0)) absent in
-      omega (arith, all, zero_before)
-
-  pub names_after : (q : ℕ) → names after q ≡ names t q + (if n == q then 1 else 0)
-  names_after q =
-      let one = total_put nat_cmp_total (gives q) d grown t in_order in
-      let two = total_put nat_cmp_total (gives q) n made mid mid_order in
-      let no_more = leaf_gives q made leaf in
-      let was : weight nat_cmp_total (gives q) (node t d) ≡ gives q (Dir form m) = ap (weight nat_cmp_total (gives q)) is in
-      let none : weight nat_cmp_total (gives q) (node mid n) ≡ 0 =
-      ap (weight nat_cmp_total (gives q)) (find_other t d grown n (λ e. other (sym e)) ∙ fresh) in
-      let more = counted (λ v. v == q) in
-      omega (arith, one, two, no_more, was, none, more)
+  dirs q = same_dirs q ∙ named.dirs t d n form m nm in_order is dir_order absent q
 
   pub names_kept : (q : ℕ) → q ≢ n → names after q ≡ names t q
-  names_kept q ne = let no : eqb n q ≡ false = grind (arith, nat_tests) in names_after q ∙ rw no (omega arith)
+  names_kept q ne = same_names q ∙ named.names_kept t d n form m nm in_order is dir_order absent q ne
 
   pub names_new : names after n ≡ names t n + 1
-  names_new = let yes : eqb n n ≡ true = grind (arith, nat_tests) in names_after n ∙ rw yes refl
-
-  -- the names in a directory
-  nodes_names : Option Node → Names
-  nodes_names o = names_of (unwrap_or o (File []))
-
-  names_in_other : (q : ℕ) → q ≢ d → names_in after q ≡ names_in t q
-  unfolding nodes_names
-  names_in_other q ne = same_or_not q n
-      (λ e.
-      subst (λ x. names_in after x ≡ names_in t x) (sym e) (ap nodes_names at_new ∙ leaf_names made leaf ∙ sym (ap nodes_names fresh)))
-      (λ a. ap nodes_names (at_other q a ne))
-
-  names_in_dir : names_in after d ≡ put byte_cmp nm n m
-  unfolding nodes_names
-  names_in_dir = ap nodes_names at_dir
-
-  names_were : names_in t d ≡ m
-  unfolding nodes_names
-  names_were = ap nodes_names is
-
-  pub entry_dir : (x : List ℕ) → entry after d x ≡ cond (eq_by_cmp byte_cmp x nm) (Some n) (find byte_cmp x m)
-  entry_dir x = ap (find byte_cmp x) names_in_dir ∙ find-put byte_cmp nat_list_cmp_total x nm n m
-
-  entry_was : (x : List ℕ) → entry t d x ≡ find byte_cmp x m
-  entry_was x = ap (find byte_cmp x) names_were
+  names_new = same_names n ∙ named.names_more t d n form m nm in_order is dir_order absent
 
   pub entry_after : (q : ℕ) (x : List ℕ) (k : ℕ) → entry after q x ≡ Some k → (k ≡ n) ⊎ (entry t q x ≡ Some k)
-  entry_after q x k e = same_or_not q d
-      (λ at. subst (λ y. entry after y x ≡ Some k → (k ≡ n) ⊎ (entry t y x ≡ Some k)) (sym at) (λ e.
-      elim (eq_by_cmp byte_cmp x nm) as (λ b. cond b (Some n) (find byte_cmp x m) ≡ Some k → (k ≡ n) ⊎ (entry t d x ≡ Some k)) [
-        | true ↦ λ h. inl (sym (Some-injective n k h))
-        | false ↦ λ h. inr (entry_was x ∙ h)
-      ] (sym (entry_dir x) ∙ e)) e)
-      (λ ne. inr (sym (ap (find byte_cmp x) (names_in_other q ne)) ∙ e))
-
-  tied_names : (x : List ℕ) (k : ℕ) → find byte_cmp x m ≡ Some k → eq_by_cmp byte_cmp x nm ≡ false
-  tied_names x k e = elim (byte_cmp x nm) as (λ r. byte_cmp x nm ≡ r → is_eq r ≡ false) [
-    | Less ↦ λ _. refl
-    | Equal ↦ λ tie. absurd (let same : find byte_cmp nm m ≡ find byte_cmp x m = find_tied byte_cmp nat_list_cmp_total x nm tie m in
-        let a = absent in cc)
-    | Greater ↦ λ _. refl
-  ] refl
-
-  pub entry_kept : (q : ℕ) (x : List ℕ) (k : ℕ) → entry t q x ≡ Some k → entry after q x ≡ Some k
-  entry_kept q x k e = same_or_not q d
-      (λ at. subst (λ y. entry t y x ≡ Some k → entry after y x ≡ Some k) (sym at) (λ e.
-      let found : find byte_cmp x m ≡ Some k = sym (entry_was x) ∙ e in
-      entry_dir x ∙ ap (λ b. cond b (Some n) (find byte_cmp x m)) (tied_names x k found) ∙ found) e)
-      (λ ne. ap (find byte_cmp x) (names_in_other q ne) ∙ e)
-
-  subdirs_same : (ms : Names) → count_by (λ x. is_dir (node after x.1)) ms ≡ count_by (λ x. is_dir (node t x.1)) ms
-  subdirs_same ms = let f : (λ (q : ℕ). is_dir (node after q)) ≡ (λ (q : ℕ). is_dir (node t q)) = fun_ext dirs in
-      ap (λ (f : ℕ → Bool). count_by (λ (x : List ℕ × ℕ). f x.1) ms) f
+  entry_after q x k e =
+      named.entry_after t d n form m nm in_order is dir_order absent q x k (sym (same_entries mid after lists q x) ∙ e)
 
   pub links_dir : links after d ≡ links t d
   links_dir =
       let new : is_dir (node t n) ≡ false = ap is_dir fresh in
-      let more = counted (λ q. is_dir (node t q)) in
-      ap (links_at after d) at_dir ∙ ap (λ c. 2 + c) (subdirs_same (put byte_cmp nm n m) ∙ more
-      ∙ ap (λ b. count_by (λ x. is_dir (node t x.1)) m + (if b then 1 else 0)) new ∙ add-zero _)
-      ∙ sym (ap (links_at t d) is)
+      same_links d other ∙ named.links_dir t d n form m nm in_order is dir_order absent
+      ∙ ap (λ b. links t d + (if b then 1 else 0)) new ∙ add-zero _
 
   pub links_other : (q : ℕ) → q ≢ n → q ≢ d → links after q ≡ links t q
-  links_other q a b = ap (links_at after q) (at_other q a b) ∙ links_by (node t q)
-    where
-      links_by : (o : Option Node) → links_at after q o ≡ links_at t q o
-      links_by None = names_kept q a
-      links_by (Some (File b)) = names_kept q a
-      links_by (Some (Link text)) = names_kept q a
-      links_by (Some (Dir f ms)) = ap (λ c. 2 + c) (subdirs_same ms)
+  links_other q a b = same_links q a ∙ named.links_other t d n form m nm in_order is dir_order absent q b (inl a)
 
   pub links_new : links after n ≡ names t n + 1
   links_new = ap (links_at after n) at_new ∙ leaf_links after n made leaf ∙ names_new
 
   -- what is reached stays so
   pub reached_kept : {q : ℕ} → IsReachable t q → IsReachable after q
-  reached_kept root = root
-  reached_kept (below x r e) = below x (reached_kept r) (entry_kept _ x _ e)
+  reached_kept r = same_reached mid after lists (named.reached_kept t d n form m nm in_order is dir_order absent r)

@@ -121,5 +121,6 @@ pub mod MetasCounted
 pub mod Marking
 pub mod Raising
 pub mod Exits
+pub mod Alike
 pub mod NodeSums
 pub mod RowPlaces

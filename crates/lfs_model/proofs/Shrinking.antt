@@ -2,7 +2,6 @@
 use Rattle.std.proofs.Common.{◌≡◌, ◌≢◌, refl, sym, ap, subst, ◌∙◌, ℕ, ◌+◌, ◌≤◌, Bool, true, false, List, [], Option, Some, None, arith}
 use Rattle.std.proofs.Common.{cond, eqb}
 use Rattle.std.specs.Prelude.{T, count_by, unwrap_or, if◌then◌else◌, ◌==◌}
-use Rattle.std.proofs.Math.Path.{fun_ext}
 use Rattle.std.specs.Ordering.{nat_cmp, eq_by_cmp, is_eq}
 use Rattle.std.specs.declared.cmp.Ordering.TheVariants.{Less, Equal, Greater}
 use Rattle.std.specs.Cmp.Lexicographic.{nat_list_cmp_total}
@@ -15,7 +14,7 @@ use Rattle.lfs_model.specs.Tree.{names, links, links_at}
 use Rattle.lfs_model.specs.Sound.{IsReachable, root, below}
 use Rattle.lfs_model.proofs.Sums.{total_put, total_without, weight, find_without, weight-le-total}
 use Rattle.lfs_model.proofs.Trees.{find_here, find_other}
-use Rattle.lfs_model.proofs.Growing.{same_or_not, gives}
+use Rattle.lfs_model.proofs.Alike.{same_or_not, same_subdirs, gives}
 
 -- an entry counts among the names of what it gives
 pub named_counts : (t : Tree) (q : ℕ) (x : List ℕ) (k : ℕ) → entry t q x ≡ Some k → 1 ≤ names t k
@@ -123,10 +122,6 @@ module _ (t : Tree) (d n form : ℕ) (m : Names) (nm : List ℕ)
       entry_dir x ∙ ap (λ b. cond b None (find byte_cmp x m)) (tied x k apart here) ∙ here) e)
       (λ ne. ap (find byte_cmp x) (names_in_other q ne) ∙ e)
 
-  subdirs_same : (ms : Names) → count_by (λ x. is_dir (node after x.1)) ms ≡ count_by (λ x. is_dir (node t x.1)) ms
-  subdirs_same ms = let f : (λ (q : ℕ). is_dir (node after q)) ≡ (λ (q : ℕ). is_dir (node t q)) = fun_ext dirs in
-      ap (λ (f : ℕ → Bool). count_by (λ (x : List ℕ × ℕ). f x.1) ms) f
-
   names_less : (q : ℕ) → names after q ≤ names t q
   names_less q = let e = names_after q in omega arith
 
@@ -135,7 +130,7 @@ module _ (t : Tree) (d n form : ℕ) (m : Names) (nm : List ℕ)
       (λ e. subst (λ x. links after x ≤ links t x) (sym e) (
       let fewer = counted (λ q. is_dir (node t q)) in
       let now : links after d ≡ 2 + count_by (λ x. is_dir (node t x.1)) (without byte_cmp nm m) = ap (links_at after d) at_dir
-      ∙ ap (λ c. 2 + c) (subdirs_same (without byte_cmp nm m)) in
+      ∙ ap (λ c. 2 + c) (same_subdirs t after dirs (without byte_cmp nm m)) in
       let was : links t d ≡ 2 + count_by (λ x. is_dir (node t x.1)) m = ap (links_at t d) is in
       omega (arith, fewer, now, was)))
       (λ b. subst (λ k. k ≤ links t q) (sym (ap (links_at after q) (at_other q b))) (by (node t q)))
@@ -144,7 +139,7 @@ module _ (t : Tree) (d n form : ℕ) (m : Names) (nm : List ℕ)
       by None = names_less q
       by (Some (File b)) = names_less q
       by (Some (Link text)) = names_less q
-      by (Some (Dir f ms)) = let e = subdirs_same ms in omega (arith, e)
+      by (Some (Dir f ms)) = let e = same_subdirs t after dirs ms in omega (arith, e)
 
   -- a directory less
   pub links_lost : is_dir (node t n) ≡ true → links after d + 1 ≡ links t d
@@ -152,7 +147,7 @@ module _ (t : Tree) (d n form : ℕ) (m : Names) (nm : List ℕ)
       let fewer = counted (λ q. is_dir (node t q)) in
       let one : ◌≡◌ {A = ℕ} (if is_dir (node t n) then 1 else 0) 1 = ap (λ (b : Bool). if b then 1 else 0) dir in
       let now : links after d ≡ 2 + count_by (λ x. is_dir (node t x.1)) (without byte_cmp nm m) = ap (links_at after d) at_dir
-      ∙ ap (λ c. 2 + c) (subdirs_same (without byte_cmp nm m)) in
+      ∙ ap (λ c. 2 + c) (same_subdirs t after dirs (without byte_cmp nm m)) in
       let was : links t d ≡ 2 + count_by (λ x. is_dir (node t x.1)) m = ap (links_at t d) is in
       omega (arith, fewer, one, now, was)
 
