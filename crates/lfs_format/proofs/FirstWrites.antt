@@ -4,12 +4,12 @@ use Rattle.std.proofs.Common.{get_or-set_other, get_or-set_same}
 use Rattle.std.proofs.lemmas.Bool.{cases_eq, cases_lt}
 use Rattle.std.specs.Prelude.{slice_set}
 use Rattle.lfs_model.specs.Content.{Content}
-use Rattle.lfs_model.specs.Device.{Cell, cell_at, put, MayWrite, left_old, left_new, left_bad, DeviceState, IsLawful, AllLeft, Carries}
+use Rattle.lfs_model.specs.Device.{Cell, cell_at, put, MayWrite, left_old, left_new, left_bad, DeviceState, IsLawful, Carries}
 use Rattle.lfs_model.specs.Device.{Elapses, CrashWrites, ComesFrom, SameOutside}
 use Rattle.lfs_model.specs.Image.{blank, first_uses}
 use Rattle.lfs_model.specs.Usage.{usage_sector}
 use Rattle.lfs_model.proofs.Image.{unused_spelled}
-use Rattle.lfs_model.proofs.Moments.{Run, run_none, run_call, run_write, all_left_write, Survives, same_outside_none, write_outside}
+use Rattle.lfs_model.proofs.Moments.{Run, run_none, run_call, all_left_write, Survives, same_outside_none, write_outside}
 use Rattle.lfs_format.specs.Making.{MayClear, left_as_was, left_clear, left_unreadable, MayClearSlots, AreClear, HasChunk}
 
 -- ---- the slots
@@ -102,11 +102,3 @@ clear_survives s b past = record { written = λ c clear. kept c (Some b) clear; 
       first = get_or-set_other c s 0 x None (λ e. omega (arith, past, e)) ∙ clear.first;
       second = get_or-set_other c s 1 x None (λ e. omega (arith, past, e)) ∙ clear.second;
     }
-
-abbrev pub Chunk : DeviceState → DeviceState → Type 0
-Chunk old new = AllLeft old AreClear → Run old new AreClear
-
-pub chunk_write : (old mid new : DeviceState) (s : ℕ) (b : List ℕ) → 2 ≤ s → Chunk old mid → CrashWrites s b mid new → Carries mid new
-    → Elapses mid new → Chunk old new
-chunk_write old mid new s b past run crash carries time clear =
-    run_write old mid new AreClear s b (run clear) (clear_survives s b past) crash carries time

@@ -3,7 +3,7 @@ use Rattle.std.proofs.Common.{◌≡◌, refl, sym, ap, ◌∙◌, ℕ, suc, Boo
 use Rattle.std.specs.Prelude.{filter, nat_lt, if◌then◌else◌}
 use Rattle.std.proofs.lemmas.Bool.Decides.{nat_tests}
 use Rattle.std.proofs.lemmas.List.Elements.{filter-append}
-use Rattle.lfs_model.specs.PathText.{parts, before_parts, comps, slash, from_root}
+use Rattle.lfs_model.specs.PathText.{parts, before_parts, comps, slash}
 use Rattle.lfs_model.specs.Walk.{more, slash_with}
 
 -- what may be left behind a piece
@@ -90,7 +90,3 @@ pub slash_joined : (x rest : List ℕ) → IsRest rest → more (comps rest) (sl
     → slash_with x (comps rest) (slash rest) ≡ slash (x ++ rest)
 slash_joined x [] is goes_on = or_false (slash x) ∙ ap slash (sym (nothing_behind x))
 slash_joined x (c ∷ q) is goes_on = ends_by x (comps (c ∷ q)) (slash (c ∷ q)) (goes_on ∙ some_true (length q)) ∙ sym (slash_last x c q)
-
--- ---- whether the walk goes on from the root
-pub root_joined : (c : ℕ) (x rest : List ℕ) → from_root ((c ∷ x) ++ rest) ≡ from_root (c ∷ x)
-root_joined c x rest = refl

@@ -102,7 +102,6 @@ pub mod DetachedCounts
 pub mod Cutting
 pub mod Losing
 pub mod CutSets
-pub mod Tight
 pub mod CountFacts
 pub mod ObjectBytes
 pub mod ObjectTrees

@@ -1,5 +1,5 @@
 -- Data blocks on the device are replaced or go without being read.
-use Rattle.std.proofs.Common.{◌≡◌, ◌<◌, ◌≤◌, ⊎_elim, ◌+◌, ◌*◌, ◌-◌, ℕ, List, [], length, get_or, Option, Some, refl, sym, ◌∙◌, ap, subst}
+use Rattle.std.proofs.Common.{◌≡◌, ◌<◌, ◌≤◌, ⊎_elim, ◌+◌, ◌*◌, ◌-◌, ℕ, List, [], length, get_or, Option, Some, refl, sym, ◌∙◌, ap}
 use Rattle.std.proofs.Common.{arith}
 use Rattle.std.proofs.lemmas.Bool.{cases_lt}
 use Rattle.std.proofs.lemmas.List.{same_lists, get_or_default}
@@ -10,14 +10,13 @@ use Rattle.lfs_model.specs.Content.{block}
 use Rattle.lfs_model.specs.Counting.{segment_of}
 use Rattle.lfs_model.specs.Device.{DeviceState}
 use Rattle.lfs_model.specs.Entry.{Entry, Data, Inode, word}
-use Rattle.lfs_model.specs.Memory.{parent, pointer, patched, IsOfFile, HasPointer}
+use Rattle.lfs_model.specs.Memory.{parent, pointer, patched, IsOfFile}
 use Rattle.lfs_model.specs.Replacing.{BlockReplacing, BlockLeaving}
 use Rattle.lfs_model.specs.Running.{Dirty, Tables, Running, Moves, IsLifted}
 use Rattle.lfs_model.specs.Staging.{IsAtAddress, Fetches}
 use Rattle.lfs_model.specs.Stands.{LogMap}
-use Rattle.lfs_model.proofs.Changed.{some_is, block_rewriting, block_removing}
+use Rattle.lfs_model.proofs.Changed.{block_rewriting, block_removing}
 use Rattle.lfs_model.proofs.Entries.{same_entry, file_of_parent, pointer_low, data_below}
-use Rattle.lfs_model.proofs.Filled.{pointer_patched}
 use Rattle.lfs_model.proofs.Patching.{byte_before, byte_at, byte_past, length-patched}
 use Rattle.lfs_model.proofs.Reading.{reading}
 use Rattle.lfs_model.proofs.Running.{pick, pick_yes, pick_no}
@@ -130,19 +129,6 @@ block_replacing d dirty dirty' t t' k m0 m m' seg chunk n i address bytes w at a
 pub block_leaving : BlockLeaving
 block_leaving d dirty dirty' t t' k m0 m m' seg chunk n i address w at above map moves go =
     left d dirty dirty' t t' k m0 m m' seg chunk n i address w at above go map moves
-
--- ---- no block of pointers in memory becomes empty
-module _ (d : DeviceState) (dirty dirty' : Dirty) (t : Tables) (k : CheckpointValue) (m0 m : LogMap) (seg : ℕ) (chunk : Option (List Entry))
-    (x : Entry) (address : ℕ) (bytes : List ℕ)
-    (w : Running d dirty t k m0 m seg chunk) (file : IsOfFile x) (at : IsAtAddress dirty t x address)
-    (fetch : Fetches dirty dirty' x bytes) where
-  pub above_tight : (b : List ℕ) → (parent x ≡ x → ⊥) → dirty' (parent x) ≡ Some b → HasPointer b
-  above_tight b ne held =
-      let p = at.pointed ne in
-      let long = above_whole d dirty t k m0 m seg chunk x address w file at ne in
-      let e : Some (patched (pointer x) 1 p.0) ≡ Some b = sym (fetch.patched ne ∙ ap (option_map (patched (pointer x) 1)) p.1) ∙ held in
-      subst HasPointer (some_is (patched (pointer x) 1 p.0) b e)
-      (pointer_patched (pointer x) 1 p.0 long (pointer_low x at.low) (omega arith) (omega arith))
 
 -- where x stands, by memory
 pub address_at : (d : DeviceState) (dirty : Dirty) (t : Tables) (k : CheckpointValue) (m0 m : LogMap) (seg : ℕ)

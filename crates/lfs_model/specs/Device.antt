@@ -136,11 +136,6 @@ pub record LeavesOnly (old new : DeviceState) (P : List Cell → Type 0) : Type 
 abbrev pub ComesFrom : DeviceState → (List Cell → List Cell → Type 0) → List Cell → Type 0
 ComesFrom old Changes c = (d : List Cell) × old.may_leave d × Changes d c
 
--- the same, where such sectors are concerned
-pub record SameWhere (Keeps : ℕ → Type 0) (old new : List Cell) : Type 0 where
-  pub size : length new ≡ length old
-  pub cells : (k : ℕ) → Keeps k → cell_at new k ≡ cell_at old k
-
 -- the same, but for the n sectors from first on
 pub record SameOutside (first n : ℕ) (old new : List Cell) : Type 0 where
   pub size : length new ≡ length old

@@ -50,7 +50,6 @@ pub mod Replacing
 pub mod Raising
 pub mod Detaching
 pub mod Cutting
-pub mod Tight
 pub mod Objects
 pub mod Totals
 pub mod Members

@@ -1,1 +1,0 @@
--- Which blocks of pointers in memory may be empty.
