@@ -7,25 +7,21 @@ ghost use Rattle.lfs_model.specs.Summary.{IsPlaced};
 ghost use Rattle.lfs_inodes.specs.Code.{IsCode, kind_by, entry_at};
 ghost use Rattle.lfs_inodes.specs.Data.{is_data_code};
 
-use lfs_layout::BlockName;
+use lfs_layout::{BlockName, DOUBLE_POINTER, FIRST_POINTER, SINGLE_POINTER};
 use lfs_model::BlockKind;
+use lfs_model::limits::{BLOCK_POINTERS, DIRECT_BLOCKS};
 
 /// The pointer to a block that is in memory. It is a checkpoint slot, and no block's address.
 pub const IN_MEMORY: u32 = 1;
 
 /// How many blocks an inode points to by itself.
-pub const DIRECT: u32 = 112;
+pub const DIRECT: u32 = DIRECT_BLOCKS;
 
 /// How many pointers a leaf or a double root has.
-pub const POINTERS: u32 = 128;
+pub const POINTERS: u32 = BLOCK_POINTERS;
 
-/// The places of 4 bytes of an inode at which its pointers stand: the first to a data block, and
-/// those to the single leaf and to the double root.
-pub const FIRST: u32 = 8;
-
-pub const SINGLE: usize = 120;
-
-pub const DOUBLE: usize = 121;
+/// The place of 4 bytes of an inode at which its first pointer stands.
+pub const FIRST: u32 = FIRST_POINTER as u32;
 
 const KIND: u32 = 134_217_728;
 
@@ -203,21 +199,20 @@ impl BlockKey {
         let index = self.index();
         match self.kind() {
             BlockKind::Data => {
-                let place = if index < DIRECT {
-                    FIRST + index
+                if index < DIRECT {
+                    FIRST_POINTER + index as usize
                 } else {
-                    (index - DIRECT) % POINTERS
-                };
-                place as usize
+                    ((index - DIRECT) % POINTERS) as usize
+                }
             }
             BlockKind::Leaf => {
                 if index == 0 {
-                    SINGLE
+                    SINGLE_POINTER
                 } else {
                     (index - 1) as usize
                 }
             }
-            BlockKind::Double => DOUBLE,
+            BlockKind::Double => DOUBLE_POINTER,
             _ => 0,
         }
     }

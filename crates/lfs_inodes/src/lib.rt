@@ -1,6 +1,7 @@
 //! Inodes and blocks of files in memory, and the pointers that lead to them on a device.
 #![tactic(auto)]
 
+mod header;
 mod key;
 pub mod laws;
 mod map;
@@ -8,6 +9,7 @@ mod pointers;
 mod present;
 mod table;
 
+pub use header::header_of;
 pub use key::{BlockKey, DIRECT, FIRST, IN_MEMORY, POINTERS};
 pub use map::InodeMap;
 pub use pointers::{Pointers, locate, owner_points};

@@ -6,10 +6,10 @@ ghost use Rattle.lfs_model.specs.Entry.{word};
 ghost use Rattle.lfs_inodes.specs.Key.{entry_of};
 ghost use Rattle.lfs_inodes.specs.Pointed.{ArePointers, leaf_in, data_in, pointed, IsLost, IsLeafLost, IsDataLost, IsWayLost};
 
-use crate::key::{BlockKey, DIRECT, DOUBLE, FIRST, POINTERS, SINGLE};
+use crate::key::{BlockKey, DIRECT, POINTERS};
 use lfs_cache::CachedDevice;
 use lfs_device::{ReadFault, SectorDevice};
-use lfs_layout::{PointerView, word};
+use lfs_layout::{DOUBLE_POINTER, FIRST_POINTER, PointerView, SINGLE_POINTER, word};
 use lfs_model::BlockKind;
 
 /// The numbers of a block of pointers, each at its place of 4 bytes.
@@ -126,9 +126,9 @@ fn locate_leaf<D: SectorDevice>(
     ensures told { (D.state device.new).told ≡ (D.state device.old).told }
 {
     if index == 0 {
-        return Ok(word(inode, SINGLE));
+        return Ok(word(inode, SINGLE_POINTER));
     }
-    pointer_at(device, word(inode, DOUBLE), index - 1)
+    pointer_at(device, word(inode, DOUBLE_POINTER), index - 1)
 }
 
 /// The address of a data block of the file of an inode, or 0 where none is stored. It reads two
@@ -160,7 +160,7 @@ pub fn locate<D: SectorDevice>(
     ensures told { (D.state device.new).told ≡ (D.state device.old).told }
 {
     if index < DIRECT {
-        return Ok(word(inode, (FIRST + index) as usize));
+        return Ok(word(inode, FIRST_POINTER + index as usize));
     }
     let place = index - DIRECT;
     let leaf = locate_leaf(device, inode, place / POINTERS)?;
@@ -192,7 +192,7 @@ fn locate_block<D: SectorDevice>(
     match key.kind() {
         BlockKind::Data => locate(device, inode, key.index()),
         BlockKind::Leaf => locate_leaf(device, inode, key.index()),
-        BlockKind::Double => Ok(word(inode, DOUBLE)),
+        BlockKind::Double => Ok(word(inode, DOUBLE_POINTER)),
         _ => Ok(0),
     }
 }

@@ -7,12 +7,12 @@ ghost use Rattle.lfs_inodes.specs.Blocks.{blocks_of};
 ghost use Rattle.lfs_inodes.specs.Pointed.{ArePointers};
 ghost use Rattle.lfs_inodes.specs.Present.{present, leaf_now, data_now, IsAway, IsLeafAway, IsDataAway, leaf_first, data_first};
 
-use crate::key::{BlockKey, DIRECT, DOUBLE, FIRST, IN_MEMORY, POINTERS, SINGLE};
+use crate::key::{BlockKey, DIRECT, IN_MEMORY, POINTERS};
 use crate::pointers::{Pointers, all_pointers, no_pointers, pointer_at, pointers_at};
 use crate::table::DirtyTable;
 use lfs_cache::CachedDevice;
 use lfs_device::{ReadFault, SectorDevice};
-use lfs_layout::word;
+use lfs_layout::{DOUBLE_POINTER, FIRST_POINTER, SINGLE_POINTER, word};
 
 /// The number at a place of 4 bytes of the block of this key, whose pointer is known; 0 where there
 /// is none.
@@ -130,12 +130,12 @@ pub fn first_pointer(index: u32) -> usize
     ensures within { result < 128 }
 {
     if index < DIRECT {
-        return (FIRST + index) as usize;
+        return FIRST_POINTER + index as usize;
     }
     if index < DIRECT + POINTERS {
-        return SINGLE;
+        return SINGLE_POINTER;
     }
-    DOUBLE
+    DOUBLE_POINTER
 }
 
 /// The place of 4 bytes of an inode at which the pointer stands with which the way to a leaf begins.
@@ -144,7 +144,11 @@ pub fn first_of_leaf(index: u32) -> usize
     ensures value { result ≡ leaf_first index }
     ensures within { result < 128 }
 {
-    if index == 0 { SINGLE } else { DOUBLE }
+    if index == 0 {
+        SINGLE_POINTER
+    } else {
+        DOUBLE_POINTER
+    }
 }
 
 /// The pointers to the data blocks below a leaf of pointers of a file, the single one at 0, those

@@ -1,6 +1,6 @@
 //! Inodes, read in place.
 ghost use Rattle.std.specs.Prelude.{◌≡◌, ◌<◌, ◌≤◌, ◌↔◌, [], ◌∷◌, List, ℕ, length, slice_index, IfSome, IfNone, MatchOption, IsTrue};
-ghost use Rattle.lfs_model.specs.Inode.{InodeValue, FitsInode, IsForm, IsSize, inode_sector, kind_byte, inode_in};
+ghost use Rattle.lfs_model.specs.Inode.{InodeValue, FitsInode, IsForm, IsSize, inode_sector, kind_byte, inode_in, inode_of};
 ghost use Rattle.lfs_model.specs.declared.Kind.{Kind};
 ghost use Rattle.lfs_model.specs.Fields.{part};
 
@@ -9,6 +9,14 @@ use crate::slot::slot_len;
 use crate::writer::SectorWriter;
 use lfs_model::Kind;
 use std::marker::Model;
+
+/// The places of 4 bytes of an inode at which its pointers stand: the first to a data block, and
+/// those to the single leaf and to the double root.
+pub const FIRST_POINTER: usize = 8;
+
+pub const SINGLE_POINTER: usize = 120;
+
+pub const DOUBLE_POINTER: usize = 121;
 
 /// An inode that stands in a sector.
 #[derive(Drop)]
@@ -69,6 +77,13 @@ fn kind_at(sector: &[u8; 512]) -> Option<Kind>
 }
 
 impl<'a> InodeView<'a> {
+    /// What stands at the places of an inode, whether the sector is one or not.
+    pub fn new(sector: &'a [u8; 512]) -> InodeView<'a>
+        ensures { result ≡ inode_of sector.now }
+    {
+        InodeView { sector }
+    }
+
     /// The inode whose sector this is, if it is one.
     pub fn decode(sector: &'a [u8; 512]) -> Option<InodeView<'a>>
         ensures found { IfSome result (λ i. FitsInode i × (sector.now ≡ inode_sector i)) }
@@ -151,21 +166,21 @@ impl<'a> InodeView<'a> {
         requires { block < 112 }
         ensures { result ≡ slice_index self.now.direct block }
     {
-        number32_at(self.sector, 32 + 4 * block)
+        number32_at(self.sector, 4 * (FIRST_POINTER + block))
     }
 
     /// The address of its single leaf; 0 where there is none.
     pub fn single(&self) -> u32
         ensures { result ≡ self.now.single }
     {
-        number32_at(self.sector, 480)
+        number32_at(self.sector, 4 * SINGLE_POINTER)
     }
 
     /// The address of its double root; 0 where there is none.
     pub fn double(&self) -> u32
         ensures { result ≡ self.now.double }
     {
-        number32_at(self.sector, 484)
+        number32_at(self.sector, 4 * DOUBLE_POINTER)
     }
 
     /// The inode, to be changed and written.

@@ -1,6 +1,7 @@
 //! Sectors as values and back.
 #![tactic(auto)]
 
+mod address;
 mod checkpoint;
 mod fields;
 mod inode;
@@ -12,8 +13,12 @@ mod usage;
 mod writer;
 mod zero;
 
+pub use address::{place_in_segment, segment_of};
 pub use checkpoint::{Checkpoint, is_segment_count, is_version, one_checkpoint_spelling};
-pub use inode::{Inode, InodeView, is_form, is_size, one_inode_spelling};
+pub use inode::{
+    DOUBLE_POINTER, FIRST_POINTER, Inode, InodeView, SINGLE_POINTER, is_form, is_size,
+    one_inode_spelling,
+};
 pub use patch::{set_header, set_usage_entry, set_word, word};
 pub use pointers::{PointerView, encode_pointers, one_pointer_spelling};
 pub use slot::{
