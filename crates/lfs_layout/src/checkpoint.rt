@@ -4,6 +4,7 @@ ghost use Rattle.lfs_model.specs.Checkpoint.{CheckpointValue, FitsCheckpoint, Is
 
 use crate::fields::{fits_32, is_text_at, is_zero_at, number32_at, number64_at, words_at};
 use crate::writer::SectorWriter;
+use lfs_model::limits::{LEAST_SEGMENTS, MOST_SEGMENTS};
 use std::marker::Model;
 
 /// The checkpoint of a volume.
@@ -35,7 +36,7 @@ impl Model for Checkpoint {
 pub fn is_segment_count(segments: u32) -> bool
     ensures { IsTrue result ↔ IsSegmentCount segments }
 {
-    64 <= segments && segments <= 1024 && segments % 8 == 0
+    LEAST_SEGMENTS <= segments && segments <= MOST_SEGMENTS && segments % 8 == 0
 }
 
 /// Whether it is a version of the layout.

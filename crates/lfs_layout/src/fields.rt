@@ -3,10 +3,11 @@ ghost use Rattle.std.specs.Prelude.{◌≡◌, ◌≤◌, ◌+◌, ◌*◌, ◌�
 ghost use Rattle.lfs_model.specs.Fields.{le16, le32, le64, words, zeros, part, read16, read32, read64, numbers, Are32};
 
 use byteorder::{ByteOrder, LittleEndian};
+use lfs_model::limits::SECTOR_LEN;
 
 /// The number in the 2 bytes at a place.
 pub fn number16_at(sector: &[u8; 512], at: usize) -> u16
-    requires { at + 2 ≤ 512 }
+    requires { at + 2 ≤ SECTOR_LEN }
     ensures read { result ≡ read16 at sector.now }
     ensures spelled { le16 result ≡ part at 2 sector.now }
 {
@@ -15,7 +16,7 @@ pub fn number16_at(sector: &[u8; 512], at: usize) -> u16
 
 /// The number in the 4 bytes at a place.
 pub fn number32_at(sector: &[u8; 512], at: usize) -> u32
-    requires { at + 4 ≤ 512 }
+    requires { at + 4 ≤ SECTOR_LEN }
     ensures read { result ≡ read32 at sector.now }
     ensures spelled { le32 result ≡ part at 4 sector.now }
 {
@@ -24,7 +25,7 @@ pub fn number32_at(sector: &[u8; 512], at: usize) -> u32
 
 /// The number in the 8 bytes at a place.
 pub fn number64_at(sector: &[u8; 512], at: usize) -> u64
-    requires { at + 8 ≤ 512 }
+    requires { at + 8 ≤ SECTOR_LEN }
     ensures read { result ≡ read64 at sector.now }
     ensures spelled { le64 result ≡ part at 8 sector.now }
 {
@@ -33,7 +34,7 @@ pub fn number64_at(sector: &[u8; 512], at: usize) -> u64
 
 /// `N` numbers of 4 bytes each, the first at a place.
 pub fn words_at<const N: usize>(sector: &[u8; 512], at: usize) -> [u32; N]
-    requires { at + 4 * N ≤ 512 }
+    requires { at + 4 * N ≤ SECTOR_LEN }
     ensures read { result ≡ numbers N at sector.now }
     ensures spelled { words result ≡ part at (4 * N) sector.now }
     ensures length { length result ≡ N }
@@ -46,7 +47,7 @@ pub fn words_at<const N: usize>(sector: &[u8; 512], at: usize) -> [u32; N]
 
 /// Whether this text stands at a place.
 pub fn is_text_at(sector: &[u8; 512], at: usize, text: &[u8]) -> bool
-    requires { at + length text.now ≤ 512 }
+    requires { at + length text.now ≤ SECTOR_LEN }
     ensures { IsTrue result ↔ part at (length text.now) sector.now ≡ text.now }
 {
     &sector[at..at + text.len()] == text
@@ -54,7 +55,7 @@ pub fn is_text_at(sector: &[u8; 512], at: usize, text: &[u8]) -> bool
 
 /// Whether the `len` bytes from a place on are 0.
 pub fn is_zero_at(sector: &[u8; 512], at: usize, len: usize) -> bool
-    requires { at + len ≤ 512 }
+    requires { at + len ≤ SECTOR_LEN }
     ensures { IsTrue result ↔ part at len sector.now ≡ zeros len }
 {
     sector[at..at + len].iter().all(|b| *b == 0)

@@ -8,6 +8,9 @@ use crate::fields::{fits_32, is_zero_at, number32_at, words_at};
 use crate::slot::slot_len;
 use crate::writer::SectorWriter;
 use lfs_model::Kind;
+use lfs_model::limits::{
+    DIRECT_BLOCKS, LARGEST_FILE, LAST_NUMBER, LONGEST_PATH, MOST_ENTRIES, MOST_LINKS,
+};
 use std::marker::Model;
 
 /// The places of 4 bytes of an inode at which its pointers stand: the first to a data block, and
@@ -51,9 +54,9 @@ pub fn is_size(form: u8, kind: Kind, size: u32) -> bool
 {
     let slot = slot_len(form);
     match kind {
-        Kind::File => size <= 8_511_488,
-        Kind::Directory => size % slot == 0 && size <= 1_024 * slot,
-        Kind::Link => 1 <= size && size <= 1_023,
+        Kind::File => size <= LARGEST_FILE,
+        Kind::Directory => size % slot == 0 && size <= MOST_ENTRIES * slot,
+        Kind::Link => 1 <= size && size <= LONGEST_PATH as u32,
     }
 }
 
@@ -102,11 +105,11 @@ impl<'a> InodeView<'a> {
             return None;
         }
         let number = number32_at(sector, 4);
-        if !is_within(number, 4_095) {
+        if !is_within(number, LAST_NUMBER as u32) {
             return None;
         }
         let links = number32_at(sector, 8);
-        if !is_within(links, 1_000) {
+        if !is_within(links, MOST_LINKS) {
             return None;
         }
         let size = number32_at(sector, 12);
@@ -163,7 +166,7 @@ impl<'a> InodeView<'a> {
 
     /// The address of one of its first 112 blocks; 0 where there is none.
     pub fn direct(&self, block: usize) -> u32
-        requires { block < 112 }
+        requires { block < DIRECT_BLOCKS }
         ensures { result ≡ slice_index self.now.direct block }
     {
         number32_at(self.sector, 4 * (FIRST_POINTER + block))
@@ -249,8 +252,8 @@ impl Inode {
     {
         fits_32(&self.direct);
         fits_32(&[self.single, self.double]);
-        is_within(self.number, 4_095)
-            && is_within(self.links, 1_000)
+        is_within(self.number, LAST_NUMBER as u32)
+            && is_within(self.links, MOST_LINKS)
             && is_form(self.kind, self.form)
             && is_size(self.form, self.kind, self.size)
     }
@@ -289,8 +292,8 @@ impl Inode {
         single: u32,
         double: u32,
     ) -> Inode
-        requires number { (1 ≤ number) × (number ≤ 4095) }
-        requires links { (1 ≤ links) × (links ≤ 1000) }
+        requires number { (1 ≤ number) × (number ≤ LAST_NUMBER) }
+        requires links { (1 ≤ links) × (links ≤ MOST_LINKS) }
         requires form { IsForm 2 kind form }
         requires size { IsSize form kind size }
         ensures fits { FitsInode result }

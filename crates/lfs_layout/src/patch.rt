@@ -10,10 +10,14 @@ use crate::usage::SegmentUsage;
 use crate::writer::Writer;
 use byteorder::{ByteOrder, LittleEndian};
 use lfs_model::Kind;
+use lfs_model::limits::{BLOCK_SEGMENTS, SECTOR_LEN};
+
+/// How many places of 4 bytes a sector has.
+pub const SECTOR_WORDS: usize = SECTOR_LEN / 4;
 
 /// The number at a place of 4 bytes.
 pub fn word(block: &[u8; 512], place: usize) -> u32
-    requires { place < 128 }
+    requires { place < SECTOR_WORDS }
     ensures { result ≡ read32 (4 * place) block.now }
 {
     number32_at(block, 4 * place)
@@ -22,7 +26,7 @@ pub fn word(block: &[u8; 512], place: usize) -> u32
 /// Puts a number at a place of 4 bytes.
 #[tactic(auto, unfolding(lfs_model::specs::Fields::le32))]
 pub fn set_word(block: &mut [u8; 512], place: usize, number: u32)
-    requires { place < 128 }
+    requires { place < SECTOR_WORDS }
     ensures { block.new ≡ take (4 * place) block.old ++ le32 number ++ drop
         (4 * place + 4) block.old }
 {
@@ -33,7 +37,7 @@ pub fn set_word(block: &mut [u8; 512], place: usize, number: u32)
 /// Puts a number at a place of 2 bytes.
 #[tactic(auto, unfolding(lfs_model::specs::Fields::le16))]
 fn set_half(block: &mut [u8; 512], place: usize, number: u16)
-    requires { place < 256 }
+    requires { place < 2 * SECTOR_WORDS }
     ensures { block.new ≡ take (2 * place) block.old ++ le16 number ++ drop
         (2 * place + 2) block.old }
 {
@@ -43,9 +47,9 @@ fn set_half(block: &mut [u8; 512], place: usize, number: u16)
 
 /// Gives a usage block this entry at a place. The other entries stay.
 pub fn set_usage_entry(block: &mut [u8; 512], entry: usize, usage: SegmentUsage)
-    requires { entry < 64 }
+    requires { entry < BLOCK_SEGMENTS }
     ensures entries { usage_of block.new ≡ slice_set (usage_of block.old) entry usage }
-    ensures length { length block.new ≡ 512 }
+    ensures length { length block.new ≡ SECTOR_LEN }
 {
     set_half(block, 4 * entry, usage.used);
     set_half(block, 4 * entry + 1, usage.live);

@@ -4,6 +4,7 @@ ghost use Rattle.lfs_model.specs.Pointers.{FitsPointers, pointer_sector};
 
 use crate::fields::{number32_at, words_at};
 use byteorder::{ByteOrder, LittleEndian};
+use lfs_model::limits::BLOCK_POINTERS;
 use std::marker::Model;
 
 /// The 128 addresses of a block that stands in a sector. Contracts see their list.
@@ -33,7 +34,7 @@ impl<'a> PointerView<'a> {
 
     /// The address at a place.
     pub fn get(&self, place: usize) -> u32
-        requires { place < 128 }
+        requires { place < BLOCK_POINTERS }
         ensures { result ≡ slice_index self.now place }
     {
         number32_at(self.sector, 4 * place)
@@ -50,7 +51,7 @@ impl<'a> PointerView<'a> {
 /// The block of these addresses.
 #[tactic(auto, unfolding(lfs_model::specs::Pointers::pointer_sector, lfs_model::specs::Fields::le32, lfs_model::specs::Fields::words))]
 pub fn encode_pointers(addresses: &[u32]) -> [u8; 512]
-    requires { length addresses.now ≡ 128 }
+    requires { length addresses.now ≡ BLOCK_POINTERS }
     ensures { result ≡ pointer_sector addresses.now }
 {
     let mut sector = [0; 512];

@@ -7,17 +7,26 @@ ghost use Rattle.lfs_model.specs.Tree.{name_len, slot_len};
 use crate::inode::is_within;
 use crate::writer::Writer;
 use byteorder::{ByteOrder, LittleEndian};
+use lfs_model::limits::{LAST_NUMBER, SECTOR_LEN};
 use std::marker::Model;
+
+/// The bytes of a slot of the first form, and of the second.
+pub const NARROW_SLOT: u32 = 64;
+
+pub const WIDE_SLOT: u32 = 128;
+
+/// The place in a slot at which its name begins, behind the number and the name's length.
+const NAME_AT: usize = 5;
 
 /// The bytes of a slot of a directory of this form: 64 in form 0, else 128.
 pub fn slot_len(form: u8) -> u32
     ensures value { result ≡ slot_len form }
-    ensures least { 64 ≤ result }
-    ensures most { result ≤ 128 }
+    ensures least { NARROW_SLOT ≤ result }
+    ensures most { result ≤ WIDE_SLOT }
 {
     match form {
-        0 => 64,
-        _ => 128,
+        0 => NARROW_SLOT,
+        _ => WIDE_SLOT,
     }
 }
 
@@ -46,7 +55,7 @@ pub fn is_name(form: u8, name: &[u8]) -> bool
     if name.is_empty() {
         return false;
     }
-    if name.len() > slot_len(form) as usize - 5 {
+    if name.len() > slot_len(form) as usize - NAME_AT {
         return false;
     }
     if name == b".".as_slice() {
@@ -68,7 +77,7 @@ pub fn is_name(form: u8, name: &[u8]) -> bool
 
 /// The bytes of one of the slots of a block of a directory of this form.
 pub fn nth_slot(block: &[u8; 512], form: u8, place: usize) -> &[u8]
-    requires { slot_len form * place + slot_len form ≤ 512 }
+    requires { slot_len form * place + slot_len form ≤ SECTOR_LEN }
     ensures bytes { result.now ≡ part (slot_len form * place) (slot_len form) block.now }
     ensures long { length result.now ≡ slot_len form }
 {
@@ -78,17 +87,17 @@ pub fn nth_slot(block: &[u8; 512], form: u8, place: usize) -> &[u8]
 }
 
 fn number_of(slot: &[u8]) -> u32
-    requires { 4 ≤ length slot.now }
+    requires { NAME_AT ≤ length slot.now }
     ensures { result ≡ read32 0 slot.now }
 {
     LittleEndian::read_u32(&slot[0..4])
 }
 
 fn name_of(slot: &[u8], len: usize) -> &[u8]
-    requires { 5 + len ≤ length slot.now }
-    ensures { result.now ≡ part 5 len slot.now }
+    requires { NAME_AT + len ≤ length slot.now }
+    ensures { result.now ≡ part NAME_AT len slot.now }
 {
-    &slot[5..5 + len]
+    &slot[NAME_AT..NAME_AT + len]
 }
 
 fn is_zero_after(slot: &[u8], at: usize) -> bool
@@ -106,14 +115,14 @@ fn is_zero_after(slot: &[u8], at: usize) -> bool
 /// Whether a slot's name is this one. It compares lengths before bytes, and asks nothing else of
 /// the slot.
 pub fn has_name(slot: &[u8], name: &[u8]) -> bool
-    requires { 5 ≤ length slot.now }
+    requires { NAME_AT ≤ length slot.now }
     ensures { (form : ℕ) (s : SlotValue) → slot_in form slot.now ≡ Some s
         → (IsTrue result ↔ s.name ≡ name.now) }
 {
     if slot[4] as usize != name.len() {
         return false;
     }
-    if name.len() > slot.len() - 5 {
+    if name.len() > slot.len() - NAME_AT {
         return false;
     }
     name_of(slot, name.len()) == name
@@ -129,17 +138,17 @@ impl<'a> SlotView<'a> {
         ensures exact { result ≡ slot_in form slot.now }
     {
         let number = number_of(slot);
-        if !is_within(number, 4_095) {
+        if !is_within(number, LAST_NUMBER as u32) {
             return None;
         }
         let len = slot[4] as usize;
-        if len > slot.len() - 5 {
+        if len > slot.len() - NAME_AT {
             return None;
         }
         if !is_name(form, name_of(slot, len)) {
             return None;
         }
-        if !is_zero_after(slot, 5 + len) {
+        if !is_zero_after(slot, NAME_AT + len) {
             return None;
         }
         Some(SlotView { slot })
@@ -174,7 +183,7 @@ pub fn encode_slot(form: u8, number: u32, name: &[u8]) -> SlotBytes
     slot.number32(number);
     slot.bytes(&[name.len() as u8]);
     slot.bytes(name);
-    slot.zeros(slot_len(form) as usize - 5 - name.len());
+    slot.zeros(slot_len(form) as usize - NAME_AT - name.len());
     slot
 }
 

@@ -5,6 +5,9 @@ ghost use Rattle.lfs_model.specs.Summary.{BlockNameValue, FitsSummary, IsEntryAt
 use crate::fields::{is_zero_at, number16_at, number32_at};
 use crate::writer::SectorWriter;
 use lfs_model::BlockKind;
+use lfs_model::limits::{
+    CHUNK_BLOCKS, LAST_BLOCK, LAST_LEAF, LAST_NUMBER, MAP_BLOCKS, SECTOR_LEN, USAGE_BLOCKS,
+};
 use std::marker::Model;
 
 /// What a summary says of one block of its chunk.
@@ -38,13 +41,14 @@ pub struct SummaryView<'a> {
 impl<'a> Model for SummaryView<'a> {
     ghost use Rattle.std.specs.Prelude.{List, ◌≤◌};
     ghost use Rattle.lfs_model.specs.Fields.{read16};
+    ghost use Rattle.lfs_model.specs.declared.limits.TheConstants.{CHUNK_BLOCKS};
     ghost use Rattle.lfs_model.specs.Summary.{BlockNameValue, blocks_of};
 
     ghost Value = { List BlockNameValue };
 
     ghost view = { λ v. blocks_of v.sector.now };
 
-    ghost invariant = { λ v. read16 0 v.sector.now ≤ 63 };
+    ghost invariant = { λ v. read16 0 v.sector.now ≤ CHUNK_BLOCKS };
 }
 
 #[tactic(auto, unfolding(lfs_model::specs::Summary::block_kind_of))]
@@ -82,19 +86,19 @@ pub fn is_placed(block: BlockName) -> bool
     ensures { IsTrue result ↔ IsPlaced block.kind block.file block.index }
 {
     let BlockName { file, kind, index } = block;
-    let of_file = 1 <= file && file <= 4_095;
+    let of_file = 1 <= file && file <= LAST_NUMBER;
     match kind {
-        BlockKind::Data => of_file && index <= 16_623,
-        BlockKind::Leaf => of_file && index <= 128,
+        BlockKind::Data => of_file && index <= LAST_BLOCK,
+        BlockKind::Leaf => of_file && index <= LAST_LEAF,
         BlockKind::Double => of_file && index == 0,
         BlockKind::Inode => of_file && index == 0,
-        BlockKind::Map => file == 0 && index <= 31,
-        BlockKind::Usage => file == 0 && index <= 15,
+        BlockKind::Map => file == 0 && index < MAP_BLOCKS,
+        BlockKind::Usage => file == 0 && index < USAGE_BLOCKS,
     }
 }
 
 fn block_of(sector: &[u8; 512], at: usize) -> BlockName
-    requires { at + 8 ≤ 512 }
+    requires { at + 8 ≤ SECTOR_LEN }
     ensures { result ≡ block_at at sector.now }
 {
     BlockName {
@@ -105,7 +109,7 @@ fn block_of(sector: &[u8; 512], at: usize) -> BlockName
 }
 
 fn is_block_at(sector: &[u8; 512], at: usize) -> bool
-    requires { at + 8 ≤ 512 }
+    requires { at + 8 ≤ SECTOR_LEN }
     ensures { IsTrue result ↔ IsEntryAt at sector.now }
 {
     let byte = sector[at + 2];
@@ -133,7 +137,7 @@ impl<'a> SummaryView<'a> {
         if count == 0 {
             return None;
         }
-        if count > 63 {
+        if count > CHUNK_BLOCKS {
             return None;
         }
         if !is_zero_at(sector, 2, 6) {
@@ -144,7 +148,7 @@ impl<'a> SummaryView<'a> {
                 return None;
             }
         }
-        if !is_zero_at(sector, 8 + 8 * count, 8 * (63 - count)) {
+        if !is_zero_at(sector, 8 + 8 * count, 8 * (CHUNK_BLOCKS - count)) {
             return None;
         }
         Some(SummaryView { sector })
@@ -173,7 +177,7 @@ pub fn is_summary(blocks: &[BlockName]) -> bool
     if blocks.is_empty() {
         return false;
     }
-    if blocks.len() > 63 {
+    if blocks.len() > CHUNK_BLOCKS {
         return false;
     }
     for block in blocks {
@@ -186,7 +190,7 @@ pub fn is_summary(blocks: &[BlockName]) -> bool
 
 #[tactic(auto, unfolding(lfs_model::specs::Summary::summary_entry))]
 fn write_entry(sector: &mut SectorWriter, block: BlockName)
-    requires { length sector.old + 8 ≤ 512 }
+    requires { length sector.old + 8 ≤ SECTOR_LEN }
     ensures written { sector.new ≡ sector.old ++ summary_entry block }
     ensures length { length sector.new ≡ length sector.old + 8 }
 {
@@ -206,7 +210,7 @@ pub fn encode_summary(blocks: &[BlockName]) -> [u8; 512]
     for block in blocks {
         write_entry(&mut sector, *block);
     }
-    sector.zeros(8 * (63 - blocks.len()));
+    sector.zeros(8 * (CHUNK_BLOCKS - blocks.len()));
     sector.finish()
 }
 

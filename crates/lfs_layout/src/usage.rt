@@ -4,7 +4,11 @@ ghost use Rattle.lfs_model.specs.Usage.{SegmentUse, IsUse, IsUnused, FitsUsage, 
 
 use crate::fields::{number16_at, number32_at};
 use crate::writer::SectorWriter;
+use lfs_model::limits::{BLOCK_SEGMENTS, SECTOR_LEN, SEGMENT_SECTORS};
 use std::marker::Model;
+
+/// The sectors of a segment.
+const SECTORS: u16 = SEGMENT_SECTORS as u16;
 
 /// What is known of a segment.
 #[derive(Clone, Copy, Debug, PartialEq, Eq)]
@@ -45,7 +49,7 @@ impl<'a> Model for UsageView<'a> {
 fn is_use(entry: SegmentUsage) -> bool
     ensures { IsTrue result ↔ IsUse entry }
 {
-    entry.used <= 64
+    entry.used <= SECTORS
         && (if entry.used == 0 {
             entry.live == 0
         } else {
@@ -60,7 +64,7 @@ fn is_unused(entry: SegmentUsage) -> bool
 }
 
 fn entry_at(sector: &[u8; 512], place: usize) -> SegmentUsage
-    requires { place + 8 ≤ 512 }
+    requires { place + 8 ≤ SECTOR_LEN }
     ensures { result ≡ use_at place sector.now }
 {
     SegmentUsage {
@@ -72,7 +76,7 @@ fn entry_at(sector: &[u8; 512], place: usize) -> SegmentUsage
 
 #[tactic(auto, unfolding(lfs_model::specs::Usage::usage_entry))]
 fn write_entry(sector: &mut SectorWriter, entry: SegmentUsage)
-    requires { length sector.old + 8 ≤ 512 }
+    requires { length sector.old + 8 ≤ SECTOR_LEN }
     ensures written { sector.new ≡ sector.old ++ usage_entry entry }
     ensures length { length sector.new ≡ length sector.old + 8 }
 {
@@ -90,7 +94,7 @@ impl<'a> UsageView<'a> {
             → ¬ (sector.now ≡ usage_sector us)) }
         ensures exact { result ≡ usage_in count sector.now }
     {
-        for i in 0..64 {
+        for i in 0..BLOCK_SEGMENTS as usize {
             let entry = entry_at(sector, 8 * i);
             if !is_use(entry) {
                 return None;
@@ -104,7 +108,7 @@ impl<'a> UsageView<'a> {
 
     /// The entry of a segment.
     pub fn get(&self, entry: usize) -> SegmentUsage
-        requires { entry < 64 }
+        requires { entry < BLOCK_SEGMENTS }
         ensures { result ≡ get_or self.now entry no_use }
     {
         entry_at(self.sector, 8 * entry)

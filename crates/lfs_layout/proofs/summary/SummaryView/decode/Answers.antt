@@ -16,8 +16,8 @@ returns-then-count-eq0-clause-none c bs fits is =
     let read = c.number16_at-count.ensures.read in
     omega (arith, n, some, read)
 
-pub returns-then-count-gt63-clause-none : goal.returns-then-count-gt63-clause-none
-returns-then-count-gt63-clause-none c bs fits is =
+pub returns-then-count-gt-CHUNK_BLOCKS-clause-none : goal.returns-then-count-gt-CHUNK_BLOCKS-clause-none
+returns-then-count-gt-CHUNK_BLOCKS-clause-none c bs fits is =
     let n = count_of c.args.sector.now bs fits (reads_from c.args.sector.now bs is) in
     let room = fits.room in
     let read = c.number16_at-count.ensures.read in
@@ -63,8 +63,8 @@ returns-clause-found c =
 pub returns-then-count-eq0-clause-exact : goal.returns-then-count-eq0-clause-exact
 returns-then-count-eq0-clause-exact c = summary_is c.args.sector.now None tt (λ v fits is. returns-then-count-eq0-clause-none c v fits is)
 
-pub returns-then-count-gt63-clause-exact : goal.returns-then-count-gt63-clause-exact
-returns-then-count-gt63-clause-exact c = summary_is c.args.sector.now None tt (λ v fits is. returns-then-count-gt63-clause-none c v fits is)
+pub returns-then-count-gt-CHUNK_BLOCKS-clause-exact : goal.returns-then-count-gt-CHUNK_BLOCKS-clause-exact
+returns-then-count-gt-CHUNK_BLOCKS-clause-exact c = summary_is c.args.sector.now None tt (λ v fits is. returns-then-count-gt-CHUNK_BLOCKS-clause-none c v fits is)
 
 pub returns-then-not-is_zero_at-clause-exact : goal.returns-then-not-is_zero_at-clause-exact
 returns-then-not-is_zero_at-clause-exact c =
