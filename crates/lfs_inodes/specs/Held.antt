@@ -1,5 +1,6 @@
 -- How the table holds its blocks: an index in the order of keys over an arena of blocks.
-use Rattle.std.specs.Prelude.{◌≡◌, ◌<◌, ◌≤◌, ◌+◌, ◌==◌, nat_lt, cond, ℕ, Bool, false, T, List, [], ◌∷◌, map, length, get_or, ◌⊎◌, ◌++◌, set}
+use Rattle.std.specs.Prelude.{◌≡◌, ◌<◌, ◌≤◌, ◌+◌, ◌^◌, ◌==◌, nat_lt, cond, ℕ, Bool, false, T, List, [], ◌∷◌, map, length, get_or, ◌⊎◌, ◌++◌}
+use Rattle.std.specs.Prelude.{set}
 use Rattle.std.specs.Ordering.{nat_cmp}
 use Rattle.std.specs.FinMap.{is_sorted}
 use Rattle.lfs_model.specs.Running.{IsTight}
@@ -37,7 +38,7 @@ pub record IsTableOf (places : List Place) (arena : List (List ℕ)) (spare : Li
   -- each block of the arena is a place's, or spare, and no more than one of these
   pub once : (s : ℕ) → times s (spots places) + times s spare ≡ one_below (length arena) s
   pub shared : length places + length spare ≡ length arena
-  pub small : room < 4294967296
+  pub small : room < 2 ^ 32
   -- no more than the limit are in use
   pub few : length places ≤ limit
   pub within : limit ≤ room

@@ -3,6 +3,7 @@ pub mod Blocks
 pub mod Clearing
 pub mod Code
 pub mod Empty
+pub mod Following
 pub mod Held
 pub mod Key
 pub mod MapValue

@@ -4,6 +4,7 @@ use Rattle.lfs_model.specs.Entry.{Inode, Map, word}
 use Rattle.lfs_model.specs.Stands.{LogMap}
 use Rattle.lfs_model.specs.Memory.{HasPointer, is_nameless, shown}
 use Rattle.lfs_model.specs.Running.{Tables}
+use Rattle.lfs_model.specs.declared.limits.TheConstants.{BLOCK_POINTERS, FILE_NUMBERS, MAP_BLOCKS, SECTOR_LEN}
 
 pub record MapValue : Type 0 where
   -- the address of the inode of each number: 0 for none, 1 for one in memory
@@ -27,9 +28,9 @@ abbrev pub shown_in : MapValue → ℕ → ℕ
 shown_in v n = cond (is_hidden_in v n) 0 (address_in v n)
 
 pub record IsMap (v : MapValue) : Type 0 where
-  pub addresses : length v.addresses ≡ 4096
-  pub hidden : length v.hidden ≡ 4096
-  pub blocks : length v.blocks ≡ 32
+  pub addresses : length v.addresses ≡ FILE_NUMBERS
+  pub hidden : length v.hidden ≡ FILE_NUMBERS
+  pub blocks : length v.blocks ≡ MAP_BLOCKS
 
 -- no inode, and no block
 pub record IsEmptyMap (v : MapValue) : Type 0 where
@@ -39,35 +40,35 @@ pub record IsEmptyMap (v : MapValue) : Type 0 where
 
 -- block j of the map shows no inode
 abbrev pub ShowsNone : MapValue → ℕ → Type 0
-ShowsNone v j = (i : ℕ) → i < 128 → shown_in v (128 * j + i) ≡ 0
+ShowsNone v j = (i : ℕ) → i < BLOCK_POINTERS → shown_in v (BLOCK_POINTERS * j + i) ≡ 0
 
 -- the bytes are block j of the map, which shows one
 pub record SpellsShown (v : MapValue) (j : ℕ) (bytes : List ℕ) : Type 0 where
-  pub long : length bytes ≡ 512
-  pub spells : (i : ℕ) → i < 128 → word bytes i ≡ shown_in v (128 * j + i)
+  pub long : length bytes ≡ SECTOR_LEN
+  pub spells : (i : ℕ) → i < BLOCK_POINTERS → word bytes i ≡ shown_in v (BLOCK_POINTERS * j + i)
   pub some : HasPointer bytes
 
 -- the map is that of these tables, and the files that it hides are those that the log map has without a name
 pub record IsMapOf (v : MapValue) (m : LogMap) (t : Tables) : Type 0 where
-  pub inodes : (n : ℕ) → n < 4096 → t.at (Inode n) ≡ address_in v n
-  pub hidden : (n : ℕ) → n < 4096 → is_nameless m n ≡ is_hidden_in v n
-  pub blocks : (j : ℕ) → j < 32 → t.at (Map j) ≡ block_in v j
+  pub inodes : (n : ℕ) → n < FILE_NUMBERS → t.at (Inode n) ≡ address_in v n
+  pub hidden : (n : ℕ) → n < FILE_NUMBERS → is_nameless m n ≡ is_hidden_in v n
+  pub blocks : (j : ℕ) → j < MAP_BLOCKS → t.at (Map j) ≡ block_in v j
 
 -- the inodes that block j shows have addresses on the device
 abbrev pub AreSettled : LogMap → Tables → ℕ → Type 0
-AreSettled m t j = (i : ℕ) → i < 128 → shown m t.at (Inode (128 * j + i)) ≡ 1 → ⊥
+AreSettled m t j = (i : ℕ) → i < BLOCK_POINTERS → shown m t.at (Inode (BLOCK_POINTERS * j + i)) ≡ 1 → ⊥
 
 -- a number that no file has
 pub record IsUnusedNumber (v : MapValue) (n : ℕ) : Type 0 where
   pub some : 1 ≤ n
-  pub few : n < 4096
+  pub few : n < FILE_NUMBERS
   pub free : address_in v n ≡ 0
   pub least : (k : ℕ) → 1 ≤ k → k < n → 0 < address_in v k
 
 -- the addresses of block j of the map are these, and nothing else changes
 pub record IsLoaded (old new : MapValue) (j : ℕ) (addresses : List ℕ) : Type 0 where
-  pub own : (i : ℕ) → i < 128 → address_in new (128 * j + i) ≡ get_or addresses i 0
-  pub before : (n : ℕ) → n < 128 * j → address_in new n ≡ address_in old n
-  pub past : (n : ℕ) → 128 * j + 128 ≤ n → address_in new n ≡ address_in old n
+  pub own : (i : ℕ) → i < BLOCK_POINTERS → address_in new (BLOCK_POINTERS * j + i) ≡ get_or addresses i 0
+  pub before : (n : ℕ) → n < BLOCK_POINTERS * j → address_in new n ≡ address_in old n
+  pub past : (n : ℕ) → BLOCK_POINTERS * j + BLOCK_POINTERS ≤ n → address_in new n ≡ address_in old n
   pub hidden : new.hidden ≡ old.hidden
   pub blocks : new.blocks ≡ old.blocks

@@ -9,7 +9,9 @@ ghost use Rattle.lfs_inodes.specs.Data.{is_data_code};
 
 use lfs_layout::{BlockName, DOUBLE_POINTER, FIRST_POINTER, SINGLE_POINTER};
 use lfs_model::BlockKind;
-use lfs_model::limits::{BLOCK_POINTERS, DIRECT_BLOCKS};
+use lfs_model::limits::{
+    BLOCK_POINTERS, DIRECT_BLOCKS, FILE_NUMBERS, LAST_BLOCK, LAST_LEAF, LAST_NUMBER,
+};
 
 /// The pointer to a block that is in memory. It is a checkpoint slot, and no block's address.
 pub const IN_MEMORY: u32 = 1;
@@ -39,8 +41,8 @@ impl BlockKey {
     /// The data block of a file at this index, at most 16,623.
     pub fn data(file: u16, index: u32) -> BlockKey
         requires some { 1 ≤ file }
-        requires file { file ≤ 4095 }
-        requires index { index ≤ 16623 }
+        requires file { file ≤ LAST_NUMBER }
+        requires index { index ≤ LAST_BLOCK }
         ensures { entry_at result.code ≡ Data file index }
     {
         BlockKey {
@@ -52,8 +54,8 @@ impl BlockKey {
     /// under the double root.
     pub fn leaf(file: u16, index: u32) -> BlockKey
         requires some { 1 ≤ file }
-        requires file { file ≤ 4095 }
-        requires index { index ≤ 128 }
+        requires file { file ≤ LAST_NUMBER }
+        requires index { index ≤ LAST_LEAF }
         ensures { entry_at result.code ≡ Leaf file index }
     {
         BlockKey {
@@ -64,7 +66,7 @@ impl BlockKey {
     /// The double root of a file.
     pub fn double(file: u16) -> BlockKey
         requires some { 1 ≤ file }
-        requires file { file ≤ 4095 }
+        requires file { file ≤ LAST_NUMBER }
         ensures { entry_at result.code ≡ Double file }
     {
         BlockKey {
@@ -75,7 +77,7 @@ impl BlockKey {
     /// The inode of a file.
     pub fn inode(file: u16) -> BlockKey
         requires some { 1 ≤ file }
-        requires file { file ≤ 4095 }
+        requires file { file ≤ LAST_NUMBER }
         ensures { entry_at result.code ≡ Inode file }
     {
         BlockKey {
@@ -84,7 +86,7 @@ impl BlockKey {
     }
 
     pub fn kind(self) -> BlockKind
-        ensures { result ≡ kind_by (self.code / 134217728) }
+        ensures { result ≡ kind_by (self.code / KIND) }
     {
         match self.code / KIND {
             0 => BlockKind::Data,
@@ -121,15 +123,15 @@ impl BlockKey {
 
     /// The file of the block.
     pub fn file(self) -> u16
-        ensures file { result ≡ self.code / 32768 % 4096 }
+        ensures file { result ≡ self.code / FILE % FILE_NUMBERS }
         ensures some { 1 ≤ result }
-        ensures few { result ≤ 4095 }
+        ensures few { result ≤ LAST_NUMBER }
     {
-        (self.code / FILE % 4_096) as u16
+        (self.code / FILE % FILE_NUMBERS as u32) as u16
     }
 
     pub fn index(self) -> u32
-        ensures { result ≡ self.code % 32768 }
+        ensures { result ≡ self.code % FILE }
     {
         self.code % FILE
     }
@@ -194,7 +196,7 @@ impl BlockKey {
     /// The place of 4 bytes there at which this block's address stands; 0 for an inode.
     pub fn pointer(self) -> usize
         ensures pointer { result ≡ pointer (entry_at self.code) }
-        ensures low { result < 128 }
+        ensures low { result < BLOCK_POINTERS }
     {
         let index = self.index();
         match self.kind() {

@@ -9,11 +9,15 @@ ghost use Rattle.lfs_model.specs.Pointers.{FitsPointers, pointer_sector};
 ghost use Rattle.lfs_inodes.specs.MapValue.{MapValue, IsMap, IsEmptyMap, IsUnusedNumber, IsLoaded, IsMapOf, AreSettled, ShowsNone, SpellsShown, address_in, is_hidden_in, block_in, shown_in};
 
 use lfs_layout::{PointerView, encode_pointers};
+use lfs_model::limits::{BLOCK_POINTERS, FILE_NUMBERS, MAP_BLOCKS};
 use std::alloc::{AllocError, Global};
 use std::marker::Model;
 
 /// How many numbers there are; number 0 is nobody's.
-const NUMBERS: usize = 4_096;
+const NUMBERS: usize = FILE_NUMBERS as usize;
+
+/// How many addresses a block of the map has.
+const POINTERS: usize = BLOCK_POINTERS as usize;
 
 /// For each number the address of its inode, 0 where there is none and 1 where it is in memory, and
 /// whether its file is without a name. For each block of the map its address, 0 where there is none
@@ -64,7 +68,7 @@ impl InodeMap {
 
     /// The address of an inode.
     pub fn address(&self, number: u16) -> u32
-        requires { number < 4096 }
+        requires { number < FILE_NUMBERS }
         ensures { result ≡ address_in self.now number }
     {
         self.addresses[number as usize]
@@ -72,7 +76,7 @@ impl InodeMap {
 
     /// The inode has this address.
     pub fn set_address(&mut self, number: u16, address: u32)
-        requires { number < 4096 }
+        requires { number < FILE_NUMBERS }
         ensures set { self.new ≡ record self.old
             { addresses = slice_set self.old.addresses number address } }
         ensures changed { IsSet (address_in self.old) (address_in self.new) number address }
@@ -82,7 +86,7 @@ impl InodeMap {
 
     /// Whether the file is without a name.
     pub fn is_hidden(&self, number: u16) -> bool
-        requires { number < 4096 }
+        requires { number < FILE_NUMBERS }
         ensures { result ≡ is_hidden_in self.now number }
     {
         self.hidden[number as usize]
@@ -90,7 +94,7 @@ impl InodeMap {
 
     /// The file is without a name, or has one.
     pub fn set_hidden(&mut self, number: u16, hidden: bool)
-        requires { number < 4096 }
+        requires { number < FILE_NUMBERS }
         ensures set { self.new ≡ record self.old
             { hidden = slice_set self.old.hidden number hidden } }
         ensures changed { IsSet (is_hidden_in self.old) (is_hidden_in self.new) number hidden }
@@ -100,7 +104,7 @@ impl InodeMap {
 
     /// The address of a block of the map.
     pub fn block_address(&self, index: usize) -> u32
-        requires { index < 32 }
+        requires { index < MAP_BLOCKS }
         ensures value { result ≡ block_in self.now index }
         ensures size { IsMap self.now }
     {
@@ -116,7 +120,7 @@ impl InodeMap {
 
     /// The block of the map has this address.
     pub fn set_block_address(&mut self, index: usize, address: u32)
-        requires { index < 32 }
+        requires { index < MAP_BLOCKS }
         ensures set { self.new ≡ record self.old
             { blocks = slice_set self.old.blocks index address } }
         ensures changed { IsSet (block_in self.old) (block_in self.new) index address }
@@ -127,20 +131,20 @@ impl InodeMap {
 
     /// Takes the addresses of 128 inodes from a block of the map.
     pub fn load(&mut self, index: usize, block: &PointerView<'_>)
-        requires { index < 32 }
+        requires { index < MAP_BLOCKS }
         ensures { IsLoaded self.old self.new index block.now }
     {
-        for place in 0..128usize {
-            self.addresses[128 * index + place] = block.get(place);
+        for place in 0..POINTERS {
+            self.addresses[POINTERS * index + place] = block.get(place);
         }
     }
 
     /// The least number from 1 on that has no inode.
     pub fn least_free(&self) -> Option<u16>
         ensures some { IfSome result (IsUnusedNumber self.now) }
-        ensures none { IfNone result ((k : ℕ) → 1 ≤ k → k < 4096 → 0 < address_in self.now k) }
+        ensures none { IfNone result ((k : ℕ) → 1 ≤ k → k < FILE_NUMBERS → 0 < address_in self.now k) }
     {
-        for number in 1..4_096u16 {
+        for number in 1..FILE_NUMBERS {
             if self.addresses[number as usize] == 0 {
                 return Some(number);
             }
@@ -150,7 +154,7 @@ impl InodeMap {
 
     /// The address of an inode that a block of the map shows: none for a file without a name.
     fn shown_address(&self, number: usize) -> u32
-        requires { number < 4096 }
+        requires { number < FILE_NUMBERS }
         ensures { result ≡ shown_in self.now number }
     {
         if self.hidden[number] {
@@ -162,39 +166,39 @@ impl InodeMap {
 
     /// The addresses that a block of the map shows.
     fn shown_block(&self, index: usize) -> [u32; 128]
-        requires { index < 32 }
-        ensures { (i : ℕ) → i < 128 → get_or result i 0 ≡ shown_in self.now (128 * index + i) }
+        requires { index < MAP_BLOCKS }
+        ensures { (i : ℕ) → i < BLOCK_POINTERS → get_or result i 0 ≡ shown_in self.now (BLOCK_POINTERS * index + i) }
     {
         let mut shown = [0; 128];
-        for place in 0..128usize {
-            shown[place] = self.shown_address(128 * index + place);
+        for place in 0..POINTERS {
+            shown[place] = self.shown_address(POINTERS * index + place);
         }
         shown
     }
 
     /// The addresses of a block of the map, if it shows each of them: each file has a name.
     fn named_block(&self, index: usize) -> Option<&[u32]>
-        requires { index < 32 }
-        ensures each { IfSome result (λ a. (i : ℕ) → i < 128
-            → get_or a.now i 0 ≡ shown_in self.now (128 * index + i)) }
-        ensures length { IfSome result (λ a. length a.now ≡ 128) }
+        requires { index < MAP_BLOCKS }
+        ensures each { IfSome result (λ a. (i : ℕ) → i < BLOCK_POINTERS
+            → get_or a.now i 0 ≡ shown_in self.now (BLOCK_POINTERS * index + i)) }
+        ensures length { IfSome result (λ a. length a.now ≡ BLOCK_POINTERS) }
     {
-        let first = 128 * index;
-        if self.hidden[first..first + 128].contains(&true) {
+        let first = POINTERS * index;
+        if self.hidden[first..first + POINTERS].contains(&true) {
             return None;
         }
-        Some(&self.addresses[first..first + 128])
+        Some(&self.addresses[first..first + POINTERS])
     }
 
     /// A block of the map as it is written, or `None` where it would show no inode.
     pub fn encode(&self, index: usize) -> Option<[u8; 512]>
-        requires { index < 32 }
+        requires { index < MAP_BLOCKS }
         ensures some { IfSome result (SpellsShown self.now index) }
         ensures none { IfNone result (ShowsNone self.now index) }
         ensures written { (m : LogMap) (t : Tables) → IsMapOf self.now m t → AreSettled m t index
             → IfSome result (SpellsMap m t index) }
         ensures dropped { (m : LogMap) (t : Tables) → IsMapOf self.now m t
-            → IfNone result ((i : ℕ) → i < 128 → shown m t.at (Inode (128 * index + i)) ≡ 0) }
+            → IfNone result ((i : ℕ) → i < BLOCK_POINTERS → shown m t.at (Inode (BLOCK_POINTERS * index + i)) ≡ 0) }
     {
         if let Some(addresses) = self.named_block(index) {
             return spelled(addresses);
@@ -204,7 +208,7 @@ impl InodeMap {
 
     /// The same of a block that hides some of its files, which is put together first.
     fn encode_shown(&self, index: usize) -> Option<[u8; 512]>
-        requires { index < 32 }
+        requires { index < MAP_BLOCKS }
         ensures some { IfSome result (SpellsShown self.now index) }
         ensures none { IfNone result (ShowsNone self.now index) }
     {
@@ -214,10 +218,10 @@ impl InodeMap {
 
 /// The block of these addresses, unless all are 0.
 fn spelled(addresses: &[u32]) -> Option<[u8; 512]>
-    requires { length addresses.now ≡ 128 }
+    requires { length addresses.now ≡ BLOCK_POINTERS }
     ensures fits { FitsPointers addresses.now }
     ensures some { IfSome result (λ bytes. bytes ≡ pointer_sector addresses.now) }
-    ensures shows { IfSome result (λ bytes. (i : ℕ) × (i < 128) × (0 < get_or addresses.now i 0)) }
+    ensures shows { IfSome result (λ bytes. (i : ℕ) × (i < BLOCK_POINTERS) × (0 < get_or addresses.now i 0)) }
     ensures none { IfNone result ((i : ℕ) → get_or addresses.now i 0 ≡ 0) }
 {
     if is_empty(addresses) {
@@ -228,9 +232,9 @@ fn spelled(addresses: &[u32]) -> Option<[u8; 512]>
 
 /// Whether all addresses are 0.
 fn is_empty(addresses: &[u32]) -> bool
-    requires { length addresses.now ≡ 128 }
+    requires { length addresses.now ≡ BLOCK_POINTERS }
     ensures empty { IsTrue result → (i : ℕ) → get_or addresses.now i 0 ≡ 0 }
-    ensures some { IsFalse result → (i : ℕ) × (i < 128) × (0 < get_or addresses.now i 0) }
+    ensures some { IsFalse result → (i : ℕ) × (i < BLOCK_POINTERS) × (0 < get_or addresses.now i 0) }
 {
     for address in addresses {
         if *address != 0 {

@@ -1,8 +1,8 @@
 //! The way from an inode to the blocks of its file.
-ghost use Rattle.std.specs.Prelude.{[], ◌≡◌, ◌<◌, ◌≤◌, ◌↔◌, IsTrue, IfOk, OnOk, IsErrOf};
-ghost use Rattle.lfs_model.specs.Device.{Carries, Elapses, IsUntouched};
+ghost use Rattle.std.specs.Prelude.{[], ◌≡◌, ◌<◌, ◌≤◌, ◌↔◌, IsTrue, IfOk, IsErrOf};
 ghost use Rattle.lfs_model.specs.Content.{block};
 ghost use Rattle.lfs_model.specs.Entry.{word};
+ghost use Rattle.lfs_inodes.specs.Following.{FollowsPointers};
 ghost use Rattle.lfs_inodes.specs.Key.{entry_of};
 ghost use Rattle.lfs_inodes.specs.Pointed.{ArePointers, leaf_in, data_in, pointed, IsLost, IsLeafLost, IsDataLost, IsWayLost};
 
@@ -27,16 +27,7 @@ pub(crate) fn pointer_at<D: SectorDevice>(
         → found ≡ word (block (D.state device.old).content address) place) }
     ensures unreadable { IsErrOf result ReadFault.Unreadable → (D.state device.new).keeps_model
         → IsLost (D.state device.old).content address }
-    ensures failed { IsErrOf result ReadFault.Failed
-        → (D.state device.old).failures < (D.state device.new).failures }
-    ensures no_failure { OnOk result
-        ((D.state device.new).failures ≡ (D.state device.old).failures) }
-    ensures no_failure_unreadable { IsErrOf result ReadFault.Unreadable
-        → (D.state device.new).failures ≡ (D.state device.old).failures }
-    ensures untouched { IsUntouched (D.state device.old) (D.state device.new) }
-    ensures carries { Carries (D.state device.old) (D.state device.new) }
-    ensures time { Elapses (D.state device.old) (D.state device.new) }
-    ensures told { (D.state device.new).told ≡ (D.state device.old).told }
+    ensures follows { FollowsPointers (D.state device.old) (D.state device.new) result }
 {
     if address == 0 {
         return Ok(0);
@@ -57,16 +48,7 @@ pub(crate) fn pointers_at<D: SectorDevice>(
         → ArePointers found (block (D.state device.old).content address)) }
     ensures unreadable { IsErrOf result ReadFault.Unreadable → (D.state device.new).keeps_model
         → IsLost (D.state device.old).content address }
-    ensures failed { IsErrOf result ReadFault.Failed
-        → (D.state device.old).failures < (D.state device.new).failures }
-    ensures no_failure { OnOk result
-        ((D.state device.new).failures ≡ (D.state device.old).failures) }
-    ensures no_failure_unreadable { IsErrOf result ReadFault.Unreadable
-        → (D.state device.new).failures ≡ (D.state device.old).failures }
-    ensures untouched { IsUntouched (D.state device.old) (D.state device.new) }
-    ensures carries { Carries (D.state device.old) (D.state device.new) }
-    ensures time { Elapses (D.state device.old) (D.state device.new) }
-    ensures told { (D.state device.new).told ≡ (D.state device.old).told }
+    ensures follows { FollowsPointers (D.state device.old) (D.state device.new) result }
 {
     if address == 0 {
         return Ok(no_pointers());
@@ -114,16 +96,7 @@ fn locate_leaf<D: SectorDevice>(
         → address ≡ leaf_in (D.state device.old).content inode.now index) }
     ensures unreadable { IsErrOf result ReadFault.Unreadable → (D.state device.new).keeps_model
         → IsLeafLost (D.state device.old).content inode.now index }
-    ensures failed { IsErrOf result ReadFault.Failed
-        → (D.state device.old).failures < (D.state device.new).failures }
-    ensures no_failure { OnOk result
-        ((D.state device.new).failures ≡ (D.state device.old).failures) }
-    ensures no_failure_unreadable { IsErrOf result ReadFault.Unreadable
-        → (D.state device.new).failures ≡ (D.state device.old).failures }
-    ensures untouched { IsUntouched (D.state device.old) (D.state device.new) }
-    ensures carries { Carries (D.state device.old) (D.state device.new) }
-    ensures time { Elapses (D.state device.old) (D.state device.new) }
-    ensures told { (D.state device.new).told ≡ (D.state device.old).told }
+    ensures follows { FollowsPointers (D.state device.old) (D.state device.new) result }
 {
     if index == 0 {
         return Ok(word(inode, SINGLE_POINTER));
@@ -148,16 +121,7 @@ pub fn locate<D: SectorDevice>(
         → address ≡ data_in (D.state device.old).content inode.now index) }
     ensures unreadable { IsErrOf result ReadFault.Unreadable → (D.state device.new).keeps_model
         → IsDataLost (D.state device.old).content inode.now index }
-    ensures failed { IsErrOf result ReadFault.Failed
-        → (D.state device.old).failures < (D.state device.new).failures }
-    ensures no_failure { OnOk result
-        ((D.state device.new).failures ≡ (D.state device.old).failures) }
-    ensures no_failure_unreadable { IsErrOf result ReadFault.Unreadable
-        → (D.state device.new).failures ≡ (D.state device.old).failures }
-    ensures untouched { IsUntouched (D.state device.old) (D.state device.new) }
-    ensures carries { Carries (D.state device.old) (D.state device.new) }
-    ensures time { Elapses (D.state device.old) (D.state device.new) }
-    ensures told { (D.state device.new).told ≡ (D.state device.old).told }
+    ensures follows { FollowsPointers (D.state device.old) (D.state device.new) result }
 {
     if index < DIRECT {
         return Ok(word(inode, FIRST_POINTER + index as usize));
@@ -178,16 +142,7 @@ fn locate_block<D: SectorDevice>(
         → address ≡ pointed (D.state device.old).content inode.now (entry_of key)) }
     ensures unreadable { IsErrOf result ReadFault.Unreadable → (D.state device.new).keeps_model
         → IsWayLost (D.state device.old).content inode.now (entry_of key) }
-    ensures failed { IsErrOf result ReadFault.Failed
-        → (D.state device.old).failures < (D.state device.new).failures }
-    ensures no_failure { OnOk result
-        ((D.state device.new).failures ≡ (D.state device.old).failures) }
-    ensures no_failure_unreadable { IsErrOf result ReadFault.Unreadable
-        → (D.state device.new).failures ≡ (D.state device.old).failures }
-    ensures untouched { IsUntouched (D.state device.old) (D.state device.new) }
-    ensures carries { Carries (D.state device.old) (D.state device.new) }
-    ensures time { Elapses (D.state device.old) (D.state device.new) }
-    ensures told { (D.state device.new).told ≡ (D.state device.old).told }
+    ensures follows { FollowsPointers (D.state device.old) (D.state device.new) result }
 {
     match key.kind() {
         BlockKind::Data => locate(device, inode, key.index()),
@@ -214,16 +169,7 @@ pub fn owner_points<D: SectorDevice>(
         × (pointed (D.state device.old).content inode.now (entry_of key) ≡ address))) }
     ensures unreadable { IsErrOf result ReadFault.Unreadable → (D.state device.new).keeps_model
         → IsWayLost (D.state device.old).content inode.now (entry_of key) }
-    ensures failed { IsErrOf result ReadFault.Failed
-        → (D.state device.old).failures < (D.state device.new).failures }
-    ensures no_failure { OnOk result
-        ((D.state device.new).failures ≡ (D.state device.old).failures) }
-    ensures no_failure_unreadable { IsErrOf result ReadFault.Unreadable
-        → (D.state device.new).failures ≡ (D.state device.old).failures }
-    ensures untouched { IsUntouched (D.state device.old) (D.state device.new) }
-    ensures carries { Carries (D.state device.old) (D.state device.new) }
-    ensures time { Elapses (D.state device.old) (D.state device.new) }
-    ensures told { (D.state device.new).told ≡ (D.state device.old).told }
+    ensures follows { FollowsPointers (D.state device.old) (D.state device.new) result }
 {
     let found = locate_block(device, inode, key)?;
     Ok(address != 0 && found == address)

@@ -1,7 +1,7 @@
 //! The way from an inode to the blocks of its file, where some of them are in memory.
-ghost use Rattle.std.specs.Prelude.{◌≡◌, ◌<◌, ◌≤◌, ◌⊎◌, ◌==◌, ℕ, List, cond, IfOk, OnOk, IsErrOf};
-ghost use Rattle.lfs_model.specs.Device.{Carries, Elapses, IsUntouched};
+ghost use Rattle.std.specs.Prelude.{◌≡◌, ◌<◌, ◌≤◌, ◌⊎◌, ◌==◌, ℕ, List, cond, IfOk, IsErrOf};
 ghost use Rattle.lfs_model.specs.Entry.{Leaf, word};
+ghost use Rattle.lfs_inodes.specs.Following.{FollowsPointers};
 ghost use Rattle.lfs_inodes.specs.Key.{entry_of};
 ghost use Rattle.lfs_inodes.specs.Blocks.{blocks_of};
 ghost use Rattle.lfs_inodes.specs.Pointed.{ArePointers};
@@ -13,6 +13,7 @@ use crate::table::DirtyTable;
 use lfs_cache::CachedDevice;
 use lfs_device::{ReadFault, SectorDevice};
 use lfs_layout::{DOUBLE_POINTER, FIRST_POINTER, SINGLE_POINTER, word};
+use lfs_model::limits::{BLOCK_POINTERS, LAST_BLOCK, LAST_LEAF, LAST_NUMBER};
 
 /// The number at a place of 4 bytes of the block of this key, whose pointer is known; 0 where there
 /// is none.
@@ -24,22 +25,13 @@ fn present_pointer<D: SectorDevice>(
     address: u32,
     place: u32,
 ) -> Result<u32, ReadFault>
-    requires { place < 128 }
+    requires { place < BLOCK_POINTERS }
     ensures value { IfOk result (λ found. (D.state device.new).keeps_model
         → found ≡ word (present (D.state device.old).content (blocks_of table.now)
         (entry_of key) address) place) }
     ensures unreadable { IsErrOf result ReadFault.Unreadable → (D.state device.new).keeps_model
         → IsAway (D.state device.old).content address }
-    ensures failed { IsErrOf result ReadFault.Failed
-        → (D.state device.old).failures < (D.state device.new).failures }
-    ensures no_failure { OnOk result
-        ((D.state device.new).failures ≡ (D.state device.old).failures) }
-    ensures no_failure_unreadable { IsErrOf result ReadFault.Unreadable
-        → (D.state device.new).failures ≡ (D.state device.old).failures }
-    ensures untouched { IsUntouched (D.state device.old) (D.state device.new) }
-    ensures carries { Carries (D.state device.old) (D.state device.new) }
-    ensures time { Elapses (D.state device.old) (D.state device.new) }
-    ensures told { (D.state device.new).told ≡ (D.state device.old).told }
+    ensures follows { FollowsPointers (D.state device.old) (D.state device.new) result }
 {
     if address != IN_MEMORY {
         return pointer_at(device, address, place);
@@ -66,16 +58,7 @@ pub fn present_pointers<D: SectorDevice>(
         (entry_of key) address)) }
     ensures unreadable { IsErrOf result ReadFault.Unreadable → (D.state device.new).keeps_model
         → IsAway (D.state device.old).content address }
-    ensures failed { IsErrOf result ReadFault.Failed
-        → (D.state device.old).failures < (D.state device.new).failures }
-    ensures no_failure { OnOk result
-        ((D.state device.new).failures ≡ (D.state device.old).failures) }
-    ensures no_failure_unreadable { IsErrOf result ReadFault.Unreadable
-        → (D.state device.new).failures ≡ (D.state device.old).failures }
-    ensures untouched { IsUntouched (D.state device.old) (D.state device.new) }
-    ensures carries { Carries (D.state device.old) (D.state device.new) }
-    ensures time { Elapses (D.state device.old) (D.state device.new) }
-    ensures told { (D.state device.new).told ≡ (D.state device.old).told }
+    ensures follows { FollowsPointers (D.state device.old) (D.state device.new) result }
 {
     if address != IN_MEMORY {
         return pointers_at(device, address);
@@ -96,8 +79,8 @@ fn leaf_behind<D: SectorDevice>(
     index: u32,
 ) -> Result<u32, ReadFault>
     requires some { 1 ≤ file }
-    requires file { file ≤ 4095 }
-    requires index { index ≤ 128 }
+    requires file { file ≤ LAST_NUMBER }
+    requires index { index ≤ LAST_LEAF }
     ensures value { IfOk result (λ pointer. (inode : List ℕ) → first ≡ word inode (leaf_first index)
         → (D.state device.new).keeps_model → pointer ≡ leaf_now (D.state device.old).content
         (blocks_of table.now) file inode index) }
@@ -105,16 +88,7 @@ fn leaf_behind<D: SectorDevice>(
         → (inode : List ℕ) → first ≡ word inode (leaf_first index)
         → (D.state device.new).keeps_model
         → IsLeafAway (D.state device.old).content inode index }
-    ensures failed { IsErrOf result ReadFault.Failed
-        → (D.state device.old).failures < (D.state device.new).failures }
-    ensures no_failure { OnOk result
-        ((D.state device.new).failures ≡ (D.state device.old).failures) }
-    ensures no_failure_unreadable { IsErrOf result ReadFault.Unreadable
-        → (D.state device.new).failures ≡ (D.state device.old).failures }
-    ensures untouched { IsUntouched (D.state device.old) (D.state device.new) }
-    ensures carries { Carries (D.state device.old) (D.state device.new) }
-    ensures time { Elapses (D.state device.old) (D.state device.new) }
-    ensures told { (D.state device.new).told ≡ (D.state device.old).told }
+    ensures follows { FollowsPointers (D.state device.old) (D.state device.new) result }
 {
     if index == 0 {
         return Ok(first);
@@ -127,7 +101,7 @@ fn leaf_behind<D: SectorDevice>(
 /// begins.
 pub fn first_pointer(index: u32) -> usize
     ensures value { result ≡ data_first index }
-    ensures within { result < 128 }
+    ensures within { result < BLOCK_POINTERS }
 {
     if index < DIRECT {
         return FIRST_POINTER + index as usize;
@@ -140,9 +114,9 @@ pub fn first_pointer(index: u32) -> usize
 
 /// The place of 4 bytes of an inode at which the pointer stands with which the way to a leaf begins.
 pub fn first_of_leaf(index: u32) -> usize
-    requires { index ≤ 128 }
+    requires { index ≤ LAST_LEAF }
     ensures value { result ≡ leaf_first index }
-    ensures within { result < 128 }
+    ensures within { result < BLOCK_POINTERS }
 {
     if index == 0 {
         SINGLE_POINTER
@@ -166,8 +140,8 @@ pub fn leaf_pointers<D: SectorDevice>(
     index: u32,
 ) -> Result<Pointers, ReadFault>
     requires some { 1 ≤ file }
-    requires file { file ≤ 4095 }
-    requires index { index ≤ 128 }
+    requires file { file ≤ LAST_NUMBER }
+    requires index { index ≤ LAST_LEAF }
     ensures value { IfOk result (λ found. (inode : List ℕ) → first ≡ word inode (leaf_first index)
         → (D.state device.new).keeps_model → ArePointers found
         (present (D.state device.old).content (blocks_of table.now) (Leaf file index)
@@ -178,16 +152,7 @@ pub fn leaf_pointers<D: SectorDevice>(
         → IsLeafAway (D.state device.old).content inode index
         ⊎ IsAway (D.state device.old).content
         (leaf_now (D.state device.old).content (blocks_of table.now) file inode index) }
-    ensures failed { IsErrOf result ReadFault.Failed
-        → (D.state device.old).failures < (D.state device.new).failures }
-    ensures no_failure { OnOk result
-        ((D.state device.new).failures ≡ (D.state device.old).failures) }
-    ensures no_failure_unreadable { IsErrOf result ReadFault.Unreadable
-        → (D.state device.new).failures ≡ (D.state device.old).failures }
-    ensures untouched { IsUntouched (D.state device.old) (D.state device.new) }
-    ensures carries { Carries (D.state device.old) (D.state device.new) }
-    ensures time { Elapses (D.state device.old) (D.state device.new) }
-    ensures told { (D.state device.new).told ≡ (D.state device.old).told }
+    ensures follows { FollowsPointers (D.state device.old) (D.state device.new) result }
 {
     let pointer = leaf_behind(device, table, file, first, index)?;
     present_pointers(device, table, BlockKey::leaf(file, index), pointer)
@@ -207,8 +172,8 @@ pub fn locate_behind<D: SectorDevice>(
     index: u32,
 ) -> Result<u32, ReadFault>
     requires some { 1 ≤ file }
-    requires file { file ≤ 4095 }
-    requires index { index ≤ 16623 }
+    requires file { file ≤ LAST_NUMBER }
+    requires index { index ≤ LAST_BLOCK }
     ensures value { IfOk result (λ pointer. (inode : List ℕ) → first ≡ word inode (data_first index)
         → (D.state device.new).keeps_model → pointer ≡ data_now (D.state device.old).content
         (blocks_of table.now) file inode index) }
@@ -216,16 +181,7 @@ pub fn locate_behind<D: SectorDevice>(
         → (inode : List ℕ) → first ≡ word inode (data_first index)
         → (D.state device.new).keeps_model
         → IsDataAway (D.state device.old).content (blocks_of table.now) file inode index }
-    ensures failed { IsErrOf result ReadFault.Failed
-        → (D.state device.old).failures < (D.state device.new).failures }
-    ensures no_failure { OnOk result
-        ((D.state device.new).failures ≡ (D.state device.old).failures) }
-    ensures no_failure_unreadable { IsErrOf result ReadFault.Unreadable
-        → (D.state device.new).failures ≡ (D.state device.old).failures }
-    ensures untouched { IsUntouched (D.state device.old) (D.state device.new) }
-    ensures carries { Carries (D.state device.old) (D.state device.new) }
-    ensures time { Elapses (D.state device.old) (D.state device.new) }
-    ensures told { (D.state device.new).told ≡ (D.state device.old).told }
+    ensures follows { FollowsPointers (D.state device.old) (D.state device.new) result }
 {
     if index < DIRECT {
         return Ok(first);
@@ -252,23 +208,14 @@ pub fn locate_present<D: SectorDevice>(
     index: u32,
 ) -> Result<u32, ReadFault>
     requires some { 1 ≤ file }
-    requires file { file ≤ 4095 }
-    requires index { index ≤ 16623 }
+    requires file { file ≤ LAST_NUMBER }
+    requires index { index ≤ LAST_BLOCK }
     ensures value { IfOk result (λ pointer. (D.state device.new).keeps_model
         → pointer ≡ data_now (D.state device.old).content
         (blocks_of table.now) file inode.now index) }
     ensures unreadable { IsErrOf result ReadFault.Unreadable → (D.state device.new).keeps_model
         → IsDataAway (D.state device.old).content (blocks_of table.now) file inode.now index }
-    ensures failed { IsErrOf result ReadFault.Failed
-        → (D.state device.old).failures < (D.state device.new).failures }
-    ensures no_failure { OnOk result
-        ((D.state device.new).failures ≡ (D.state device.old).failures) }
-    ensures no_failure_unreadable { IsErrOf result ReadFault.Unreadable
-        → (D.state device.new).failures ≡ (D.state device.old).failures }
-    ensures untouched { IsUntouched (D.state device.old) (D.state device.new) }
-    ensures carries { Carries (D.state device.old) (D.state device.new) }
-    ensures time { Elapses (D.state device.old) (D.state device.new) }
-    ensures told { (D.state device.new).told ≡ (D.state device.old).told }
+    ensures follows { FollowsPointers (D.state device.old) (D.state device.new) result }
 {
     let first = word(inode, first_pointer(index));
     locate_behind(device, table, file, first, index)

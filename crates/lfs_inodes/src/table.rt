@@ -19,7 +19,7 @@ ghost use Rattle.lfs_inodes.specs.Held.{times, Stores};
 ghost use Rattle.lfs_inodes.specs.Data.{data_count, is_data_code};
 
 use crate::key::{BlockKey, IN_MEMORY};
-use lfs_layout::{set_word, word};
+use lfs_layout::{SECTOR_WORDS, set_word, word};
 use std::alloc::{AllocError, Global};
 use std::cell::Cell;
 use std::marker::Model;
@@ -276,7 +276,7 @@ impl DirtyTable {
 
     /// Puts a number at a place of 4 bytes of a block, if the block is here.
     pub fn patch(&mut self, key: BlockKey, place: usize, number: u32)
-        requires { place < 128 }
+        requires { place < SECTOR_WORDS }
         ensures patched { self.new ≡ record self.old
             { blocks = altered (patched place number) key.code self.old.blocks } }
         ensures changed { ChangesTo (blocks_of self.old) (blocks_of self.new) (entry_of key)
@@ -361,7 +361,7 @@ impl DirtyTable {
 
     /// Puts 0 at so many places of 4 bytes of a block from one on, if the block is here.
     pub fn clear_words(&mut self, key: BlockKey, first: usize, number: usize)
-        requires { first + number ≤ 128 }
+        requires { first + number ≤ SECTOR_WORDS }
         ensures changed { ChangesTo (blocks_of self.old) (blocks_of self.new) (entry_of key)
             (option_map (zeroed first number) (blocks_of self.old (entry_of key))) }
         ensures length { length self.new.blocks ≡ length self.old.blocks }
@@ -422,10 +422,10 @@ impl DirtyTable {
 /// Whether all pointers of a block of pointers are 0.
 #[tactic(auto, unfolding(lfs_model::specs::Entry::word))]
 fn has_no_pointer(block: &[u8; 512]) -> bool
-    ensures yes { result ≡ true → (w : ℕ) → w < 128 → word block.now w ≡ 0 }
+    ensures yes { result ≡ true → (w : ℕ) → w < SECTOR_WORDS → word block.now w ≡ 0 }
     ensures no { result ≢ true → HasPointer block.now }
 {
-    for place in 0..128usize {
+    for place in 0..SECTOR_WORDS {
         if word(block, place) != 0 {
             return false;
         }
@@ -437,7 +437,7 @@ fn has_no_pointer(block: &[u8; 512]) -> bool
 /// unless the number is 0.
 #[tactic(auto, unfolding(lfs_model::specs::Memory::patched))]
 fn point(block: &mut [u8; 512], place: usize, number: u32)
-    requires { place < 128 }
+    requires { place < SECTOR_WORDS }
     ensures patched { block.new ≡ patched place number block.old }
     ensures leads { 0 < number → HasPointer block.new }
 {
@@ -462,7 +462,7 @@ fn may_empty(key: BlockKey, number: u32) -> bool
 fn store(arena: &mut Vec<[u8; 512]>, spare: &mut Vec<u32>, bytes: &[u8; 512]) -> u32
     requires low { (s : ℕ) → 1 ≤ times s spare.old.items → s < vec_len arena.old }
     requires room { vec_len spare.old ≡ 0 → vec_len arena.old < vec_capacity arena.old }
-    requires small { vec_len arena.old < 4294967296 }
+    requires small { vec_len arena.old < 2 ^ 32 }
     ensures stored { Stores arena.old.items spare.old.items arena.new.items spare.new.items
         bytes.now result }
     ensures blocks { vec_capacity arena.old ≤ vec_capacity arena.new }

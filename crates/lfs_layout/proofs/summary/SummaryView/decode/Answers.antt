@@ -64,7 +64,8 @@ pub returns-then-count-eq0-clause-exact : goal.returns-then-count-eq0-clause-exa
 returns-then-count-eq0-clause-exact c = summary_is c.args.sector.now None tt (λ v fits is. returns-then-count-eq0-clause-none c v fits is)
 
 pub returns-then-count-gt-CHUNK_BLOCKS-clause-exact : goal.returns-then-count-gt-CHUNK_BLOCKS-clause-exact
-returns-then-count-gt-CHUNK_BLOCKS-clause-exact c = summary_is c.args.sector.now None tt (λ v fits is. returns-then-count-gt-CHUNK_BLOCKS-clause-none c v fits is)
+returns-then-count-gt-CHUNK_BLOCKS-clause-exact c =
+    summary_is c.args.sector.now None tt (λ v fits is. returns-then-count-gt-CHUNK_BLOCKS-clause-none c v fits is)
 
 pub returns-then-not-is_zero_at-clause-exact : goal.returns-then-not-is_zero_at-clause-exact
 returns-then-not-is_zero_at-clause-exact c =
