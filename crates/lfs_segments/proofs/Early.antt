@@ -1,14 +1,14 @@
 -- The totals that are kept beside a usage table, as one segment changes.
-use Rattle.std.proofs.Common.{◌≡◌, ◌<◌, ◌≤◌, ◌+◌, ◌-◌, ◌*◌, ◌==◌, cond, ℕ, zero, suc, Bool, true, false, List, [], ◌∷◌, length, get_or}
-use Rattle.std.proofs.Common.{replicate, refl, sym, ap, ◌∙◌, arith, rules, eq-eqb, eqb-true, not}
+use Rattle.std.proofs.Common.{◌≡◌, ◌<◌, ◌≤◌, ◌+◌, ◌*◌, ◌==◌, cond, ℕ, zero, suc, Bool, true, false, List, [], ◌∷◌, length, get_or}
+use Rattle.std.proofs.Common.{replicate, refl, sym, ap, ◌∙◌, arith, rules, eq-eqb, not}
 use Rattle.std.specs.Prelude.{slice_set, sum_by}
 use Rattle.std.proofs.lemmas.List.Sums.{sum_by-cons}
-use Rattle.lfs_segments.specs.Table.{SegmentNumbers, UsageTable, no_segment, used_of, live_of, held_of, kept_of, FitsSegment, FitsTable}
+use Rattle.lfs_segments.specs.Table.{SegmentNumbers, UsageTable, no_segment, live_of, held_of, kept_of, FitsSegment, FitsTable}
 use Rattle.lfs_segments.specs.Early.{AreTotals, AreUntaken, early_of, early_in, taken_of, taken_in}
 use Rattle.lfs_segments.specs.Steps.{Notes, TakesSegment}
 use Rattle.lfs_segments.specs.Table.{clean_in}
-use Rattle.lfs_model.specs.Running.{CountsUp, IsSet}
-use Rattle.lfs_segments.proofs.Numbers.{clean_change, clean_most, all_clean}
+use Rattle.lfs_model.specs.Running.{CountsUp}
+use Rattle.lfs_segments.proofs.Numbers.{clean_change, all_clean}
 
 -- a sum of which one term changes
 sum_change : (f : SegmentNumbers → ℕ) (segments : List SegmentNumbers) (s : ℕ) (x : SegmentNumbers) → s < length segments

@@ -1,5 +1,5 @@
 -- Of the beginnings of a list that is chosen, that which gains most so far; at the end it is the choice.
-use Rattle.std.proofs.Common.{◌≡◌, ◌<◌, ◌≤◌, ◌⊎◌, ⊎_elim, ◌+◌, ◌-◌, ◌/◌, ℕ, zero, suc, List, [], ◌∷◌, ◌++◌, length, take, length-take-le}
+use Rattle.std.proofs.Common.{◌≡◌, ◌<◌, ◌≤◌, ◌⊎◌, ⊎_elim, ◌+◌, ◌-◌, ◌/◌, ℕ, List, [], ◌∷◌, ◌++◌, length, take, length-take-le}
 use Rattle.std.proofs.Common.{take_all, refl, sym, ap, ◌∙◌, subst, arith}
 use Rattle.std.specs.Prelude.{sum_by, Option, Some, None, IfSome, IfNone, is_some, true}
 use Rattle.std.specs.List.{AllByRecursion}

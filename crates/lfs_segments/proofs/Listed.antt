@@ -1,5 +1,5 @@
 -- The list of segments whose numbers change as a checkpoint is acknowledged: as one has other numbers, and as all of them change.
-use Rattle.std.proofs.Common.{◌≡◌, ◌<◌, ◌≤◌, ◌⊎◌, ⊎_elim, inl, inr, ◌+◌, ◌==◌, ◌&&◌, cond, ℕ, suc, Bool, true, false, List, length, get_or}
+use Rattle.std.proofs.Common.{◌≡◌, ◌<◌, ◌≤◌, ◌⊎◌, ⊎_elim, inl, ◌+◌, ◌==◌, ◌&&◌, cond, ℕ, suc, Bool, true, false, List, length, get_or}
 use Rattle.std.proofs.Common.{replicate, refl, sym, ◌∙◌, ap, subst, arith, eq-eqb, eqb-true, length-set, get_or-set_other, get_or-set_same}
 use Rattle.std.specs.Prelude.{slice_set}
 use Rattle.std.proofs.lemmas.Bool.{cases_eq}

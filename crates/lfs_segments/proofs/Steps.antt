@@ -3,13 +3,12 @@ use Rattle.std.proofs.Common.{Option, Some, ◌≡◌, ◌≢◌, ◌<◌, ◌�
 use Rattle.std.proofs.Common.{length, get_or, refl, sym, ◌∙◌, ap, subst, arith, length-set, get_or-set_other, get_or-set_same, eqb-true}
 use Rattle.std.proofs.Common.{eq-eqb}
 use Rattle.std.specs.Prelude.{slice_set}
-use Rattle.std.proofs.lemmas.Bool.{cases_eq, cases_lt, cases_Bool, cond-true, cond-false, false_from_ne_true}
-use Rattle.std.proofs.lemmas.List.{get_or_past}
+use Rattle.std.proofs.lemmas.Bool.{cases_eq, cases_Bool, cond-true, cond-false, false_from_ne_true}
 use Rattle.lfs_model.specs.Running.{IsSet, CountsUp, CountsDown}
 use Rattle.lfs_segments.specs.Table.{SegmentNumbers, PlaceInSegment, UsageTable, FitsSegment, FitsTable, no_segment, no_place, used_of}
 use Rattle.lfs_segments.specs.Table.{live_of, held_of, age_of, kept_of, clean_in}
-use Rattle.lfs_segments.specs.Steps.{Stales, Notes, Lifts, TakesAway, HidesBlocks, TakesSegment, GoesOn, PutsPlace, Releases, released}
-use Rattle.lfs_segments.specs.Steps.{is_empty}
+use Rattle.lfs_segments.specs.Steps.{Stales, Notes, Lifts, TakesAway, HidesBlocks, TakesSegment, GoesOn, PutsPlace, released}
+use Rattle.lfs_segments.specs.Steps.{is_empty, changed}
 use Rattle.lfs_segments.proofs.Numbers.{set_own, set_other, one_taken, still_clean, clean_change}
 
 module _ {X : Type 0} (f : SegmentNumbers → X) (segments : List SegmentNumbers) (s : ℕ) (x : SegmentNumbers)
@@ -199,54 +198,30 @@ same_table t u segments blocks opens = λ i. record { segments = segments i; blo
 pub notes_of : (old new : UsageTable) (s : ℕ) (x : SegmentNumbers) (lives : Bool) → FitsTable old → s < length old.segments
     → 0 < used_of old s → x.used ≡ suc (used_of old s) → x.live ≡ cond lives 1 0 + live_of old s
     → x.held ≡ cond (not lives) 1 0 + held_of old s
-    → x.age ≡ age_of old s → x.kept ≡ kept_of old s → new.segments ≡ slice_set old.segments s x
-    → new.blocks ≡ slice_set old.blocks (s / 64) (record { address = (get_or old.blocks (s / 64) no_place).address; stale = true })
-    → new.last ≡ old.last → Notes old new s lives
-notes_of old new s x lives fits lt some used live held age kept segments blocks last =
+    → x.age ≡ age_of old s → x.kept ≡ kept_of old s → new ≡ changed old s x → Notes old new s lives
+notes_of old new s x lives fits lt some used live held age kept is =
     let few = fits.few in
     let whole = fits.blocks in
-    subst (λ (t : UsageTable). Notes old t s lives)
-    (sym (same_table (record {
-      segments = slice_set old.segments s x;
-      blocks = slice_set old.blocks (s / 64)
-          (record { address = (get_or old.blocks (s / 64) no_place).address; stale = true });
-      last = old.last;
-    }) new segments blocks last))
+    subst (λ (t : UsageTable). Notes old t s lives) (sym is)
     (notes old.last old.segments old.blocks s x lives lt (omega arith) (λ z. omega arith) used live held age kept)
 
 pub lifts_of : (old new : UsageTable) (s : ℕ) (x : SegmentNumbers) (lives : Bool) → FitsTable old → s < length old.segments
     → x.used ≡ used_of old s → cond lives 1 0 + x.live ≡ live_of old s → cond (not lives) 1 0 + x.held ≡ held_of old s
-    → x.age ≡ age_of old s → x.kept ≡ kept_of old s → new.segments ≡ slice_set old.segments s x
-    → new.blocks ≡ slice_set old.blocks (s / 64) (record { address = (get_or old.blocks (s / 64) no_place).address; stale = true })
-    → new.last ≡ old.last → Lifts old new s lives
-lifts_of old new s x lives fits lt used live held age kept segments blocks last =
+    → x.age ≡ age_of old s → x.kept ≡ kept_of old s → new ≡ changed old s x → Lifts old new s lives
+lifts_of old new s x lives fits lt used live held age kept is =
     let few = fits.few in
     let whole = fits.blocks in
-    subst (λ (t : UsageTable). Lifts old t s lives)
-    (sym (same_table (record {
-      segments = slice_set old.segments s x;
-      blocks = slice_set old.blocks (s / 64)
-          (record { address = (get_or old.blocks (s / 64) no_place).address; stale = true });
-      last = old.last;
-    }) new segments blocks last))
+    subst (λ (t : UsageTable). Lifts old t s lives) (sym is)
     (lifts old.last old.segments old.blocks s x lives lt (omega arith) used live held age kept)
 
 pub goes_on_of : (old new : UsageTable) (s age : ℕ) (x : SegmentNumbers) → FitsTable old → s < length old.segments
     → 0 < live_of old s + held_of old s → used_of old s ≤ 62 → x.used ≡ suc (used_of old s) → x.live ≡ live_of old s
     → x.held ≡ held_of old s
-    → x.age ≡ age → x.kept ≡ kept_of old s → new.segments ≡ slice_set old.segments s x
-    → new.blocks ≡ slice_set old.blocks (s / 64) (record { address = (get_or old.blocks (s / 64) no_place).address; stale = true })
-    → new.last ≡ old.last → GoesOn old new s age
-goes_on_of old new s age x fits lt some room used live held aged kept segments blocks last =
+    → x.age ≡ age → x.kept ≡ kept_of old s → new ≡ changed old s x → GoesOn old new s age
+goes_on_of old new s age x fits lt some room used live held aged kept is =
     let few = fits.few in
     let whole = fits.blocks in
-    subst (λ (t : UsageTable). GoesOn old t s age)
-    (sym (same_table (record {
-      segments = slice_set old.segments s x;
-      blocks = slice_set old.blocks (s / 64)
-          (record { address = (get_or old.blocks (s / 64) no_place).address; stale = true });
-      last = old.last;
-    }) new segments blocks last))
+    subst (λ (t : UsageTable). GoesOn old t s age) (sym is)
     (goes_on old.last old.segments old.blocks s age x lt (omega arith) some room (fits.each s) used live held aged kept)
 
 pub takes_away : (o : Option ℕ) (segments : List SegmentNumbers) (blocks : List PlaceInSegment) (s count : ℕ) (x : SegmentNumbers)
@@ -275,19 +250,11 @@ takes_away o segments blocks s count x lives lt low used live held age kept = re
 
 pub takes_away_of : (old new : UsageTable) (s count : ℕ) (x : SegmentNumbers) (lives : Bool) → FitsTable old → s < length old.segments
     → x.used ≡ used_of old s → x.live ≡ live_of old s - cond lives count 0 → x.held ≡ held_of old s - cond (not lives) count 0
-    → x.age ≡ age_of old s → x.kept ≡ kept_of old s → new.segments ≡ slice_set old.segments s x
-    → new.blocks ≡ slice_set old.blocks (s / 64) (record { address = (get_or old.blocks (s / 64) no_place).address; stale = true })
-    → new.last ≡ old.last → TakesAway old new s count lives
-takes_away_of old new s count x lives fits lt used live held age kept segments blocks last =
+    → x.age ≡ age_of old s → x.kept ≡ kept_of old s → new ≡ changed old s x → TakesAway old new s count lives
+takes_away_of old new s count x lives fits lt used live held age kept is =
     let few = fits.few in
     let whole = fits.blocks in
-    subst (λ (t : UsageTable). TakesAway old t s count lives)
-    (sym (same_table (record {
-      segments = slice_set old.segments s x;
-      blocks = slice_set old.blocks (s / 64)
-          (record { address = (get_or old.blocks (s / 64) no_place).address; stale = true });
-      last = old.last;
-    }) new segments blocks last))
+    subst (λ (t : UsageTable). TakesAway old t s count lives) (sym is)
     (takes_away old.last old.segments old.blocks s count x lives lt (omega arith) used live held age kept)
 
 pub hides : (o : Option ℕ) (segments : List SegmentNumbers) (blocks : List PlaceInSegment) (s count : ℕ) (x : SegmentNumbers)
@@ -315,19 +282,11 @@ hides o segments blocks s count x lt low used live held age kept = record {
 
 pub hides_of : (old new : UsageTable) (s count : ℕ) (x : SegmentNumbers) → FitsTable old → s < length old.segments
     → x.used ≡ used_of old s → x.live + count ≡ live_of old s → x.held ≡ held_of old s + count
-    → x.age ≡ age_of old s → x.kept ≡ kept_of old s → new.segments ≡ slice_set old.segments s x
-    → new.blocks ≡ slice_set old.blocks (s / 64) (record { address = (get_or old.blocks (s / 64) no_place).address; stale = true })
-    → new.last ≡ old.last → HidesBlocks old new s count
-hides_of old new s count x fits lt used live held age kept segments blocks last =
+    → x.age ≡ age_of old s → x.kept ≡ kept_of old s → new ≡ changed old s x → HidesBlocks old new s count
+hides_of old new s count x fits lt used live held age kept is =
     let few = fits.few in
     let whole = fits.blocks in
-    subst (λ (t : UsageTable). HidesBlocks old t s count)
-    (sym (same_table (record {
-      segments = slice_set old.segments s x;
-      blocks = slice_set old.blocks (s / 64)
-          (record { address = (get_or old.blocks (s / 64) no_place).address; stale = true });
-      last = old.last;
-    }) new segments blocks last))
+    subst (λ (t : UsageTable). HidesBlocks old t s count) (sym is)
     (hides old.last old.segments old.blocks s count x lt (omega arith) used live held age kept)
 
 pub takes_of : (old new : UsageTable) (s age : ℕ) → FitsTable old → s < length old.segments → used_of old s ≡ 0

@@ -2,6 +2,7 @@
 use Rattle.std.specs.Prelude.{◌≡◌, ◌<◌, ◌≤◌, ◌⊎◌, ◌+◌, ◌-◌, ◌*◌, ℕ, List, length, take, Option, Some, None, ⊤}
 use Rattle.std.specs.List.{AllByRecursion}
 use Rattle.lfs_model.specs.Members.{IsIn, AreApart}
+use Rattle.lfs_model.specs.declared.limits.TheConstants.{CHUNK_BLOCKS}
 use Rattle.lfs_segments.specs.declared.candidate.Candidate.{Candidate}
 use Rattle.lfs_segments.specs.declared.candidate.Preference.{Preference}
 use Rattle.lfs_segments.specs.declared.candidate.Preference.TheVariants as preference
@@ -12,8 +13,9 @@ use Rattle.lfs_segments.specs.Victims.{load_of, gain_of, MayBeVictim, IsPreferre
 -- the order by benefit and cost, of segments with these blocks, ages and numbers
 abbrev pub IsPreferredAs : (now load age s load' age' s' : ℕ) → Type 0
 IsPreferredAs now load age s load' age' s' =
-    ((63 - load') * (now - age') * (63 + load) < (63 - load) * (now - age) * (63 + load'))
-    ⊎ (((63 - load') * (now - age') * (63 + load) ≡ (63 - load) * (now - age) * (63 + load')) × (s < s'))
+    ((CHUNK_BLOCKS - load') * (now - age') * (CHUNK_BLOCKS + load) < (CHUNK_BLOCKS - load) * (now - age) * (CHUNK_BLOCKS + load'))
+    ⊎ (((CHUNK_BLOCKS - load') * (now - age') * (CHUNK_BLOCKS + load) ≡ (CHUNK_BLOCKS - load) * (now - age) * (CHUNK_BLOCKS + load'))
+    × (s < s'))
 
 -- the order by blocks
 abbrev pub IsLighterAs : (load s load' s' : ℕ) → Type 0

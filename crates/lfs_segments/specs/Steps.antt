@@ -1,15 +1,34 @@
 -- What the calls on a usage table do, number by number.
 use Rattle.std.specs.Prelude.{Some, ◌≡◌, ◌<◌, ◌≤◌, ◌⊎◌, ◌+◌, ◌*◌, ◌-◌, ◌/◌, ◌==◌, ◌&&◌, cond, not, ℕ, suc, Bool, true, List, length, get_or}
+use Rattle.std.specs.Prelude.{slice_set}
 use Rattle.lfs_model.specs.Entry.{half, word}
 use Rattle.lfs_model.specs.Running.{IsSet, CountsUp, CountsDown}
 use Rattle.lfs_model.specs.Usage.{SegmentUse}
-use Rattle.lfs_segments.specs.Table.{SegmentNumbers, UsageTable, no_segment, used_of, live_of, held_of, age_of, kept_of, address_of}
+use Rattle.lfs_model.specs.declared.limits.TheConstants.{BLOCK_SEGMENTS, SECTOR_LEN, SEGMENT_SECTORS}
+use Rattle.lfs_segments.specs.Table.{SegmentNumbers, PlaceInSegment, UsageTable, no_segment, used_of, live_of, held_of, age_of, kept_of}
+use Rattle.lfs_segments.specs.Table.{address_of}
 use Rattle.lfs_segments.specs.Table.{stale_of, clean_in}
 
 -- where usage blocks stand, and which differ from what the device has, is as it was but for one, which differs
 pub record Stales (old new : UsageTable) (j : ℕ) : Type 0 where
   pub stale : IsSet (stale_of old) (stale_of new) j true
   pub address : (i : ℕ) → address_of new i ≡ address_of old i
+
+-- a usage block that differs from what the device has
+abbrev pub staled : UsageTable → ℕ → PlaceInSegment
+staled t j = record { address = address_of t j; stale = true }
+
+-- segment s has these numbers, so that its usage block differs
+abbrev pub changed : UsageTable → ℕ → SegmentNumbers → UsageTable
+changed t s n = record {
+  segments = slice_set t.segments s n;
+  blocks = slice_set t.blocks (s / BLOCK_SEGMENTS) (staled t (s / BLOCK_SEGMENTS));
+  last = t.last;
+}
+
+-- the numbers of a segment as a checkpoint has them
+abbrev pub loaded : SegmentUse → SegmentNumbers
+loaded u = record { used = u.used; live = u.live; held = 0; age = u.age; kept = u.used }
 
 -- a sector more of segment s is in use, for a block that lives there or holds it
 pub record Notes (old new : UsageTable) (s : ℕ) (lives : Bool) : Type 0 where
@@ -18,7 +37,7 @@ pub record Notes (old new : UsageTable) (s : ℕ) (lives : Bool) : Type 0 where
   pub held : CountsUp (not lives) (held_of old) (held_of new) s
   pub age : (i : ℕ) → age_of new i ≡ age_of old i
   pub kept : (i : ℕ) → kept_of new i ≡ kept_of old i
-  pub blocks : Stales old new (s / 64)
+  pub blocks : Stales old new (s / BLOCK_SEGMENTS)
   pub last : new.last ≡ old.last
   pub size : length new.segments ≡ length old.segments
   pub clean : clean_in new.segments ≡ clean_in old.segments
@@ -30,7 +49,7 @@ pub record Lifts (old new : UsageTable) (s : ℕ) (lives : Bool) : Type 0 where
   pub held : CountsDown (not lives) (held_of old) (held_of new) s
   pub age : (i : ℕ) → age_of new i ≡ age_of old i
   pub kept : (i : ℕ) → kept_of new i ≡ kept_of old i
-  pub blocks : Stales old new (s / 64)
+  pub blocks : Stales old new (s / BLOCK_SEGMENTS)
   pub last : new.last ≡ old.last
   pub size : length new.segments ≡ length old.segments
   pub clean : clean_in new.segments ≡ clean_in old.segments
@@ -42,7 +61,7 @@ pub record TakesAway (old new : UsageTable) (s count : ℕ) (lives : Bool) : Typ
   pub held : IsSet (held_of old) (held_of new) s (held_of old s - cond (not lives) count 0)
   pub age : (i : ℕ) → age_of new i ≡ age_of old i
   pub kept : (i : ℕ) → kept_of new i ≡ kept_of old i
-  pub blocks : Stales old new (s / 64)
+  pub blocks : Stales old new (s / BLOCK_SEGMENTS)
   pub last : new.last ≡ old.last
   pub size : length new.segments ≡ length old.segments
   pub clean : clean_in new.segments ≡ clean_in old.segments
@@ -54,7 +73,7 @@ pub record HidesBlocks (old new : UsageTable) (s count : ℕ) : Type 0 where
   pub held : IsSet (held_of old) (held_of new) s (held_of old s + count)
   pub age : (i : ℕ) → age_of new i ≡ age_of old i
   pub kept : (i : ℕ) → kept_of new i ≡ kept_of old i
-  pub blocks : Stales old new (s / 64)
+  pub blocks : Stales old new (s / BLOCK_SEGMENTS)
   pub last : new.last ≡ old.last
   pub size : length new.segments ≡ length old.segments
   pub clean : clean_in new.segments ≡ clean_in old.segments
@@ -80,13 +99,13 @@ pub record GoesOn (old new : UsageTable) (s number : ℕ) : Type 0 where
   pub inside : s < length old.segments
   pub some : 0 < live_of old s + held_of old s
   pub begun : 0 < used_of old s
-  pub room : used_of old s ≤ 62
+  pub room : used_of old s ≤ SEGMENT_SECTORS - 2
   pub used : IsSet (used_of old) (used_of new) s (suc (used_of old s))
   pub live : (i : ℕ) → live_of new i ≡ live_of old i
   pub held : (i : ℕ) → held_of new i ≡ held_of old i
   pub age : IsSet (age_of old) (age_of new) s number
   pub kept : (i : ℕ) → kept_of new i ≡ kept_of old i
-  pub blocks : Stales old new (s / 64)
+  pub blocks : Stales old new (s / BLOCK_SEGMENTS)
   pub last : new.last ≡ old.last
   pub size : length new.segments ≡ length old.segments
   pub clean : clean_in new.segments ≡ clean_in old.segments
@@ -122,7 +141,7 @@ saved n = record { used = cond (n.live == 0) 0 n.used; live = n.live; age = cond
 
 -- the bytes are usage block j
 pub record SpellsBlock (t : UsageTable) (j : ℕ) (bytes : List ℕ) : Type 0 where
-  pub long : length bytes ≡ 512
-  pub used : (i : ℕ) → i < 64 → half bytes (4 * i) ≡ (saved (get_or t.segments (64 * j + i) no_segment)).used
-  pub live : (i : ℕ) → i < 64 → half bytes (4 * i + 1) ≡ (saved (get_or t.segments (64 * j + i) no_segment)).live
-  pub age : (i : ℕ) → i < 64 → word bytes (2 * i + 1) ≡ (saved (get_or t.segments (64 * j + i) no_segment)).age
+  pub long : length bytes ≡ SECTOR_LEN
+  pub used : (i : ℕ) → i < BLOCK_SEGMENTS → half bytes (4 * i) ≡ (saved (get_or t.segments (BLOCK_SEGMENTS * j + i) no_segment)).used
+  pub live : (i : ℕ) → i < BLOCK_SEGMENTS → half bytes (4 * i + 1) ≡ (saved (get_or t.segments (BLOCK_SEGMENTS * j + i) no_segment)).live
+  pub age : (i : ℕ) → i < BLOCK_SEGMENTS → word bytes (2 * i + 1) ≡ (saved (get_or t.segments (BLOCK_SEGMENTS * j + i) no_segment)).age

@@ -2,6 +2,7 @@
 -- The segment usage table is that of the Sprite LFS paper (1992, section 3.6).
 use Rattle.std.specs.Prelude.{Option, ◌≡◌, ◌≤◌, ◌+◌, ◌-◌, ◌==◌, ℕ, Bool, false, List, length, get_or}
 use Rattle.lfs_model.specs.Stands.{count_up}
+use Rattle.lfs_model.specs.declared.limits.TheConstants.{MOST_SEGMENTS, SEGMENT_SECTORS, USAGE_BLOCKS}
 
 pub record SegmentNumbers : Type 0 where
   pub used : ℕ
@@ -59,11 +60,11 @@ clean_in segments = count_up (is_clean_in segments) (length segments)
 
 -- what the numbers of a segment may be: beside its blocks it has a summary
 pub record FitsSegment (n : SegmentNumbers) : Type 0 where
-  pub used : n.used ≤ 64
+  pub used : n.used ≤ SEGMENT_SECTORS
   pub fewer : n.live + n.held ≤ n.used - 1
   pub kept : n.kept ≤ n.used
 
 pub record FitsTable (t : UsageTable) : Type 0 where
-  pub few : length t.segments ≤ 1024
-  pub blocks : length t.blocks ≡ 16
+  pub few : length t.segments ≤ MOST_SEGMENTS
+  pub blocks : length t.blocks ≡ USAGE_BLOCKS
   pub each : (s : ℕ) → FitsSegment (get_or t.segments s no_segment)

@@ -5,6 +5,8 @@ use Rattle.std.specs.Prelude.{Some, ◌≡◌, ◌<◌, ◌≤◌, ◌⊎◌, �
 use Rattle.std.specs.List.{AllByRecursion}
 use Rattle.lfs_model.specs.Checkpoint.{IsSegmentCount}
 use Rattle.lfs_model.specs.Members.{IsIn, AreApart}
+use Rattle.lfs_model.specs.declared.limits.TheConstants.{CHUNK_BLOCKS, LEAST_NEED, NEED_OF_META, NEED_OF_SEGMENT, TABLE_BLOCKS}
+use Rattle.lfs_segments.specs.declared.victims.TheConstants.{LEAST_GAIN}
 use Rattle.lfs_segments.specs.Table.{SegmentNumbers, UsageTable, no_segment, used_of, age_of, clean_in}
 
 -- how many blocks have to go elsewhere before a segment is clean: those that live there, and those that hold it
@@ -22,13 +24,13 @@ loads t = sum_by load t.segments
 abbrev pub MayBeVictim : UsageTable → ℕ → Type 0
 MayBeVictim t s = (s < length t.segments) × (0 < used_of t s) × (t.last ≡ Some s → ⊥)
 
--- A pass over these segments gains one at least: their blocks, with so many inodes and blocks of pointers and with the 48 blocks of
--- the inode map and the usage table, fill fewer segments than they are. Beside the summary of its chunk a segment takes 63 blocks.
+-- A pass over these segments gains one at least: their blocks, with so many inodes and blocks of pointers and with the blocks of
+-- the inode map and the usage table, fill fewer segments than they are. Beside the summary of its chunk a segment takes `CHUNK_BLOCKS`.
 pub record AreVictims (t : UsageTable) (meta most : ℕ) (vs : List ℕ) : Type 0 where
   pub few : length vs ≤ most
   pub apart : AreApart vs
   pub each : AllByRecursion (MayBeVictim t) vs
-  pub gain : sum_by (load_of t) vs + meta + 48 ≤ 63 * (length vs - 1)
+  pub gain : sum_by (load_of t) vs + meta + TABLE_BLOCKS ≤ CHUNK_BLOCKS * (length vs - 1)
 
 -- ---- orders
 -- a has fewer blocks than b, or as many and the lower number
@@ -37,11 +39,11 @@ ComesBefore t a b = (load_of t a < load_of t b) ⊎ ((load_of t a ≡ load_of t 
 
 -- What cleaning segment s gives: its free share, by the time for which it was not written. The acknowledged checkpoint has number now.
 abbrev pub benefit_of : UsageTable → ℕ → ℕ → ℕ
-benefit_of t now s = (63 - load_of t s) * (now - age_of t s)
+benefit_of t now s = (CHUNK_BLOCKS - load_of t s) * (now - age_of t s)
 
 -- and what it costs: the whole segment is read, and its blocks are written
 abbrev pub cost_of : UsageTable → ℕ → ℕ
-cost_of t s = 63 + load_of t s
+cost_of t s = CHUNK_BLOCKS + load_of t s
 
 -- The quotient of benefit and cost is greater for a than for b, or as great, and a has the lower number.
 -- The quotient is that of the Sprite LFS paper (1992, section 3.5).
@@ -58,11 +60,11 @@ pub record AreFirst (t : UsageTable) (order : ℕ → ℕ → Type 0) (vs : List
 -- ---- the choice
 -- how many segments are gained: the victims, less those that their blocks fill
 abbrev pub gain_of : UsageTable → ℕ → List ℕ → ℕ
-gain_of t meta vs = length vs - (sum_by (load_of t) vs + meta + 48 + 62) / 63
+gain_of t meta vs = length vs - (sum_by (load_of t) vs + meta + TABLE_BLOCKS + (CHUNK_BLOCKS - 1)) / CHUNK_BLOCKS
 
 -- how many are wanted: as many as are missing to a quarter, and four at least
 abbrev pub wanted_gain : UsageTable → ℕ
-wanted_gain t = max (length t.segments / 4 - clean_in t.segments) 4
+wanted_gain t = max (length t.segments / 4 - clean_in t.segments) LEAST_GAIN
 
 -- how many of those that are wanted are gained
 abbrev pub useful_gain : UsageTable → ℕ → List ℕ → ℕ
@@ -96,4 +98,4 @@ pass_limit t = length t.segments / 8 + 1
 pub record IsPressed (t : UsageTable) (meta : ℕ) : Type 0 where
   pub count : IsSegmentCount (length t.segments)
   pub few : 4 * clean_in t.segments < length t.segments
-  pub blocks : loads t + 6 * meta + 672 ≤ 47 * length t.segments
+  pub blocks : loads t + (NEED_OF_META - 1) * meta + (LEAST_NEED - TABLE_BLOCKS) ≤ NEED_OF_SEGMENT * length t.segments

@@ -1,17 +1,21 @@
 //! Chunks: a summary and the blocks behind it, in a clean segment or behind other chunks.
 ghost use Rattle.std.specs.Prelude.{◌≡◌, ◌≢◌, ◌<◌, ◌≤◌, ◌+◌, ◌-◌, ◌*◌, ◌/◌, ◌++◌, [], ◌∷◌, ℕ, suc, Some, true, None, length, IfSome, IfNone, OnOk, OnErr};
-ghost use Rattle.lfs_model.specs.Device.{put, MayWrite, CrashWrites, Carries, Elapses};
+ghost use Rattle.lfs_model.specs.Device.{put, MayWrite, CrashWrites};
 ghost use Rattle.lfs_model.specs.Entry.{entries_in};
 ghost use Rattle.lfs_model.specs.Summary.{IsPlaced, summary_sector};
 ghost use Rattle.lfs_segments.specs.Table.{used_of, clean_in};
 ghost use Rattle.lfs_segments.specs.Steps.{Begins, GoesOn, Notes, TakesSegment};
-ghost use Rattle.lfs_segments.specs.Chunk.{IsOpenChunk, IsUnkeptBy, TakesChunk, entries_of, due_in};
+ghost use Rattle.lfs_segments.specs.Chunk.{IsOpenChunk, AsksOneWrite, IsUnkeptBy, StaysInPlace, TakesChunk, entries_of, due_in, summary_at};
 
 use crate::usage::Usage;
 use arrayvec::ArrayVec;
 use lfs_device::{DeviceFault, SectorDevice};
 use lfs_layout::{BlockName, encode_summary};
+use lfs_model::limits::{CHECKPOINT_SLOTS, CHUNK_BLOCKS, MOST_SEGMENTS, SEGMENT_SECTORS};
 use std::marker::Model;
+
+/// The last place in a segment at which a chunk may begin: a block has room behind its summary.
+const LAST_START: u16 = SEGMENT_SECTORS as u16 - 2;
 
 /// The chunk that is being filled, if there is one: its segment, the place of its summary there,
 /// and the names of the blocks that have a place in it.
@@ -23,14 +27,15 @@ pub struct ChunkWriter {
 }
 
 impl Model for ChunkWriter {
-    ghost use Rattle.std.specs.Prelude.{◌<◌, ◌≤◌};
+    ghost use Rattle.std.specs.Prelude.{◌<◌, ◌≤◌, ◌-◌};
+    ghost use Rattle.lfs_model.specs.declared.limits.TheConstants.{MOST_SEGMENTS, SEGMENT_SECTORS};
     ghost use Rattle.lfs_segments.specs.Chunk.{Chunk, IsChunk};
 
     ghost Value = { Chunk };
 
     ghost view = { λ c. record { segment = c.segment; start = c.start; names = c.names.items } };
 
-    ghost invariant = { λ c. (c.segment < 1024) × (c.start ≤ 62) × IsChunk c.names.items };
+    ghost invariant = { λ c. (c.segment < MOST_SEGMENTS) × (c.start ≤ SEGMENT_SECTORS - 2) × IsChunk c.names.items };
 }
 
 impl ChunkWriter {
@@ -48,7 +53,7 @@ impl ChunkWriter {
     /// How many blocks have a place in the chunk.
     pub fn len(&self) -> usize
         ensures value { result ≡ length self.now.names }
-        ensures most { result ≤ 63 }
+        ensures most { result ≤ CHUNK_BLOCKS }
     {
         self.names.len()
     }
@@ -64,18 +69,26 @@ impl ChunkWriter {
     /// The segment that the chunk is written to.
     pub fn segment(&self) -> u32
         ensures value { result ≡ self.now.segment }
-        ensures fits { result < 1024 }
+        ensures fits { result < MOST_SEGMENTS }
     {
         self.segment
     }
 
+    /// The address of its summary.
+    fn address(&self) -> u32
+        ensures value { result ≡ summary_at self.now }
+        ensures inside { result < CHECKPOINT_SLOTS + SEGMENT_SECTORS * MOST_SEGMENTS }
+    {
+        CHECKPOINT_SLOTS + SEGMENT_SECTORS * self.segment + self.start
+    }
+
     /// Whether no block more has room in the segment behind the chunk.
     pub fn is_full(&self) -> bool
-        ensures yes { result ≡ true → self.now.start + length self.now.names ≡ 63 }
-        ensures no { result ≢ true → self.now.start + length self.now.names ≢ 63 }
+        ensures yes { result ≡ true → self.now.start + length self.now.names ≡ CHUNK_BLOCKS }
+        ensures no { result ≢ true → self.now.start + length self.now.names ≢ CHUNK_BLOCKS }
         ensures some { result ≡ true → 0 < length self.now.names }
     {
-        self.start as usize + self.names.len() == 63
+        self.start as usize + self.names.len() == CHUNK_BLOCKS
     }
 
     /// Begins a chunk: behind the last one where there is room, else in a clean segment, which is
@@ -112,18 +125,18 @@ impl ChunkWriter {
     /// segment: the first sector behind the used part.
     pub fn place(&mut self, usage: &mut Usage, name: BlockName, lives: bool) -> u32
         requires opened { IsOpenChunk self.old usage.old }
-        requires room { self.old.start + length self.old.names < 63 }
+        requires room { self.old.start + length self.old.names < CHUNK_BLOCKS }
         requires placed { IsPlaced name.kind name.file name.index }
-        ensures address { result ≡ 2 + 64 * self.old.segment + used_of usage.old self.old.segment }
+        ensures address { result ≡ CHECKPOINT_SLOTS + SEGMENT_SECTORS * self.old.segment
+            + used_of usage.old self.old.segment }
         ensures names { self.new.names ≡ self.old.names ++ name ∷ [] }
-        ensures segment { self.new.segment ≡ self.old.segment }
-        ensures start { self.new.start ≡ self.old.start }
+        ensures place { StaysInPlace self.old self.new }
         ensures noted { Notes usage.old usage.new self.old.segment lives }
         ensures opened { IsOpenChunk self.new usage.new }
     {
         self.names.push(name);
         usage.note(self.segment, lives);
-        2 + 64 * self.segment + self.start + self.names.len() as u32
+        self.address() + self.names.len() as u32
     }
 
     /// Writes the summary of the chunk, and ends it.
@@ -138,35 +151,23 @@ impl ChunkWriter {
     ) -> Result<(), DeviceFault>
         requires opened { IsOpenChunk self.old usage.now }
         requires some { 0 < length self.old.names }
-        requires inside { 2 + 64 * self.old.segment + self.old.start
-            < (D.state device.old).size }
+        requires inside { summary_at self.old < (D.state device.old).size }
         ensures entries { entries_in (summary_sector self.old.names) ≡ Some (entries_of self.old) }
         ensures written { OnOk result ((D.state device.new).keeps_model
             → (D.state device.new).content ≡ put (D.state device.old).content
-            (2 + 64 * self.old.segment + self.old.start) (summary_sector self.old.names)) }
+            (summary_at self.old) (summary_sector self.old.names)) }
         ensures failed_write { OnErr result ((D.state device.new).keeps_model
-            → MayWrite (2 + 64 * self.old.segment + self.old.start) (summary_sector self.old.names)
+            → MayWrite (summary_at self.old) (summary_sector self.old.names)
             (D.state device.old).content (D.state device.new).content) }
-        ensures crash { CrashWrites (2 + 64 * self.old.segment + self.old.start)
+        ensures crash { CrashWrites (summary_at self.old)
             (summary_sector self.old.names) (D.state device.old) (D.state device.new) }
         ensures ended { OnOk result (self.new.names ≡ []) }
         ensures kept { OnErr result (self.new ≡ self.old) }
-        ensures segment { self.new.segment ≡ self.old.segment }
-        ensures start { self.new.start ≡ self.old.start }
-        ensures failed { OnErr result
-            ((D.state device.old).failures < (D.state device.new).failures) }
-        ensures no_failure { OnOk result
-            ((D.state device.new).failures ≡ (D.state device.old).failures) }
-        ensures carries { Carries (D.state device.old) (D.state device.new) }
-        ensures time { Elapses (D.state device.old) (D.state device.new) }
-        ensures told { OnOk result (length (D.state device.new).told
-            ≡ length (D.state device.old).told + 1) }
-        ensures may_tell { OnErr result (length (D.state device.new).told
-            ≤ length (D.state device.old).told + 1) }
+        ensures place { StaysInPlace self.old self.new }
+        ensures asks { AsksOneWrite (D.state device.old) (D.state device.new) result }
     {
         let summary = encode_summary(self.names.as_slice());
-        let address = 2 + 64 * self.segment + self.start;
-        write(device, usage, address, &summary, false)?;
+        write(device, usage, self.address(), &summary, false)?;
         self.names.clear();
         Ok(())
     }
@@ -177,14 +178,14 @@ impl ChunkWriter {
 fn last_with_room(usage: &Usage) -> Option<u32>
     ensures some { IfSome result (λ s. (usage.now.last ≡ Some s) × TakesChunk usage.now s) }
     ensures none { IfNone result ((s : ℕ) → usage.now.last ≡ Some s → TakesChunk usage.now s → ⊥) }
-    ensures fits { IfSome result (λ s. s < 1024) }
+    ensures fits { IfSome result (λ s. s < MOST_SEGMENTS) }
 {
     let segment = usage.last()?;
     if segment >= usage.segments() {
         return None;
     }
     let state = usage.state(segment);
-    if state.used <= 62 && (state.live != 0 || state.held != 0) {
+    if state.used <= LAST_START && (state.live != 0 || state.held != 0) {
         Some(segment)
     } else {
         None
@@ -206,22 +207,14 @@ pub fn write<D: SectorDevice>(
     again: bool,
 ) -> Result<(), DeviceFault>
     requires free { IsUnkeptBy usage.now address }
-    requires above { 2 ≤ address }
+    requires above { CHECKPOINT_SLOTS ≤ address }
     requires inside { address < (D.state device.old).size }
     ensures written { OnOk result ((D.state device.new).keeps_model
         → (D.state device.new).content ≡ put (D.state device.old).content address bytes.now) }
     ensures failed_write { OnErr result ((D.state device.new).keeps_model
         → MayWrite address bytes.now (D.state device.old).content (D.state device.new).content) }
     ensures crash { CrashWrites address bytes.now (D.state device.old) (D.state device.new) }
-    ensures failed { OnErr result ((D.state device.old).failures < (D.state device.new).failures) }
-    ensures no_failure { OnOk result
-        ((D.state device.new).failures ≡ (D.state device.old).failures) }
-    ensures carries { Carries (D.state device.old) (D.state device.new) }
-    ensures time { Elapses (D.state device.old) (D.state device.new) }
-    ensures told { OnOk result (length (D.state device.new).told
-        ≡ length (D.state device.old).told + 1) }
-    ensures may_tell { OnErr result (length (D.state device.new).told
-        ≤ length (D.state device.old).told + 1) }
+    ensures asks { AsksOneWrite (D.state device.old) (D.state device.new) result }
 {
     if again {
         device.write(address, bytes)

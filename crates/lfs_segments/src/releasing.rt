@@ -6,9 +6,10 @@ ghost use Rattle.lfs_segments.specs.Steps as steps;
 ghost use Rattle.lfs_segments.specs.Settled.{ListsUnsettled, is_settled};
 
 use crate::state::SegmentState;
+use lfs_model::limits::MOST_SEGMENTS;
 
 /// How many segments are listed at most.
-const ROOM: usize = 64;
+pub(crate) const ROOM: usize = 64;
 
 /// The segments whose numbers change as a checkpoint is acknowledged, in the order in which they
 /// came to it. A list without room may lack some of them.
@@ -22,7 +23,7 @@ impl Unsettled {
     /// A list of none.
     pub fn new() -> Unsettled
         ensures count { result.count ≡ 0 }
-        ensures size { length result.segments ≡ 64 }
+        ensures size { length result.segments ≡ ROOM }
     {
         Unsettled {
             segments: [0; ROOM],
@@ -39,8 +40,8 @@ impl Unsettled {
 
     /// Whether there is no room for a further one.
     pub fn is_full(&self) -> bool
-        ensures yes { IsTrue result → 64 ≤ self.now.count }
-        ensures no { IsFalse result → self.now.count < 64 }
+        ensures yes { IsTrue result → ROOM ≤ self.now.count }
+        ensures no { IsFalse result → self.now.count < ROOM }
     {
         self.count >= ROOM
     }
@@ -48,7 +49,7 @@ impl Unsettled {
     /// The segment at a place of the list.
     pub fn get(&self, at: usize) -> u32
         requires low { at < self.now.count }
-        requires few { self.now.count ≤ 64 }
+        requires few { self.now.count ≤ ROOM }
         ensures { result ≡ get_or self.now.segments at 0 }
     {
         u32::from(self.segments[at])
@@ -57,7 +58,7 @@ impl Unsettled {
     /// A segment has other numbers from now on. It comes to the list, if these are to change and
     /// the former ones weren't.
     pub fn note(&mut self, segment: u32, was: SegmentState, is: SegmentState)
-        requires low { segment < 1024 }
+        requires low { segment < MOST_SEGMENTS }
         requires was { FitsSegment was }
         requires is { FitsSegment is }
         ensures { (segments : List SegmentNumbers) → segment < length segments

@@ -7,6 +7,7 @@ ghost use Rattle.lfs_segments.specs.Spelling.{AreSpelled};
 
 use crate::state::SegmentState;
 use lfs_layout::{SegmentUsage, set_usage_entry};
+use lfs_model::limits::{BLOCK_SEGMENTS, MOST_SEGMENTS, USAGE_BLOCKS};
 use std::alloc::{AllocError, Global};
 
 /// The blocks of the usage table, spelled.
@@ -20,7 +21,7 @@ impl SpelledBlocks {
     pub fn new(alloc: Global) -> Result<SpelledBlocks, AllocError>
         ensures { IfOk result (λ b. (n : ℕ) → AreSpelled b.blocks.items (replicate n no_segment)) }
     {
-        let blocks = Vec::from_elem(alloc, [0; 512], 16)?;
+        let blocks = Vec::from_elem(alloc, [0; 512], USAGE_BLOCKS as usize)?;
         Ok(SpelledBlocks { blocks })
     }
 
@@ -34,14 +35,14 @@ impl SpelledBlocks {
 
     /// A segment has these numbers from now on.
     pub fn put(&mut self, segment: u32, state: SegmentState)
-        requires low { segment < 1024 }
-        requires blocks { length self.old.blocks.items ≡ 16 }
+        requires low { segment < MOST_SEGMENTS }
+        requires blocks { length self.old.blocks.items ≡ USAGE_BLOCKS }
         ensures { (segments : List SegmentNumbers) → segment < length segments
             → AreSpelled self.old.blocks.items segments
             → AreSpelled self.new.blocks.items (slice_set segments segment state) }
     {
-        let block = &mut self.blocks[(segment / 64) as usize];
-        set_usage_entry(block, (segment % 64) as usize, saved(state));
+        let block = &mut self.blocks[(segment / BLOCK_SEGMENTS) as usize];
+        set_usage_entry(block, (segment % BLOCK_SEGMENTS) as usize, saved(state));
     }
 
     /// A block of the table.

@@ -1,17 +1,18 @@
 //! What is known of each segment, after the segment usage table of the Sprite LFS paper (1992,
 //! section 3.6).
 ghost use Rattle.std.specs.Prelude.{◌≡◌, ◌≢◌, ◌<◌, ◌≤◌, ◌+◌, ◌-◌, ◌*◌, ◌/◌, ◌^◌, ◌==◌, ℕ, suc, Bool, true, false, cond, not, length, get_or, replicate, slice_set, IfOk, IfSome, IfNone, IsTrue, IsFalse, None, Some};
-ghost use Rattle.lfs_segments.specs.Steps.{Notes, Lifts, TakesAway, HidesBlocks, TakesSegment, GoesOn, PutsPlace, Releases, SpellsBlock};
+ghost use Rattle.lfs_segments.specs.Steps.{Notes, Lifts, TakesAway, HidesBlocks, TakesSegment, GoesOn, PutsPlace, Releases, SpellsBlock, changed, loaded, staled};
 ghost use Rattle.lfs_model.specs.Usage.{IsUse};
 ghost use Rattle.lfs_segments.specs.Table.{SegmentNumbers, PlaceInSegment, no_segment, no_place, used_of, live_of, held_of, age_of, kept_of, address_of, stale_of, clean_in, FitsSegment, FitsTable};
 ghost use Rattle.lfs_segments.specs.Chunk.{TakesChunk};
 ghost use Rattle.lfs_segments.specs.Early.{AreUntaken, early_of, taken_of, early_in, taken_in};
 ghost use Rattle.lfs_segments.specs.Settled.{ListsUnsettled};
 
-use crate::releasing::{Unsettled, released};
+use crate::releasing::{ROOM, Unsettled, released};
 use crate::spelled::SpelledBlocks;
 use crate::state::{SegmentState, UsageBlock};
 use lfs_layout::SegmentUsage;
+use lfs_model::limits::{BLOCK_SEGMENTS, MOST_SEGMENTS, SEGMENT_SECTORS, USAGE_BLOCKS};
 use std::alloc::{AllocError, Global};
 use std::marker::Model;
 
@@ -63,13 +64,13 @@ impl Model for Usage {
 impl Usage {
     /// So many clean segments, and usage blocks that have no address.
     pub fn new(alloc: Global, segments: u32) -> Result<Usage, AllocError>
-        requires { segments ≤ 1024 }
+        requires { segments ≤ MOST_SEGMENTS }
         ensures clean { IfOk result (λ u. u.segments ≡ replicate segments no_segment) }
-        ensures blocks { IfOk result (λ u. u.blocks ≡ replicate 16 no_place) }
+        ensures blocks { IfOk result (λ u. u.blocks ≡ replicate USAGE_BLOCKS no_place) }
         ensures last { IfOk result (λ u. u.last ≡ None) }
     {
         let states = Vec::from_elem(alloc, CLEAN, segments as usize)?;
-        let blocks = Vec::from_elem(alloc, NO_BLOCK, 16)?;
+        let blocks = Vec::from_elem(alloc, NO_BLOCK, USAGE_BLOCKS as usize)?;
         let spelled = SpelledBlocks::new(alloc)?;
         Ok(Usage {
             states,
@@ -101,7 +102,7 @@ impl Usage {
     /// How many segments there are.
     pub fn segments(&self) -> u32
         ensures value { result ≡ length self.now.segments }
-        ensures few { result ≤ 1024 }
+        ensures few { result ≤ MOST_SEGMENTS }
         ensures table { FitsTable self.now }
     {
         self.states.len() as u32
@@ -118,7 +119,7 @@ impl Usage {
     /// between commits, and live there or hold their segment.
     pub fn early(&self) -> u32
         ensures value { result ≡ early_in self.now.segments }
-        ensures most { result ≤ 64 * 1024 }
+        ensures most { result ≤ SEGMENT_SECTORS * MOST_SEGMENTS }
     {
         self.early
     }
@@ -145,7 +146,7 @@ impl Usage {
     /// summary, and it has this age.
     pub fn take_clean(&mut self, age: u32) -> Option<u32>
         ensures taken { IfSome result (λ s. TakesSegment self.old self.new s age) }
-        ensures fits { IfSome result (λ s. s < 1024) }
+        ensures fits { IfSome result (λ s. s < MOST_SEGMENTS) }
         ensures none { IfNone result ((s : ℕ) → s < length self.old.segments
             → used_of self.old s ≢ 0) }
         ensures same { IfNone result (self.new ≡ self.old) }
@@ -174,9 +175,7 @@ impl Usage {
 
     /// The last chunk begun stands in this segment from now on.
     fn set_last(&mut self, segment: u32)
-        ensures segments { self.new.segments ≡ self.old.segments }
-        ensures blocks { self.new.blocks ≡ self.old.blocks }
-        ensures last { self.new.last ≡ Some segment }
+        ensures { self.new ≡ record self.old { last = Some segment } }
     {
         self.last = Some(segment);
     }
@@ -201,17 +200,15 @@ impl Usage {
         ensures { GoesOn self.old self.new segment age }
     {
         let state = continued(self.state(segment), age);
-        self.put(segment, state);
-        self.make_stale(segment / 64);
+        self.change(segment, state);
     }
 
     /// The numbers of a segment become others.
     fn put(&mut self, segment: u32, state: SegmentState)
         requires inside { segment < length self.old.segments }
         requires fits { FitsSegment state }
-        ensures segments { self.new.segments ≡ slice_set self.old.segments segment state }
-        ensures blocks { self.new.blocks ≡ self.old.blocks }
-        ensures last { self.new.last ≡ self.old.last }
+        ensures put { self.new ≡ record self.old
+            { segments = slice_set self.old.segments segment state } }
         ensures table { FitsTable self.old }
     {
         let was = self.state(segment);
@@ -223,17 +220,28 @@ impl Usage {
         self.spelled.put(segment, state);
     }
 
+    /// The numbers of a segment become others, so that its usage block differs from what the device
+    /// has.
+    fn change(&mut self, segment: u32, state: SegmentState)
+        requires inside { segment < length self.old.segments }
+        requires fits { FitsSegment state }
+        ensures set { self.new ≡ changed self.old segment state }
+        ensures table { FitsTable self.old }
+    {
+        self.put(segment, state);
+        self.make_stale(segment / BLOCK_SEGMENTS);
+    }
+
     /// One sector more of a segment is in use, for a block that lives there, or one of a file
     /// without a name that holds it.
     pub fn note(&mut self, segment: u32, lives: bool)
         requires inside { segment < length self.old.segments }
         requires begun { 0 < used_of self.old segment }
-        requires room { used_of self.old segment < 64 }
+        requires room { used_of self.old segment < SEGMENT_SECTORS }
         ensures { Notes self.old self.new segment lives }
     {
         let state = noted(self.state(segment), lives);
-        self.put(segment, state);
-        self.make_stale(segment / 64);
+        self.change(segment, state);
     }
 
     /// A block that lives in a segment, or holds it, is there no more.
@@ -244,8 +252,7 @@ impl Usage {
         ensures { Lifts self.old self.new segment lives }
     {
         let state = lifted(self.state(segment), lives);
-        self.put(segment, state);
-        self.make_stale(segment / 64);
+        self.change(segment, state);
     }
 
     /// So many blocks that live in a segment, or hold it, are there no more.
@@ -256,8 +263,7 @@ impl Usage {
         ensures { TakesAway self.old self.new segment count lives }
     {
         let state = taken_away(self.state(segment), count, lives);
-        self.put(segment, state);
-        self.make_stale(segment / 64);
+        self.change(segment, state);
     }
 
     /// So many blocks that live in a segment hold it from now on: they are those of files that lost
@@ -268,25 +274,15 @@ impl Usage {
         ensures { HidesBlocks self.old self.new segment count }
     {
         let state = hidden(self.state(segment), count);
-        self.put(segment, state);
-        self.make_stale(segment / 64);
+        self.change(segment, state);
     }
 
     /// A segment has these numbers on the device.
     pub fn load(&mut self, segment: u32, saved: SegmentUsage)
         requires inside { segment < length self.old.segments }
         requires fits { IsUse saved }
-        ensures segments { self.new.segments ≡ slice_set self.old.segments segment
-            (record {
-              used = saved.used;
-              live = saved.live;
-              held = 0;
-              age =
-                  saved.age;
-              kept = saved.used;
-            }) }
-        ensures blocks { self.new.blocks ≡ self.old.blocks }
-        ensures last { self.new.last ≡ self.old.last }
+        ensures { self.new ≡ record self.old
+            { segments = slice_set self.old.segments segment (loaded saved) } }
     {
         let SegmentUsage { used, live, age } = saved;
         let state = SegmentState {
@@ -333,7 +329,7 @@ impl Usage {
     /// The same, where the list has all segments whose numbers change.
     fn release_listed(&mut self, list: &Unsettled)
         requires listed { ListsUnsettled list.now self.old.segments }
-        requires all { list.now.count < 64 }
+        requires all { list.now.count < ROOM }
         ensures { Releases self.old self.new }
     {
         for at in 0..list.len() {
@@ -346,18 +342,16 @@ impl Usage {
     /// The usage block of this index, as a checkpoint has it: a segment where nothing lives has
     /// used 0 and age 0.
     pub fn spelled(&self, index: u32) -> &[u8; 512]
-        requires { index < 16 }
+        requires { index < USAGE_BLOCKS }
         ensures { SpellsBlock self.now index result.now }
     {
         self.spelled.get(index)
     }
 
     fn make_stale(&mut self, index: u32)
-        requires { index < 16 }
-        ensures segments { self.new.segments ≡ self.old.segments }
-        ensures blocks { self.new.blocks ≡ slice_set self.old.blocks index
-            (record { address = (get_or self.old.blocks index no_place).address; stale = true }) }
-        ensures last { self.new.last ≡ self.old.last }
+        requires { index < USAGE_BLOCKS }
+        ensures { self.new ≡ record self.old
+            { blocks = slice_set self.old.blocks index (staled self.old index) } }
     {
         let mut block = self.block(index);
         block.stale = true;
@@ -366,7 +360,7 @@ impl Usage {
 
     /// Where a usage block stands, and whether it differs from what the device has.
     pub fn block(&self, index: u32) -> UsageBlock
-        requires { index < 16 }
+        requires { index < USAGE_BLOCKS }
         ensures { result ≡ get_or self.now.blocks index no_place }
     {
         self.blocks[index as usize]
@@ -374,7 +368,7 @@ impl Usage {
 
     /// A usage block stands at the address, and differs from what the device has, or doesn't.
     pub fn set_block(&mut self, index: u32, address: u32, stale: bool)
-        requires { index < 16 }
+        requires { index < USAGE_BLOCKS }
         ensures { PutsPlace self.old self.new index address stale }
     {
         self.blocks[index as usize] = UsageBlock { address, stale };
@@ -382,7 +376,7 @@ impl Usage {
 }
 
 fn noted(mut state: SegmentState, lives: bool) -> SegmentState
-    requires room { state.used < 64 }
+    requires room { state.used < SEGMENT_SECTORS }
     requires fits { FitsSegment state }
     ensures used { result.used ≡ suc state.used }
     ensures live { result.live ≡ cond lives 1 0 + state.live }
@@ -400,7 +394,7 @@ fn noted(mut state: SegmentState, lives: bool) -> SegmentState
 }
 
 fn continued(state: SegmentState, age: u32) -> SegmentState
-    requires room { state.used ≤ 62 }
+    requires room { state.used ≤ SEGMENT_SECTORS - 2 }
     requires fits { FitsSegment state }
     ensures used { result.used ≡ suc state.used }
     ensures live { result.live ≡ state.live }
@@ -474,7 +468,7 @@ fn one_if_clean(state: SegmentState) -> u32
 fn early_blocks(state: SegmentState) -> u32
     requires { FitsSegment state }
     ensures value { result ≡ early_of state }
-    ensures most { result ≤ 64 }
+    ensures most { result ≤ SEGMENT_SECTORS }
 {
     if state.kept == 0 {
         u32::from(state.live) + u32::from(state.held)
@@ -487,7 +481,7 @@ fn early_blocks(state: SegmentState) -> u32
 fn taken_sectors(state: SegmentState) -> u32
     requires { FitsSegment state }
     ensures value { result ≡ taken_of state }
-    ensures most { result ≤ 64 }
+    ensures most { result ≤ SEGMENT_SECTORS }
 {
     u32::from(state.used) - u32::from(state.kept)
 }

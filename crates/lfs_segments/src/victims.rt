@@ -9,12 +9,13 @@ use crate::candidate::{Candidate, Preference};
 use crate::order::precedes;
 use crate::usage::Usage;
 use arrayvec::ArrayVec;
+use lfs_model::limits::{CHUNK_BLOCKS, MOST_SEGMENTS, TABLE_BLOCKS};
 
 /// How many blocks a segment takes beside the summary of its chunk.
-const BLOCKS: u64 = 63;
+const BLOCKS: u64 = CHUNK_BLOCKS as u64;
 
-/// How many blocks the inode map and the usage table have at most.
-const TABLE_BLOCKS: u64 = 48;
+/// How many segments a pass has at most: of an eighth of all, one more gains.
+pub const MOST_VICTIMS: u32 = MOST_SEGMENTS / 8 + 1;
 
 /// How many segments a pass is to gain at least, where it can.
 const LEAST_GAIN: u32 = 4;
@@ -29,7 +30,7 @@ const LEAST_GAIN: u32 = 4;
 /// most. Where none of them gains, the same of the lists in which those with the least blocks go
 /// first. There is none where no list of so few segments in use gains.
 pub fn victims(usage: &Usage, meta: u32, most: u32, now: u64) -> Option<ArrayVec<u16, 129>>
-    requires most { most ≤ 129 }
+    requires most { most ≤ MOST_VICTIMS }
     ensures some { IfSome result (λ v. AreVictims usage.now meta most v.items) }
     ensures choice { IfSome result (λ v. IsChosen usage.now meta most now v.items) }
     ensures none { IfNone result ((vs : List ℕ) → AreVictims usage.now meta most vs → ⊥) }
@@ -44,7 +45,7 @@ pub fn victims(usage: &Usage, meta: u32, most: u32, now: u64) -> Option<ArrayVec
 /// Of the first segments of an order, those by which so many segments are gained as are wanted, the
 /// fewest, or else those that gain most.
 fn choose(usage: &Usage, meta: u32, most: u32, preference: Preference) -> Option<ArrayVec<u16, 129>>
-    requires most { most ≤ 129 }
+    requires most { most ≤ MOST_VICTIMS }
     ensures some { IfSome result (λ v. IsChoiceBy usage.now meta most preference v.items) }
     ensures none { IfNone result (Exhausts usage.now meta most preference) }
 {
@@ -96,9 +97,10 @@ fn wanted(usage: &Usage) -> u32
 
 /// By how many segments so many are more than their blocks fill, with those of the tables.
 fn gain(blocks: u32, meta: u32, segments: u32) -> u32
-    ensures { result ≡ segments - (blocks + meta + 48 + 62) / 63 }
+    ensures { result ≡ segments - (blocks + meta + TABLE_BLOCKS + (CHUNK_BLOCKS - 1)) / CHUNK_BLOCKS }
 {
-    let filled = (u64::from(blocks) + u64::from(meta) + TABLE_BLOCKS + BLOCKS - 1) / BLOCKS;
+    let filled = (u64::from(blocks) + u64::from(meta) + u64::from(TABLE_BLOCKS) + BLOCKS - 1)
+        / BLOCKS;
     segments.saturating_sub(filled as u32)
 }
 

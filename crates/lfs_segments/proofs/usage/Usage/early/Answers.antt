@@ -1,4 +1,4 @@
-use Rattle.std.proofs.Common.{◌≤◌, ◌*◌, length, arith}
+use Rattle.std.proofs.Common.{arith}
 use Rattle.lfs_segments.proofs.Early.{early_total}
 use Rattle.lfs_segments.proofs.usage.Usage.early.Goals as goal
 

@@ -1,26 +1,15 @@
-use Rattle.std.proofs.Common.{rules, ◌≡◌, ◌≤◌, length, arith, ◌/◌, suc, true, get_or, slice_set}
-use Rattle.lfs_segments.specs.Table.{FitsTable, no_place, used_of, live_of, held_of, kept_of}
+use Rattle.std.proofs.Common.{rules, ◌≡◌, suc}
+use Rattle.lfs_segments.specs.Table.{used_of, live_of, held_of, kept_of}
 use Rattle.lfs_segments.proofs.Steps.{goes_on_of}
 use Rattle.lfs_segments.proofs.usage.Usage.go_on.Goals as goal
 
 pub returns : goal.returns
 returns c =
-    let fits : FitsTable c.args.self.now = search rules in
+    let fits = c.change.ensures.table in
     let used : c.continued-state.result.used ≡ suc (used_of c.args.self.now c.args.segment) = search rules in
     let live : c.continued-state.result.live ≡ live_of c.args.self.now c.args.segment = search rules in
     let held : c.continued-state.result.held ≡ held_of c.args.self.now c.args.segment = search rules in
     let age : c.continued-state.result.age ≡ c.args.age = search rules in
     let kept : c.continued-state.result.kept ≡ kept_of c.args.self.now c.args.segment = search rules in
-    let segments : c.make_stale.new.self.segments ≡ slice_set c.args.self.now.segments c.args.segment c.continued-state.result =
-    search rules in
-    let last : c.make_stale.new.self.last ≡ c.args.self.now.last = search rules in
-    let blocks : c.make_stale.new.self.blocks ≡ slice_set c.args.self.now.blocks (c.args.segment / 64)
-    (record { address = (get_or c.args.self.now.blocks (c.args.segment / 64) no_place).address; stale = true }) = search rules in
-    goes_on_of c.args.self.now c.make_stale.new.self c.args.segment c.args.age c.continued-state.result fits c.requires.inside
-    c.requires.some c.requires.room used live held age kept segments blocks last
-
-pub make_stale-requires : goal.make_stale-requires
-make_stale-requires c =
-    let few : length c.args.self.now.segments ≤ 1024 = search rules in
-    let inside = c.requires.inside in
-    omega arith
+    goes_on_of c.args.self.now c.change.new.self c.args.segment c.args.age c.continued-state.result fits c.requires.inside
+    c.requires.some c.requires.room used live held age kept c.change.ensures.set

@@ -1,5 +1,5 @@
-use Rattle.std.proofs.Common.{rules, arith, ◌≡◌, ◌<◌, ◌≤◌, length, get_or, slice_set}
-use Rattle.lfs_segments.specs.Table.{no_segment}
+use Rattle.std.proofs.Common.{rules, arith, ◌≡◌, ◌<◌, ◌≤◌, length, get_or, slice_set, ap}
+use Rattle.lfs_segments.specs.Table.{UsageTable, no_segment}
 use Rattle.lfs_segments.specs.Steps.{released}
 use Rattle.lfs_segments.proofs.Listed.{listed_goes_on, listed_ends}
 use Rattle.lfs_segments.proofs.usage.Usage.release_listed.Goals as goal
@@ -21,10 +21,11 @@ loop-at-preserved c =
     let size = so.size in
     let is : c.get-segment.result ≡ get_or c.args.list.now.segments c.loop-at.at 0 = c.get-segment.ensures in
     let inside : c.get-segment.result < length c.loop-at.self.segments = omega (arith, was, size, is) in
+    let put = ap (λ (t : UsageTable). t.segments) c.put.ensures.put in
     let segments : c.put.new.self.segments ≡ slice_set c.loop-at.self.segments c.get-segment.result
     (released (get_or c.loop-at.self.segments c.get-segment.result no_segment)) = search rules in (
       listed_goes_on c.args.self.now c.loop-at.self c.put.new.self c.args.list.now c.loop-at.at c.get-segment.result so is inside segments
-          c.put.ensures.blocks c.put.ensures.last,
+          (ap (λ (t : UsageTable). t.blocks) c.put.ensures.put) (ap (λ (t : UsageTable). t.last) c.put.ensures.put),
       c.loop-at.invariant.1,
     )
 
