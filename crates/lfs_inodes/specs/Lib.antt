@@ -9,3 +9,4 @@ pub mod Key
 pub mod MapValue
 pub mod Pointed
 pub mod Present
+pub mod Table

@@ -3,7 +3,7 @@ ghost use Rattle.std.specs.Prelude.{◌≡◌, ◌≢◌, true, ◌<◌, ◌≤�
 ghost use Rattle.lfs_model.specs.Entry.{Data, Leaf, Double, Inode, entry_by, entry_of};
 ghost use Rattle.lfs_model.specs.Cutting.{is_past};
 ghost use Rattle.lfs_model.specs.Memory.{parent, pointer, IsPointers};
-ghost use Rattle.lfs_model.specs.Summary.{IsPlaced};
+ghost use Rattle.lfs_model.specs.Summary.{IsFileNumber, IsPlaced};
 ghost use Rattle.lfs_inodes.specs.Code.{IsCode, kind_by, entry_at};
 ghost use Rattle.lfs_inodes.specs.Data.{is_data_code};
 
@@ -40,8 +40,7 @@ pub struct BlockKey {
 impl BlockKey {
     /// The data block of a file at this index, at most 16,623.
     pub fn data(file: u16, index: u32) -> BlockKey
-        requires some { 1 ≤ file }
-        requires file { file ≤ LAST_NUMBER }
+        requires file { IsFileNumber file }
         requires index { index ≤ LAST_BLOCK }
         ensures { entry_at result.code ≡ Data file index }
     {
@@ -53,8 +52,7 @@ impl BlockKey {
     /// The leaf of pointers of a file at this index: 0 for the single leaf, else 1 and its place
     /// under the double root.
     pub fn leaf(file: u16, index: u32) -> BlockKey
-        requires some { 1 ≤ file }
-        requires file { file ≤ LAST_NUMBER }
+        requires file { IsFileNumber file }
         requires index { index ≤ LAST_LEAF }
         ensures { entry_at result.code ≡ Leaf file index }
     {
@@ -65,8 +63,7 @@ impl BlockKey {
 
     /// The double root of a file.
     pub fn double(file: u16) -> BlockKey
-        requires some { 1 ≤ file }
-        requires file { file ≤ LAST_NUMBER }
+        requires file { IsFileNumber file }
         ensures { entry_at result.code ≡ Double file }
     {
         BlockKey {
@@ -76,8 +73,7 @@ impl BlockKey {
 
     /// The inode of a file.
     pub fn inode(file: u16) -> BlockKey
-        requires some { 1 ≤ file }
-        requires file { file ≤ LAST_NUMBER }
+        requires file { IsFileNumber file }
         ensures { entry_at result.code ≡ Inode file }
     {
         BlockKey {

@@ -1,6 +1,7 @@
 //! The way from an inode to the blocks of its file, where some of them are in memory.
 ghost use Rattle.std.specs.Prelude.{◌≡◌, ◌<◌, ◌≤◌, ◌⊎◌, ◌==◌, ℕ, List, cond, IfOk, IsErrOf};
 ghost use Rattle.lfs_model.specs.Entry.{Leaf, word};
+ghost use Rattle.lfs_model.specs.Summary.{IsFileNumber};
 ghost use Rattle.lfs_inodes.specs.Following.{FollowsPointers};
 ghost use Rattle.lfs_inodes.specs.Key.{entry_of};
 ghost use Rattle.lfs_inodes.specs.Blocks.{blocks_of};
@@ -13,7 +14,7 @@ use crate::table::DirtyTable;
 use lfs_cache::CachedDevice;
 use lfs_device::{ReadFault, SectorDevice};
 use lfs_layout::{DOUBLE_POINTER, FIRST_POINTER, SINGLE_POINTER, word};
-use lfs_model::limits::{BLOCK_POINTERS, LAST_BLOCK, LAST_LEAF, LAST_NUMBER};
+use lfs_model::limits::{BLOCK_POINTERS, LAST_BLOCK, LAST_LEAF};
 
 /// The number at a place of 4 bytes of the block of this key, whose pointer is known; 0 where there
 /// is none.
@@ -78,8 +79,7 @@ fn leaf_behind<D: SectorDevice>(
     first: u32,
     index: u32,
 ) -> Result<u32, ReadFault>
-    requires some { 1 ≤ file }
-    requires file { file ≤ LAST_NUMBER }
+    requires file { IsFileNumber file }
     requires index { index ≤ LAST_LEAF }
     ensures value { IfOk result (λ pointer. (inode : List ℕ) → first ≡ word inode (leaf_first index)
         → (D.state device.new).keeps_model → pointer ≡ leaf_now (D.state device.old).content
@@ -139,8 +139,7 @@ pub fn leaf_pointers<D: SectorDevice>(
     first: u32,
     index: u32,
 ) -> Result<Pointers, ReadFault>
-    requires some { 1 ≤ file }
-    requires file { file ≤ LAST_NUMBER }
+    requires file { IsFileNumber file }
     requires index { index ≤ LAST_LEAF }
     ensures value { IfOk result (λ found. (inode : List ℕ) → first ≡ word inode (leaf_first index)
         → (D.state device.new).keeps_model → ArePointers found
@@ -171,8 +170,7 @@ pub fn locate_behind<D: SectorDevice>(
     first: u32,
     index: u32,
 ) -> Result<u32, ReadFault>
-    requires some { 1 ≤ file }
-    requires file { file ≤ LAST_NUMBER }
+    requires file { IsFileNumber file }
     requires index { index ≤ LAST_BLOCK }
     ensures value { IfOk result (λ pointer. (inode : List ℕ) → first ≡ word inode (data_first index)
         → (D.state device.new).keeps_model → pointer ≡ data_now (D.state device.old).content
@@ -207,8 +205,7 @@ pub fn locate_present<D: SectorDevice>(
     inode: &[u8; 512],
     index: u32,
 ) -> Result<u32, ReadFault>
-    requires some { 1 ≤ file }
-    requires file { file ≤ LAST_NUMBER }
+    requires file { IsFileNumber file }
     requires index { index ≤ LAST_BLOCK }
     ensures value { IfOk result (λ pointer. (D.state device.new).keeps_model
         → pointer ≡ data_now (D.state device.old).content

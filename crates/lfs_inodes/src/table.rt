@@ -7,14 +7,14 @@ ghost use Rattle.std.specs.FinMap.{find, put, is_sorted};
 ghost use Rattle.lfs_model.specs.Entry.{Entry, word};
 ghost use Rattle.lfs_model.specs.Tree.{without};
 ghost use Rattle.lfs_model.specs.Memory.{patched, parent, pointer, file_of, IsOfFile, IsPointers, HasPointer};
-ghost use Rattle.lfs_model.specs.Cutting.{LeavesOut, is_past};
-ghost use Rattle.lfs_model.specs.Running.{IsLowest, IsTight, Moves};
-ghost use Rattle.lfs_model.specs.Staging.{ChangesTo, Fetches};
+ghost use Rattle.lfs_model.specs.Cutting.{is_past};
+ghost use Rattle.lfs_model.specs.Running.{IsLowest, IsTight};
+ghost use Rattle.lfs_model.specs.Staging.{ChangesTo};
 ghost use Rattle.lfs_inodes.specs.Key.{entry_of};
 ghost use Rattle.lfs_inodes.specs.Empty.{IsEmptyBlock};
 ghost use Rattle.lfs_inodes.specs.Blocks.{blocks_of, altered, number_at, HasNumberAt, IsGapFor};
 ghost use Rattle.lfs_inodes.specs.Code.{IsCode, entry_at};
-ghost use Rattle.lfs_inodes.specs.Clearing.{LeavesPast, zeroed};
+ghost use Rattle.lfs_inodes.specs.Table.{ClearsWords, Forgets, ForgetsPast, GivesOut, IsLimited, Patches, TakesIn};
 ghost use Rattle.lfs_inodes.specs.Held.{times, Stores};
 ghost use Rattle.lfs_inodes.specs.Data.{data_count, is_data_code};
 
@@ -92,9 +92,7 @@ impl DirtyTable {
     pub fn set_limit(&mut self, limit: u32)
         requires room { limit ≤ self.old.capacity.room }
         requires few { length self.old.blocks ≤ limit }
-        ensures blocks { self.new.blocks ≡ self.old.blocks }
-        ensures limit { self.new.capacity.limit ≡ limit }
-        ensures room { self.new.capacity.room ≡ self.old.capacity.room }
+        ensures { IsLimited self.old self.new limit }
     {
         self.limit = limit;
     }
@@ -277,12 +275,7 @@ impl DirtyTable {
     /// Puts a number at a place of 4 bytes of a block, if the block is here.
     pub fn patch(&mut self, key: BlockKey, place: usize, number: u32)
         requires { place < SECTOR_WORDS }
-        ensures patched { self.new ≡ record self.old
-            { blocks = altered (patched place number) key.code self.old.blocks } }
-        ensures changed { ChangesTo (blocks_of self.old) (blocks_of self.new) (entry_of key)
-            (option_map (patched place number) (blocks_of self.old (entry_of key))) }
-        ensures length { length self.new.blocks ≡ length self.old.blocks }
-        ensures data_blocks { data_count self.new ≡ data_count self.old }
+        ensures { Patches self.old self.new key place number }
     {
         let Ok(at) = self.search(key) else {
             return;
@@ -330,9 +323,7 @@ impl DirtyTable {
 
     /// Takes every block of a file out.
     pub fn forget(&mut self, file: u16)
-        ensures leaves { LeavesOut (blocks_of self.old) (blocks_of self.new) file }
-        ensures few { length self.new.blocks ≤ length self.old.blocks }
-        ensures capacity { self.new.capacity ≡ self.old.capacity }
+        ensures { Forgets self.old self.new file }
     {
         let mut at = self.len();
         while at > 0 {
@@ -346,9 +337,7 @@ impl DirtyTable {
     /// Takes every data block of a file from block `first` on out, and the blocks of pointers with
     /// only those below them.
     pub fn forget_past(&mut self, file: u16, first: u32)
-        ensures leaves { LeavesPast (blocks_of self.old) (blocks_of self.new) file first }
-        ensures few { length self.new.blocks ≤ length self.old.blocks }
-        ensures capacity { self.new.capacity ≡ self.old.capacity }
+        ensures { ForgetsPast self.old self.new file first }
     {
         let mut at = self.len();
         while at > 0 {
@@ -362,10 +351,7 @@ impl DirtyTable {
     /// Puts 0 at so many places of 4 bytes of a block from one on, if the block is here.
     pub fn clear_words(&mut self, key: BlockKey, first: usize, number: usize)
         requires { first + number ≤ SECTOR_WORDS }
-        ensures changed { ChangesTo (blocks_of self.old) (blocks_of self.new) (entry_of key)
-            (option_map (zeroed first number) (blocks_of self.old (entry_of key))) }
-        ensures length { length self.new.blocks ≡ length self.old.blocks }
-        ensures capacity { self.new.capacity ≡ self.old.capacity }
+        ensures { ClearsWords self.old self.new key first number }
     {
         for i in 0..number {
             self.patch(key, first + i, 0);
@@ -377,12 +363,7 @@ impl DirtyTable {
     pub fn fetch(&mut self, key: BlockKey, bytes: &[u8; 512])
         requires { find nat_cmp key.code self.old.blocks ≡ None
             → length self.old.blocks < self.old.capacity.limit }
-        ensures fetches { Fetches (blocks_of self.old) (blocks_of self.new)
-            (entry_of key) bytes.now }
-        ensures length { length self.new.blocks ≡ cond
-            (is_some (find nat_cmp key.code self.old.blocks)) (length self.old.blocks)
-            (length self.old.blocks + 1) }
-        ensures capacity { self.new.capacity ≡ self.old.capacity }
+        ensures { TakesIn self.old self.new key bytes.now }
     {
         if let Some(above) = key.parent() {
             self.patch(above, key.pointer(), IN_MEMORY);
@@ -393,13 +374,7 @@ impl DirtyTable {
     /// The block of this key leaves memory for an address on the device, or for good at 0, and its
     /// parent points there.
     pub fn moved(&mut self, key: BlockKey, address: u32)
-        ensures moves { Moves (blocks_of self.old) (blocks_of self.new) (entry_of key) address }
-        ensures length { (bytes : List ℕ) → blocks_of self.old (entry_of key) ≡ Some bytes
-            → length self.new.blocks + 1 ≡ length self.old.blocks }
-        ensures data_blocks { (bytes : List ℕ) → blocks_of self.old (entry_of key) ≡ Some bytes
-            → is_data_code key.code ≡ true → data_count self.new + 1 ≡ data_count self.old }
-        ensures no_more { length self.new.blocks ≤ length self.old.blocks }
-        ensures capacity { self.new.capacity ≡ self.old.capacity }
+        ensures { GivesOut self.old self.new key address }
     {
         if let Some(above) = key.parent() {
             self.patch(above, key.pointer(), address);

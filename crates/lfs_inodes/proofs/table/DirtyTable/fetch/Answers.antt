@@ -1,4 +1,4 @@
-use Rattle.std.proofs.Common.{ap}
+use Rattle.std.proofs.Common.{ap, rules}
 use Rattle.lfs_inodes.specs.Blocks.{TableValue}
 use Rattle.lfs_inodes.proofs.Moving.{IsSameAt, same_self, same_patched, still_room, still_counts}
 use Rattle.lfs_inodes.proofs.table.DirtyTable.fetch.Goals as goal
@@ -14,12 +14,16 @@ put-requires c =
     ] in
     still_room c.args.self.now c.match-parent.self c.args.key.code same c.requires
 
-pub returns-clause-length : goal.returns-clause-length
-returns-clause-length c =
+pub returns : goal.returns
+returns c =
     let same : IsSameAt c.args.self.now c.match-parent.self c.args.key.code = elim c.match-parent.branch [
       | in-Some w ↦ same_patched c.args.self.now c.match-parent.self w.patch.new.self c.args.key.code w.in-Some.above.code _
           c.args.key.formed w.in-Some.above.formed w.in-Some.ensures.some.1
           w.self-is w.patch.ensures.length (ap (λ (t : TableValue). t.capacity) w.patch.ensures.patched) w.patch.ensures.changed
       | in_default w ↦ same_self c.args.self.now c.match-parent.self c.args.key.code w.self-is
     ] in
-    still_counts c.args.self.now c.match-parent.self c.args.key.code _ same c.put.ensures.length
+    record {
+      fetches = search rules;
+      length = still_counts c.args.self.now c.match-parent.self c.args.key.code _ same c.put.ensures.length;
+      capacity = search rules;
+    }

@@ -13,11 +13,15 @@ loop-at-preserved-then-file c =
     (file_named _ n (ap (λ (m : ℕ). m / 32768 % 4096) c.key_at.ensures.number ∙ sym c.file.ensures.file ∙ c.if-file.true))
     c.remove_at.ensures.removed c.remove_at.ensures.changed c.remove_at.ensures.codes
 
-pub returns-clause-leaves : goal.returns-clause-leaves
-returns-clause-leaves c =
+pub returns : goal.returns
+returns c =
     let n = c.args.file in
     record {
-      none = leaves_ends (λ (x : Entry). file_of x ≡ Some n) (λ (x : Entry). file_of x ≡ Some n → ⊥) c.args.self.now c.loop-at.self
-          c.loop-at.at c.loop-at-test.false c.loop-at.invariant;
-      kept = c.loop-at.invariant.kept;
+      leaves = record {
+        none = leaves_ends (λ (x : Entry). file_of x ≡ Some n) (λ (x : Entry). file_of x ≡ Some n → ⊥) c.args.self.now c.loop-at.self
+            c.loop-at.at c.loop-at-test.false c.loop-at.invariant;
+        kept = c.loop-at.invariant.kept;
+      };
+      few = c.loop-at.invariant.few;
+      capacity = c.loop-at.invariant.capacity;
     }

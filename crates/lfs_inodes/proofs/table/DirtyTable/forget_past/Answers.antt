@@ -16,12 +16,17 @@ loop-at-preserved-then-is_past c =
     (ap (λ (m : ℕ). is_past n first (entry_at m)) c.key_at.ensures.number ∙ sym c.if-is_past.ensures) c.remove_at.ensures.removed
     c.remove_at.ensures.changed c.remove_at.ensures.codes
 
-pub returns-clause-leaves : goal.returns-clause-leaves
-returns-clause-leaves c =
+pub returns : goal.returns
+returns c =
     let n = c.args.file in
     let first = c.args.first in
     record {
-      none = leaves_ends (λ (x : Entry). is_past n first x ≡ true) (λ (x : Entry). is_past n first x ≡ false) c.args.self.now c.loop-at.self
-          c.loop-at.at c.loop-at-test.false c.loop-at.invariant;
-      kept = c.loop-at.invariant.kept;
+      leaves = record {
+        none =
+            leaves_ends (λ (x : Entry). is_past n first x ≡ true) (λ (x : Entry). is_past n first x ≡ false) c.args.self.now c.loop-at.self
+            c.loop-at.at c.loop-at-test.false c.loop-at.invariant;
+        kept = c.loop-at.invariant.kept;
+      };
+      few = c.loop-at.invariant.few;
+      capacity = c.loop-at.invariant.capacity;
     }

@@ -1,4 +1,4 @@
-use Rattle.std.proofs.Common.{◌≡◌, ◌∙◌, ap, sym, Some, length}
+use Rattle.std.proofs.Common.{◌≡◌, ◌∙◌, ap, sym, Some, length, List, ℕ, rules}
 use Rattle.std.specs.Ordering.{nat_cmp}
 use Rattle.std.specs.FinMap.{find}
 use Rattle.lfs_inodes.specs.Key.{entry_of}
@@ -9,34 +9,38 @@ use Rattle.lfs_inodes.proofs.Moving.{differ, one_less}
 use Rattle.lfs_inodes.proofs.table.DirtyTable.moved.Goals as goal
 use Rattle.lfs_inodes.proofs.table.DirtyTable.moved.Goals.{in-Some, in_default}
 
-pub returns-clause-length : goal.returns-clause-length
-returns-clause-length c bytes there =
-    let found : (t : TableValue) → blocks_of t (entry_of c.args.key) ≡ Some bytes → find nat_cmp c.args.key.code t.blocks ≡ Some bytes =
-    λ t is. sym (entry_found t.blocks c.args.key.code c.args.key.formed) ∙ is in
-    elim c.match-parent.branch [
-      | in-Some w ↦ one_less c.match-parent.self.blocks c.remove.new.self.blocks c.args.key.code _ bytes
-          (found c.match-parent.self
-          (ap (λ (t : TableValue). blocks_of t (entry_of c.args.key)) w.self-is
-          ∙ w.patch.ensures.changed.others (entry_of c.args.key)
-          (differ c.args.key.code w.in-Some.above.code c.args.key.formed w.in-Some.above.formed w.in-Some.ensures.some.1)
-          ∙ there)) c.remove.ensures.length (ap (λ (t : TableValue). length t.blocks) w.self-is ∙ w.patch.ensures.length)
-      | in_default w ↦ one_less c.match-parent.self.blocks c.remove.new.self.blocks c.args.key.code _ bytes
-          (found c.match-parent.self (ap (λ (t : TableValue). blocks_of t (entry_of c.args.key)) w.self-is ∙ there)) c.remove.ensures.length
-          (ap (λ (t : TableValue). length t.blocks) w.self-is)
-    ]
-
-pub returns-clause-data_blocks : goal.returns-clause-data_blocks
-returns-clause-data_blocks c bytes there kind =
-    let found : (t : TableValue) → blocks_of t (entry_of c.args.key) ≡ Some bytes → find nat_cmp c.args.key.code t.blocks ≡ Some bytes =
-    λ t is. sym (entry_found t.blocks c.args.key.code c.args.key.formed) ∙ is in
-    elim c.match-parent.branch [
-      | in-Some w ↦ c.remove.ensures.data_blocks bytes
-          (found c.match-parent.self
-          (ap (λ (t : TableValue). blocks_of t (entry_of c.args.key)) w.self-is
-          ∙ w.patch.ensures.changed.others (entry_of c.args.key)
-          (differ c.args.key.code w.in-Some.above.code c.args.key.formed w.in-Some.above.formed w.in-Some.ensures.some.1)
-          ∙ there)) kind ∙ ap data_count w.self-is ∙ w.patch.ensures.data_blocks
-      | in_default w ↦ c.remove.ensures.data_blocks bytes
-          (found c.match-parent.self (ap (λ (t : TableValue). blocks_of t (entry_of c.args.key)) w.self-is ∙ there)) kind
-          ∙ ap data_count w.self-is
-    ]
+pub returns : goal.returns
+returns c =
+    let found : (bytes : List ℕ) (t : TableValue) → blocks_of t (entry_of c.args.key) ≡ Some bytes
+    → find nat_cmp c.args.key.code t.blocks ≡ Some bytes =
+    λ bytes t is. sym (entry_found t.blocks c.args.key.code c.args.key.formed) ∙ is in
+    record {
+      moves = search rules;
+      length = λ bytes there.
+          elim c.match-parent.branch [
+            | in-Some w ↦ one_less c.match-parent.self.blocks c.remove.new.self.blocks c.args.key.code _ bytes
+                (found bytes c.match-parent.self
+                (ap (λ (t : TableValue). blocks_of t (entry_of c.args.key)) w.self-is
+                ∙ w.patch.ensures.changed.others (entry_of c.args.key)
+                (differ c.args.key.code w.in-Some.above.code c.args.key.formed w.in-Some.above.formed w.in-Some.ensures.some.1)
+                ∙ there)) c.remove.ensures.length (ap (λ (t : TableValue). length t.blocks) w.self-is ∙ w.patch.ensures.length)
+            | in_default w ↦ one_less c.match-parent.self.blocks c.remove.new.self.blocks c.args.key.code _ bytes
+                (found bytes c.match-parent.self (ap (λ (t : TableValue). blocks_of t (entry_of c.args.key)) w.self-is ∙ there))
+                c.remove.ensures.length
+                (ap (λ (t : TableValue). length t.blocks) w.self-is)
+          ];
+      data_blocks = λ bytes there kind.
+          elim c.match-parent.branch [
+            | in-Some w ↦ c.remove.ensures.data_blocks bytes
+                (found bytes c.match-parent.self
+                (ap (λ (t : TableValue). blocks_of t (entry_of c.args.key)) w.self-is
+                ∙ w.patch.ensures.changed.others (entry_of c.args.key)
+                (differ c.args.key.code w.in-Some.above.code c.args.key.formed w.in-Some.above.formed w.in-Some.ensures.some.1)
+                ∙ there)) kind ∙ ap data_count w.self-is ∙ w.patch.ensures.data_blocks
+            | in_default w ↦ c.remove.ensures.data_blocks bytes
+                (found bytes c.match-parent.self (ap (λ (t : TableValue). blocks_of t (entry_of c.args.key)) w.self-is ∙ there)) kind
+                ∙ ap data_count w.self-is
+          ];
+      no_more = search rules;
+      capacity = search rules;
+    }
