@@ -1,8 +1,7 @@
 -- Blocks leave the table, from the last place of the index to the first.
-use Rattle.std.proofs.Common.{◌≡◌, ◌<◌, ◌≤◌, ⊎_elim, ◌+◌, ◌/◌, ◌%◌, ℕ, zero, suc, List, [], length, Some, None, refl, sym, ◌∙◌, ap, subst}
+use Rattle.std.proofs.Common.{◌≡◌, ◌<◌, ◌≤◌, ◌+◌, ◌/◌, ◌%◌, ℕ, zero, suc, List, [], length, Some, None, refl, sym, ◌∙◌, ap, subst}
 use Rattle.std.proofs.Common.{arith}
 use Rattle.std.specs.List.{remove}
-use Rattle.std.proofs.lemmas.Bool.{cases_eq}
 use Rattle.std.proofs.lemmas.List.Edits.{get_or-remove_above, length-remove}
 use Rattle.lfs_model.specs.Entry.{Entry, entry_by}
 use Rattle.lfs_model.specs.Memory.{file_of}

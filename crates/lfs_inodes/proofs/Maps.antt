@@ -1,8 +1,6 @@
 -- The inode map in memory: what a loop leaves of it, and what its blocks spell.
-use Rattle.std.proofs.Common.{Fits, w32, slice_index_or, [], ◌∷◌, ◌^◌, IfSome, None, Option, Some, ◌≡◌, ◌<◌, ◌≤◌, ⊎_elim, ◌+◌, ◌*◌, not, ℕ}
-use Rattle.std.proofs.Common.{zero, suc, Bool, true, false, cond, List, length, get_or, set, replicate, refl, sym, ◌∙◌, ap, arith}
-use Rattle.std.proofs.Common.{get_or-set_other, get_or-set_same}
-use Rattle.std.proofs.lemmas.Bool.{cases_eq}
+use Rattle.std.proofs.Common.{Fits, w32, slice_index_or, [], ◌∷◌, ◌^◌, IfSome, None, Option, Some, ◌≡◌, ◌<◌, ◌≤◌, ◌+◌, ◌*◌, not, ℕ}
+use Rattle.std.proofs.Common.{zero, suc, Bool, true, false, cond, List, get_or, replicate, refl, sym, ◌∙◌, ap, arith}
 use Rattle.lfs_model.specs.Fields.{read32}
 use Rattle.lfs_model.specs.Pointers.{FitsPointers, pointer_sector}
 use Rattle.lfs_model.specs.Entry.{Inode, word}
@@ -12,7 +10,7 @@ use Rattle.lfs_model.specs.Running.{Tables}
 use Rattle.lfs_model.specs.Committing.{SpellsMap}
 use Rattle.lfs_model.proofs.Runs.{get_or-run}
 use Rattle.lfs_model.proofs.PointerPlaces.{length-pointers, pointers_back}
-use Rattle.lfs_inodes.specs.MapValue.{MapValue, IsMapOf, AreSettled, ShowsNone, IsEmptyMap, SpellsShown, shown_in, address_in, is_hidden_in}
+use Rattle.lfs_inodes.specs.MapValue.{MapValue, IsMapOf, AreSettled, IsEmptyMap, SpellsShown, shown_in, address_in, is_hidden_in}
 
 -- the numbers from a place on have been taken from a block, up to the i-th
 pub record IsLoading (old new : List ℕ) (at i : ℕ) (block : List ℕ) : Type 0 where

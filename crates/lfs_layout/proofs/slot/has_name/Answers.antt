@@ -1,9 +1,9 @@
-use Rattle.std.proofs.Common.{◌≡◌, ◌≤◌, ◌+◌, ℕ, List, length, get_or, Some, refl, sym, ◌∙◌, ap, arith}
+use Rattle.std.proofs.Common.{◌≡◌, ◌≤◌, ◌+◌, ℕ, List, length, get_or, Some, sym, ◌∙◌, ap, arith}
 use Rattle.std.proofs.lemmas.Slice.Eq.{bytes_eq-Decides}
 use Rattle.lfs_model.specs.Fields.{part}
 use Rattle.lfs_model.specs.Slot.{SlotValue, slot_in}
 use Rattle.lfs_model.proofs.Decoding.{slot_found}
-use Rattle.lfs_model.proofs.SlotPlaces.{length-slot, length_at, name_at, reads_from}
+use Rattle.lfs_model.proofs.SlotPlaces.{length-slot, length_at, reads_from}
 use Rattle.lfs_layout.proofs.slot.has_name.Goals as goal
 
 -- where the name of a slot stands in its bytes

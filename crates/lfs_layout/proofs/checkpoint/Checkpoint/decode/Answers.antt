@@ -1,5 +1,4 @@
-use Rattle.std.proofs.Common.{◌≡◌, ℕ, refl, sym, ap, ◌∙◌, arith, rules, List, codes, None}
-use Rattle.lfs_model.specs.Fields.{le32}
+use Rattle.std.proofs.Common.{◌≡◌, ℕ, sym, ◌∙◌, arith, List, codes, None}
 use Rattle.lfs_model.specs.Checkpoint.{checkpoint_text}
 use Rattle.lfs_model.specs.Fields.{part}
 use Rattle.lfs_model.proofs.Numbers.{le32_inj, le64_inj}

@@ -1,4 +1,4 @@
-use Rattle.std.proofs.Common.{refl, subst, arith, rules}
+use Rattle.std.proofs.Common.{subst, arith, rules}
 use Rattle.lfs_model.specs.Fields.{Are32}
 use Rattle.lfs_model.specs.Checkpoint.{FitsCheckpoint}
 use Rattle.lfs_layout.specs.contracts.checkpoint.Checkpoint.{the_view}
