@@ -9,10 +9,11 @@ use crate::seen::Link;
 use crate::walk_fault::WalkFault;
 use lfs_files::{Files, LogFault};
 use lfs_model::FileNumber;
+use lfs_model::limits::SECTOR_LEN;
 use std::alloc::Global;
 
 /// The bytes of a block.
-const BLOCK: u32 = 512;
+const BLOCK: u32 = SECTOR_LEN as u32;
 
 /// Follows a link: the text that is left is the link's and behind it what was left, from the root
 /// where the link's begins with a slash.
@@ -31,10 +32,7 @@ pub fn follow_link<F: Files>(
         → (F.state files.old).halted ≡ true }
     ensures other { IsErrOf result (WalkFault.Log LogFault.Full) → ⊥ }
 {
-    let mut text = match read_text(alloc, files, link) {
-        Ok(text) => text,
-        Err(fault) => return Err(fault),
-    };
+    let mut text = read_text(alloc, files, link)?;
     if begins_with_slash(text.as_slice()) {
         chain.restart();
     }
@@ -68,10 +66,7 @@ fn read_text<F: Files>(alloc: Global, files: &mut F, link: Link) -> Result<Vec<u
     let mut text = Vec::new(alloc);
     for index in 0..size.div_ceil(BLOCK) {
         let count = (size - BLOCK * index).min(BLOCK);
-        match read_block(files, link.number, index, count as usize, &mut text) {
-            Ok(()) => {}
-            Err(fault) => return Err(fault),
-        }
+        read_block(files, link.number, index, count as usize, &mut text)?;
     }
     Ok(text)
 }
@@ -84,7 +79,7 @@ fn read_block<F: Files>(
     count: usize,
     text: &mut Vec<u8>,
 ) -> Result<(), WalkFault>
-    requires few { count ≤ 512 }
+    requires few { count ≤ SECTOR_LEN }
     ensures reads { Reads (F.state files.old) (F.state files.new) }
     ensures done { OnOk result (TakesBytes (F.state files.old) (F.state files.new) number.value
         index count text.old.items text.new.items) }

@@ -56,10 +56,7 @@ pub fn walk_text<'a, F: Files>(
 {
     let mut rest = text;
     while let Some((piece, after)) = next_piece(rest) {
-        let met = match pass(files, chain, piece) {
-            Ok(met) => met,
-            Err(fault) => return Err(fault),
-        };
+        let met = pass(files, chain, piece)?;
         if let Some(met) = met {
             return stop_at(met, after, slash_end, follow);
         }
@@ -79,10 +76,7 @@ fn pass<F: Files>(files: &mut F, chain: &mut Chain, piece: &[u8]) -> Result<Opti
         → (F.state files.old).halted ≡ true }
     ensures other { IsErrOf result (WalkFault.Log LogFault.Full) → ⊥ }
 {
-    let seen = match look(files, chain.directory(), piece) {
-        Ok(seen) => seen,
-        Err(fault) => return Err(fault),
-    };
+    let seen = look(files, chain.directory(), piece)?;
     match seen {
         Seen::Here => Ok(None),
         Seen::Above => {

@@ -55,10 +55,7 @@ pub fn look<F: Files>(files: &mut F, directory: FileNumber, piece: &[u8]) -> Res
     if piece == b"..".as_slice() {
         return Ok(Seen::Above);
     }
-    let number = match entry_in(files, directory, piece) {
-        Ok(number) => number,
-        Err(fault) => return Err(fault),
-    };
+    let number = entry_in(files, directory, piece)?;
     let header = match header_of(files, number) {
         Ok(header) => header,
         Err(fault) => return Err(WalkFault::Log(fault)),

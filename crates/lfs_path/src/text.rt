@@ -6,9 +6,7 @@ ghost use Rattle.lfs_path.specs.Pieces.{is_slash, is_dots as are_dots, IsNextPie
 ghost use Rattle.lfs_path.specs.Reaching.{IsTextFault};
 
 use crate::walk_fault::WalkFault;
-
-/// The most bytes of a path.
-const LONGEST_PATH: usize = 1_023;
+use lfs_model::limits::LONGEST_PATH;
 
 /// Refuses a path for its text alone.
 pub fn check_text(path: &[u8]) -> Result<(), WalkFault>

@@ -46,15 +46,9 @@ pub fn resolve<F: Files>(
         → (F.state files.old).halted ≡ true }
     ensures other { IsErrOf result (WalkFault.Log LogFault.Full) → ⊥ }
 {
-    match check_text(path) {
-        Ok(()) => {}
-        Err(fault) => return Err(fault),
-    }
+    check_text(path)?;
     let mut chain = Chain::root(alloc);
-    match walk(alloc, files, &mut chain, path, false, follow) {
-        Ok(number) => Ok(number),
-        Err(fault) => Err(fault),
-    }
+    walk(alloc, files, &mut chain, path, false, follow)
 }
 
 /// Walks all pieces of a path but the last.
@@ -77,10 +71,7 @@ pub fn parent<'a, F: Files>(
         → (F.state files.old).halted ≡ true }
     ensures other { IsErrOf result (WalkFault.Log LogFault.Full) → ⊥ }
 {
-    match check_text(path) {
-        Ok(()) => {}
-        Err(fault) => return Err(fault),
-    }
+    check_text(path)?;
     let mut chain = Chain::root(alloc);
     let Some((above, last)) = split_last(path) else {
         return Ok(Place { chain, last: None });

@@ -11,10 +11,8 @@ use crate::passing::{Stop, walk_text};
 use crate::walk_fault::WalkFault;
 use lfs_files::{Files, LogFault};
 use lfs_model::FileNumber;
+use lfs_model::limits::MOST_FOLLOWED;
 use std::alloc::Global;
-
-/// The most links that a walk follows.
-const MOST_LINKS: u32 = 40;
 
 /// Walks a path from the root to its end. A slash end counts as there where `slash_end` says so;
 /// `follow` says whether a link at the end is followed.
@@ -54,13 +52,10 @@ pub fn walk<F: Files>(
             Ok(Stop::Followed(link, rest)) => (link, rest),
             Err(fault) => return Err(fault),
         };
-        if links == MOST_LINKS {
+        if links == MOST_FOLLOWED {
             return Err(WalkFault::Loop);
         }
         links += 1;
-        text = match follow_link(alloc, files, chain, link, rest) {
-            Ok(text) => text,
-            Err(fault) => return Err(fault),
-        };
+        text = follow_link(alloc, files, chain, link, rest)?;
     }
 }

@@ -7,7 +7,7 @@ returns-in-Some-met-clause-answer g c =
     (g.F.Files.state c.pass.new.files) c.args.chain.now c.args.text.now
     c.loop-piece.chain c.loop-piece.rest.now c.in-Some.piece.now c.in-Some.after.now c.in-Some.ensures.piece c.loop-piece.invariant
     c.pass.ensures.reads c.pass.new.chain c.in-Some-met.met
-    (rw c.in-Some-met.is at c.in-Ok.ensures.answer) c.stop_at.result c.stop_at.ensures
+    (rw c.in-Some-met.is at c.in_ok-met.ensures.answer) c.stop_at.result c.stop_at.ensures
 
 pub returns-in-Some-met-clause-refused : goal.returns-in-Some-met-clause-refused
 returns-in-Some-met-clause-refused g c =
@@ -15,7 +15,7 @@ returns-in-Some-met-clause-refused g c =
     (g.F.Files.state c.pass.new.files) c.args.chain.now c.args.text.now
     c.loop-piece.chain c.loop-piece.rest.now c.in-Some.piece.now c.in-Some.after.now c.in-Some.ensures.piece c.loop-piece.invariant
     c.pass.ensures.reads c.pass.new.chain c.in-Some-met.met
-    (rw c.in-Some-met.is at c.in-Ok.ensures.answer) c.stop_at.result c.stop_at.ensures
+    (rw c.in-Some-met.is at c.in_ok-met.ensures.answer) c.stop_at.result c.stop_at.ensures
 
 pub returns-clause-answer : goal.returns-clause-answer
 returns-clause-answer g c =
