@@ -3,7 +3,7 @@ use Rattle.std.specs.Prelude.{min, Result, Ok, Err, IfOk, IfSome}
 use Rattle.std.proofs.Common.{◌≡◌, ◌≢◌, ◌<◌, ◌≤◌, ⊎_elim, ◌+◌, ◌*◌, ◌-◌, ℕ, zero, suc, List, [], ◌∷◌, ◌++◌, length, take, drop, get_or}
 use Rattle.std.proofs.Common.{Option, Some, None, refl, sym, ◌∙◌, ap, subst, arith}
 use Rattle.std.proofs.lemmas.Bool.{cases_lt}
-use Rattle.std.proofs.lemmas.List.{take-append-drop, drop-drop, drop_all, get_or-take, get_or-drop, length-take, length-drop}
+use Rattle.std.proofs.lemmas.List.{take-append-drop, drop-drop, drop_all}
 use Rattle.std.specs.FinMap.{find}
 use Rattle.std.specs.List.{AllByRecursion}
 use Rattle.lfs_model.specs.Device.{IsLawful}
@@ -19,7 +19,6 @@ use Rattle.lfs_dirs.specs.Directory.{first_slots, names_at, per_block, slot_coun
 use Rattle.lfs_dirs.specs.declared.searching.Found.{Found}
 use Rattle.lfs_dirs.specs.Finding.{HasNoSlot, IsDirectoryFault, IsBlockFault}
 use Rattle.lfs_dirs.specs.Listing.{AreSlots}
-use Rattle.lfs_dirs.specs.Repointing.{Lacks}
 use Rattle.lfs_dirs.specs.Searching.{FindsIn, FindsInBlock, FindsInNth, FindsName, FindsSlot, count_in_nth, slots_in_nth}
 use Rattle.lfs_dirs.proofs.SlotNames.{gives_some, gives_none}
 use Rattle.lfs_dirs.proofs.SlotsGive.{slot_gives}

@@ -2,6 +2,7 @@
 use Rattle.std.specs.Prelude.{◌≡◌, ◌≤◌, ℕ, List, [], Some}
 use Rattle.std.specs.FinMap.{put}
 use Rattle.lfs_model.specs.declared.Kind.TheVariants as kind
+use Rattle.lfs_model.specs.declared.limits.TheConstants.{LAST_NUMBER}
 use Rattle.lfs_model.specs.Objects.{IsChangedAt}
 use Rattle.lfs_model.specs.Stands.{LogMap}
 use Rattle.lfs_model.specs.Step.{widened}
@@ -14,7 +15,7 @@ use Rattle.lfs_dirs.specs.Widening.{wide}
 
 -- Object d is a directory of this header.
 pub record HasDirectory (m : LogMap) (d : ℕ) (head : Header) : Type 0 where
-  pub number : (1 ≤ d) × (d ≤ 4095)
+  pub number : (1 ≤ d) × (d ≤ LAST_NUMBER)
   pub header : m.header d ≡ Some (as_header head)
   pub kind : head.kind ≡ kind.Directory
 

@@ -9,6 +9,7 @@ ghost use Rattle.lfs_dirs.specs.Growing.{GrowsDirectory};
 use lfs_files::{Files, Header, LogFault, StoreFault};
 use lfs_layout::encode_slot;
 use lfs_model::FileNumber;
+use lfs_model::limits::MOST_ENTRIES;
 
 /// Drafts a slot behind those of a directory of this header, which has at most 1,023. Its names
 /// aren't looked at: `find` tells whether it has this one.
@@ -23,7 +24,7 @@ pub fn add<F: Files>(
     number: FileNumber,
     name: &[u8],
 ) -> Result<(), StoreFault>
-    requires room { header.size + slot_len header.form ≤ 1024 * slot_len header.form }
+    requires room { header.size + slot_len header.form ≤ MOST_ENTRIES * slot_len header.form }
     requires name { IsName (name_len header.form) name.now }
     ensures redrafts { Redrafts (F.state files.old) (F.state files.new) }
     ensures done { OnOk result (Adds (F.state files.old) (F.state files.new)

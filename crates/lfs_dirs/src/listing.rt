@@ -86,7 +86,7 @@ pub fn inspect<F: Files>(
     while index > 0 {
         index -= 1;
         let count = (slots - whole * index).min(whole) as usize;
-        match list_block(
+        list_block(
             alloc,
             files,
             directory,
@@ -94,10 +94,7 @@ pub fn inspect<F: Files>(
             index,
             count,
             &mut entries,
-        ) {
-            Ok(()) => {}
-            Err(fault) => return Err(fault),
-        }
+        )?;
     }
     match put_in_order(&mut entries) {
         Ok(()) => Ok(entries),
@@ -166,10 +163,7 @@ fn put_slots(
     let mut place = count;
     while place > 0 {
         place -= 1;
-        match put_slot(alloc, form, nth_slot(block, form, place), entries) {
-            Ok(()) => {}
-            Err(fault) => return Err(fault),
-        }
+        put_slot(alloc, form, nth_slot(block, form, place), entries)?;
     }
     Ok(())
 }

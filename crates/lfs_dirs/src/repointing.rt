@@ -11,6 +11,7 @@ use crate::searching::search_from;
 use lfs_files::{Files, Header, LogFault, StoreFault};
 use lfs_layout::{encode_slot, slot_len};
 use lfs_model::FileNumber;
+use lfs_model::limits::MOST_ENTRIES;
 
 /// Drafts another number for a name of a directory of this header, if it has the name, which is
 /// looked for near this place first.
@@ -26,7 +27,7 @@ pub fn repoint<F: Files>(
     place: u32,
     number: FileNumber,
 ) -> Result<bool, StoreFault>
-    requires size { header.size ≤ 1024 * slot_len header.form }
+    requires size { header.size ≤ MOST_ENTRIES * slot_len header.form }
     requires name { IsName (name_len header.form) name.now }
     ensures redrafts { Redrafts (F.state files.old) (F.state files.new) }
     ensures done { IfOk result (λ found. IsTrue found → Repoints (F.state files.old) (F.state
@@ -52,9 +53,6 @@ pub fn repoint<F: Files>(
     };
     let slot = encode_slot(header.form, u32::from(number.value), name);
     let at = slot_len(header.form) * found.place;
-    match files.write_at(directory, header, at, slot.written()) {
-        Ok(()) => {}
-        Err(fault) => return Err(fault),
-    }
+    files.write_at(directory, header, at, slot.written())?;
     Ok(true)
 }

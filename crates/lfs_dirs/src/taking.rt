@@ -12,6 +12,7 @@ use crate::slots::slots_in_block;
 use lfs_files::{Files, Header, LogFault, StoreFault};
 use lfs_layout::{nth_slot, slot_len};
 use lfs_model::FileNumber;
+use lfs_model::limits::MOST_ENTRIES;
 
 /// Drafts a directory of this header without a name, if it has the name, which is looked for near
 /// this place first. Its last slot comes into the gap. No block is lost, so the draft may lose
@@ -28,7 +29,7 @@ pub fn take<F: Files>(
     name: &[u8],
     place: u32,
 ) -> Result<bool, StoreFault>
-    requires size { header.size ≤ 1024 * slot_len header.form }
+    requires size { header.size ≤ MOST_ENTRIES * slot_len header.form }
     ensures redrafts { Redrafts (F.state files.old) (F.state files.new) }
     ensures done { IfOk result (λ found. IsTrue found
         → Takes (F.state files.old) (F.state files.new) directory.value header name.now) }
@@ -52,10 +53,7 @@ pub fn take<F: Files>(
     if header.size % slot_len(header.form) != 0 {
         return Err(StoreFault::Log(LogFault::Device));
     }
-    match drop_slot(files, directory, header, found.place) {
-        Ok(()) => {}
-        Err(fault) => return Err(fault),
-    }
+    drop_slot(files, directory, header, found.place)?;
     Ok(true)
 }
 
@@ -66,7 +64,7 @@ fn drop_slot<F: Files>(
     header: Header,
     place: u32,
 ) -> Result<(), StoreFault>
-    requires size { header.size ≤ 1024 * slot_len header.form }
+    requires size { header.size ≤ MOST_ENTRIES * slot_len header.form }
     requires even { header.size % slot_len header.form ≡ 0 }
     requires inside { place < slot_count header }
     ensures redrafts { Redrafts (F.state files.old) (F.state files.new) }
@@ -96,19 +94,13 @@ fn drop_slot<F: Files>(
         header.form,
         (last % slots_in_block(header.form)) as usize,
     );
-    match files.shrink(directory, header, size) {
-        Ok(()) => {}
-        Err(fault) => return Err(fault),
-    }
+    files.shrink(directory, header, size)?;
     let shorter = Header {
         kind: header.kind,
         form: header.form,
         links: header.links,
         size,
     };
-    match files.write_at(directory, shorter, slot * place, bytes) {
-        Ok(()) => {}
-        Err(fault) => return Err(fault),
-    }
+    files.write_at(directory, shorter, slot * place, bytes)?;
     Ok(())
 }

@@ -13,6 +13,7 @@ use crate::slots::{slots_in_block, slots_of};
 use lfs_files::{Files, Header, LogFault, StoreFault};
 use lfs_layout::{SlotView, encode_slot, nth_slot};
 use lfs_model::FileNumber;
+use lfs_model::limits::MOST_ENTRIES;
 use std::alloc::Global;
 
 /// The form of the directories that take longer names.
@@ -29,7 +30,7 @@ pub fn widen<F: Files>(
     directory: FileNumber,
     header: Header,
 ) -> Result<(), StoreFault>
-    requires size { header.size ≤ 1024 * slot_len header.form }
+    requires size { header.size ≤ MOST_ENTRIES * slot_len header.form }
     ensures redrafts { Redrafts (F.state files.old) (F.state files.new) }
     ensures done { OnOk result (Widens (F.state files.old) (F.state files.new) directory.value
         header) }
@@ -41,15 +42,9 @@ pub fn widen<F: Files>(
         → (F.state files.old).halted ≡ true }
     ensures other { IsErrOf result (StoreFault.Log LogFault.Full) → ⊥ }
 {
-    let slots = match wide_slots(alloc, files, directory, header) {
-        Ok(slots) => slots,
-        Err(fault) => return Err(fault),
-    };
+    let slots = wide_slots(alloc, files, directory, header)?;
     let size = slots.len() as u32;
-    match files.reform(directory, header, WIDE_FORM, size) {
-        Ok(()) => {}
-        Err(fault) => return Err(fault),
-    }
+    files.reform(directory, header, WIDE_FORM, size)?;
     if slots.is_empty() {
         return Ok(());
     }
@@ -59,10 +54,7 @@ pub fn widen<F: Files>(
         links: header.links,
         size,
     };
-    match files.write_at(directory, wide, 0, slots.as_slice()) {
-        Ok(()) => {}
-        Err(fault) => return Err(fault),
-    }
+    files.write_at(directory, wide, 0, slots.as_slice())?;
     Ok(())
 }
 
@@ -73,10 +65,10 @@ fn wide_slots<F: Files>(
     directory: FileNumber,
     header: Header,
 ) -> Result<Vec<u8>, StoreFault>
-    requires size { header.size ≤ 1024 * slot_len header.form }
+    requires size { header.size ≤ MOST_ENTRIES * slot_len header.form }
     ensures reads { Reads (F.state files.old) (F.state files.new) }
     ensures long { IfOk result (λ slots. length slots.items ≡ slot_len 1 * slot_count header) }
-    ensures few { IfOk result (λ slots. length slots.items ≤ 1024 * slot_len 1) }
+    ensures few { IfOk result (λ slots. length slots.items ≤ MOST_ENTRIES * slot_len 1) }
     ensures answer { IfOk result (λ slots. TellsWide (F.state files.old) (F.state files.new)
         directory.value header slots.items) }
     ensures failed { IfErr result (λ fault. (fault ≡ StoreFault.NoMemory → ⊥)
@@ -89,10 +81,7 @@ fn wide_slots<F: Files>(
     let whole = slots_in_block(header.form);
     let mut slots = Vec::new(alloc);
     for index in 0..all.div_ceil(whole) {
-        match widen_nth(files, directory, header, index, &mut slots) {
-            Ok(()) => {}
-            Err(fault) => return Err(fault),
-        }
+        widen_nth(files, directory, header, index, &mut slots)?;
     }
     Ok(slots)
 }
@@ -120,10 +109,8 @@ fn widen_nth<F: Files>(
 {
     let whole = slots_in_block(header.form);
     let count = (slots_of(header) - whole * index).min(whole) as usize;
-    match widen_block(files, directory, header.form, index, count, slots) {
-        Ok(()) => Ok(()),
-        Err(fault) => Err(fault),
-    }
+    widen_block(files, directory, header.form, index, count, slots)?;
+    Ok(())
 }
 
 /// The first slots of one block of a directory come behind others, as slots of form 1.
@@ -175,10 +162,7 @@ fn put_wide_slots(
         count) }
 {
     for place in 0..count {
-        match put_wide_slot(nth_slot(block, form, place), form, slots) {
-            Ok(()) => {}
-            Err(fault) => return Err(fault),
-        }
+        put_wide_slot(nth_slot(block, form, place), form, slots)?;
     }
     Ok(())
 }

@@ -1,3 +1,4 @@
+use Rattle.std.proofs.lemmas.Result.{err_from_is_err_and}
 use Rattle.std.proofs.Common.{◌≡◌, ◌<◌, ◌*◌, ◌-◌, refl, arith, ap, ℕ}
 use Rattle.std.specs.Prelude.{min}
 use Rattle.lfs_dirs.specs.Directory.{per_block, slot_count}
@@ -37,12 +38,13 @@ loop-index-preserved g c =
       list_goes_on c.args.directory.value c.args.header (g.F.Files.state c.args.files.now) (g.F.Files.state c.loop-index.files)
           (g.F.Files.state c.list_block.new.files)
           c.loop-index.index (c.loop-index.index - 1) c.min-count.result c.loop-index.entries.items is low c.loop-index.invariant.1
-          c.list_block.new.entries.items (g.met.F.Files.lawful c.args.files.now) t refl c.list_block.ensures.reads c.in-Ok.ensures.done,
+          c.list_block.new.entries.items (g.met.F.Files.lawful c.args.files.now) t refl c.list_block.ensures.reads c.in_ok-list_block.ensures.done,
     )
 
-pub returns-in-Err-clause-failed : goal.returns-in-Err-clause-failed
-returns-in-Err-clause-failed g c other =
-    let t = c.loop-index-test.true in
+pub returns-in_err-list_block-clause-failed : goal.returns-in_err-list_block-clause-failed
+returns-in_err-list_block-clause-failed g c =
+    let p = err_from_is_err_and c.from_residual.result c.from_residual.ensures.1 in rw (p.1, p.2)
+    (λ other. let t = c.loop-index-test.true in
     let u = c.loop-index.invariant.0 in
     let m = c.min-count.ensures in
     let slots = c.slots_of-slots.ensures in
@@ -55,11 +57,12 @@ returns-in-Err-clause-failed g c other =
     list_fails c.args.directory.value c.args.header (g.F.Files.state c.args.files.now) (g.F.Files.state c.loop-index.files)
     (g.F.Files.state c.list_block.new.files)
     c.loop-index.index (c.loop-index.index - 1) c.min-count.result c.loop-index.entries.items is low c.loop-index.invariant.1
-    (c.in-Err.ensures.failed other)
+    (c.in_err-list_block.ensures.failed other))
 
-pub returns-in-Err-clause-malformed : goal.returns-in-Err-clause-malformed
-returns-in-Err-clause-malformed g c same =
-    let t = c.loop-index-test.true in
+pub returns-in_err-list_block-clause-malformed : goal.returns-in_err-list_block-clause-malformed
+returns-in_err-list_block-clause-malformed g c =
+    let p = err_from_is_err_and c.from_residual.result c.from_residual.ensures.1 in rw (p.1, p.2)
+    (λ same. let t = c.loop-index-test.true in
     let u = c.loop-index.invariant.0 in
     let m = c.min-count.ensures in
     let slots = c.slots_of-slots.ensures in
@@ -72,16 +75,17 @@ returns-in-Err-clause-malformed g c same =
     slot_lacks c.args.directory.value c.args.header (g.F.Files.state c.args.files.now) (g.F.Files.state c.loop-index.files)
     (g.F.Files.state c.list_block.new.files)
     c.loop-index.index (c.loop-index.index - 1) c.min-count.result c.loop-index.entries.items is low c.loop-index.invariant.1
-    (c.in-Err.ensures.malformed (other_result c.in-Err.fault ListFault.NoSlot same))
+    (c.in_err-list_block.ensures.malformed (other_result c.in_err-list_block.field-0.0 ListFault.NoSlot same)))
 
-pub returns-in-Err-clause-device : goal.returns-in-Err-clause-device
-returns-in-Err-clause-device g c same =
-    fault_more (g.F.Files.state c.args.files.now) (g.F.Files.state c.loop-index.files) (g.F.Files.state c.list_block.new.files)
-    c.loop-index.invariant.1.reads (c.in-Err.ensures.device (other_result c.in-Err.fault (ListFault.Log LogFault.Device) same))
+pub returns-in_err-list_block-clause-device : goal.returns-in_err-list_block-clause-device
+returns-in_err-list_block-clause-device g c =
+    let p = err_from_is_err_and c.from_residual.result c.from_residual.ensures.1 in rw (p.1, p.2)
+    (λ same. fault_more (g.F.Files.state c.args.files.now) (g.F.Files.state c.loop-index.files) (g.F.Files.state c.list_block.new.files)
+    c.loop-index.invariant.1.reads (c.in_err-list_block.ensures.device (other_result c.in_err-list_block.field-0.0 (ListFault.Log LogFault.Device) same)))
 
-pub returns-in-Ok-put_in_order-clause-answer : goal.returns-in-Ok-put_in_order-clause-answer
-returns-in-Ok-put_in_order-clause-answer g c =
+pub returns-in-Ok-clause-answer : goal.returns-in-Ok-clause-answer
+returns-in-Ok-clause-answer g c =
     let t = c.loop-index-test.false in
     list_ends c.args.directory.value c.args.header (g.F.Files.state c.args.files.now)
     (g.F.Files.state c.loop-index.files) c.loop-index.index c.loop-index.entries.items c.put_in_order.new.entries.items
-    (omega (arith, t)) c.loop-index.invariant.1 c.in-Ok-put_in_order.ensures
+    (omega (arith, t)) c.loop-index.invariant.1 c.in-Ok.ensures

@@ -1,3 +1,4 @@
+use Rattle.std.proofs.lemmas.Result.{err_from_is_err_and}
 use Rattle.std.proofs.Common.{rules, ◌≡◌, ◌<◌, ◌*◌, ℕ, List, length, ap, sym, ◌∙◌, subst}
 use Rattle.lfs_files.specs.Files.{Writes}
 use Rattle.lfs_files.proofs.FilesCompose.{redrafts_more, redrafts_read}
@@ -18,8 +19,8 @@ pub returns-in-Err-clause-redrafts : goal.returns-in-Err-clause-redrafts
 returns-in-Err-clause-redrafts g c =
     redrafts_read (g.F.Files.state c.args.files.now) (g.F.Files.state c.search_from.new.files) c.search_from.ensures.reads
 
-pub returns-in-Err-write_at-clause-redrafts : goal.returns-in-Err-write_at-clause-redrafts
-returns-in-Err-write_at-clause-redrafts g c =
+pub returns-in_err-write_at-clause-redrafts : goal.returns-in_err-write_at-clause-redrafts
+returns-in_err-write_at-clause-redrafts g c =
     redrafts_more (g.F.Files.state c.args.files.now) (g.F.Files.state c.search_from.new.files) (g.F.Files.state c.write_at.new.self)
     (g.met.F.Files.lawful c.args.files.now)
     (redrafts_read (g.F.Files.state c.args.files.now) (g.F.Files.state c.search_from.new.files) c.search_from.ensures.reads)
@@ -35,11 +36,12 @@ returns-clause-redrafts g c =
 pub returns-in-Ok-None-clause-none : goal.returns-in-Ok-None-clause-none
 returns-in-Ok-None-clause-none g c is = rw c.in-Ok-None.field-0-is at c.in-Ok-None.ensures.none
 
-pub returns-in-Err-write_at-clause-failed : goal.returns-in-Err-write_at-clause-failed
-returns-in-Err-write_at-clause-failed g c other =
-    fails_behind (g.F.Files.state c.args.files.now) (g.F.Files.state c.search_from.new.files)
+pub returns-in_err-write_at-clause-failed : goal.returns-in_err-write_at-clause-failed
+returns-in_err-write_at-clause-failed g c =
+    let p = err_from_is_err_and c.from_residual.result c.from_residual.ensures.1 in rw (p.1, p.2)
+    (λ other. fails_behind (g.F.Files.state c.args.files.now) (g.F.Files.state c.search_from.new.files)
     (g.F.Files.state c.write_at.new.self) c.args.directory.value c.args.header
-    c.search_from.ensures.reads (c.in-Err-write_at.ensures.failed other)
+    c.search_from.ensures.reads (c.in_err-write_at.ensures.failed other))
 
 pub returns-clause-done : goal.returns-clause-done
 returns-clause-done g c is =
@@ -57,12 +59,12 @@ returns-clause-done g c is =
     (subst (λ (w : List ℕ). Writes (g.F.Files.state c.search_from.new.files) (g.F.Files.state c.write_at.new.self) c.args.directory.value
     c.args.header (slot_len c.args.header.form * c.in-Ok-Some.found.place) w) slot
     (subst (λ (l : ℕ). Writes (g.F.Files.state c.search_from.new.files) (g.F.Files.state c.write_at.new.self) c.args.directory.value
-    c.args.header (l * c.in-Ok-Some.found.place) c.written.result.now) c.slot_len.ensures.value c.in-Ok.ensures.done))
+    c.args.header (l * c.in-Ok-Some.found.place) c.written.result.now) c.slot_len.ensures.value c.in_ok-write_at.ensures.done))
 
 pub returns-clause-counted : goal.returns-clause-counted
 returns-clause-counted g c is =
     counts_searched (g.F.Files.state c.args.files.now) (g.F.Files.state c.search_from.new.files)
-    (g.F.Files.state c.write_at.new.self) c.search_from.ensures.reads c.in-Ok.ensures.counted
+    (g.F.Files.state c.write_at.new.self) c.search_from.ensures.reads c.in_ok-write_at.ensures.counted
 
 pub returns-clause-small : goal.returns-clause-small
 returns-clause-small g c is =
@@ -71,4 +73,4 @@ returns-clause-small g c is =
     grows_behind (g.F.Files.state c.args.files.now) (g.F.Files.state c.search_from.new.files)
     (g.F.Files.state c.write_at.new.self) 1 2 c.search_from.ensures.reads
     (slot_grows (g.F.Files.state c.search_from.new.files) (g.F.Files.state c.write_at.new.self) c.args.directory.value c.args.header
-    (c.slot_len.result * c.in-Ok-Some.found.place) c.written.result.now long c.in-Ok.ensures.done)
+    (c.slot_len.result * c.in-Ok-Some.found.place) c.written.result.now long c.in_ok-write_at.ensures.done)

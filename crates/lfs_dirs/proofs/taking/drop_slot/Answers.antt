@@ -1,3 +1,4 @@
+use Rattle.std.proofs.lemmas.Result.{err_from_is_err_and}
 use Rattle.std.proofs.Common.{◌≡◌, ◌-◌, ◌/◌, ◌*◌, ◌%◌, ℕ, subst, arith}
 use Rattle.std.proofs.lemmas.Result.{on_ok_weaker}
 use Rattle.lfs_files.proofs.FilesCompose.{fault_more, redrafts_more, redrafts_read}
@@ -27,14 +28,14 @@ pub returns-in-Err-clause-redrafts : goal.returns-in-Err-clause-redrafts
 returns-in-Err-clause-redrafts g c =
     redrafts_read (g.F.Files.state c.args.files.now) (g.F.Files.state c.block.new.self) c.block.ensures.reads
 
-pub returns-in-Err-shrink-clause-redrafts : goal.returns-in-Err-shrink-clause-redrafts
-returns-in-Err-shrink-clause-redrafts g c =
+pub returns-in_err-shrink-clause-redrafts : goal.returns-in_err-shrink-clause-redrafts
+returns-in_err-shrink-clause-redrafts g c =
     redrafts_more (g.F.Files.state c.args.files.now) (g.F.Files.state c.block.new.self) (g.F.Files.state c.shrink-2.new.self)
     (g.met.F.Files.lawful c.args.files.now) (redrafts_read (g.F.Files.state c.args.files.now)
     (g.F.Files.state c.block.new.self) c.block.ensures.reads) c.shrink-2.ensures.redrafts
 
-pub returns-in-Err-write_at-clause-redrafts : goal.returns-in-Err-write_at-clause-redrafts
-returns-in-Err-write_at-clause-redrafts g c =
+pub returns-in_err-write_at-clause-redrafts : goal.returns-in_err-write_at-clause-redrafts
+returns-in_err-write_at-clause-redrafts g c =
     redrafts_more (g.F.Files.state c.args.files.now) (g.F.Files.state c.shrink-2.new.self) (g.F.Files.state c.write_at.new.self)
     (g.met.F.Files.lawful c.args.files.now)
     (redrafts_more (g.F.Files.state c.args.files.now) (g.F.Files.state c.block.new.self) (g.F.Files.state c.shrink-2.new.self)
@@ -49,16 +50,19 @@ returns-clause-redrafts g c =
     (g.met.F.Files.lawful c.args.files.now) (redrafts_read (g.F.Files.state c.args.files.now)
     (g.F.Files.state c.block.new.self) c.block.ensures.reads) c.shrink-2.ensures.redrafts) c.write_at.ensures.redrafts
 
-pub returns-in-Err-shrink-clause-failed : goal.returns-in-Err-shrink-clause-failed
-returns-in-Err-shrink-clause-failed g c other = fault_more (g.F.Files.state c.args.files.now) (g.F.Files.state c.block.new.self)
-    (g.F.Files.state c.shrink-2.new.self) c.block.ensures.reads (c.in-Err-shrink.ensures.failed other)
+pub returns-in_err-shrink-clause-failed : goal.returns-in_err-shrink-clause-failed
+returns-in_err-shrink-clause-failed g c =
+    let p = err_from_is_err_and c.from_residual.result c.from_residual.ensures.1 in rw (p.1, p.2)
+    (λ other. fault_more (g.F.Files.state c.args.files.now) (g.F.Files.state c.block.new.self)
+    (g.F.Files.state c.shrink-2.new.self) c.block.ensures.reads (c.in_err-shrink.ensures.failed other))
 
-pub returns-in-Err-write_at-clause-failed : goal.returns-in-Err-write_at-clause-failed
-returns-in-Err-write_at-clause-failed g c other =
-    fails_last (g.F.Files.state c.args.files.now) (g.F.Files.state c.block.new.self) (g.F.Files.state c.shrink-2.new.self)
+pub returns-in_err-write_at-clause-failed : goal.returns-in_err-write_at-clause-failed
+returns-in_err-write_at-clause-failed g c =
+    let p = err_from_is_err_and c.from_residual-in_err-write_at.result c.from_residual-in_err-write_at.ensures.1 in rw (p.1, p.2)
+    (λ other. fails_last (g.F.Files.state c.args.files.now) (g.F.Files.state c.block.new.self) (g.F.Files.state c.shrink-2.new.self)
     (g.F.Files.state c.write_at.new.self) c.args.directory.value c.args.header (c.args.header.size - c.slot_len-slot.result)
-    c.block.ensures.reads c.shrink-2.ensures.redrafts c.write_at.ensures.redrafts c.in-Ok-shrink.ensures.done
-    (c.in-Err-write_at.ensures.failed other)
+    c.block.ensures.reads c.shrink-2.ensures.redrafts c.write_at.ensures.redrafts c.in_ok-shrink.ensures.done
+    (c.in_err-write_at.ensures.failed other))
 
 pub returns-clause-done : goal.returns-clause-done
 returns-clause-done g c =
@@ -86,14 +90,14 @@ returns-clause-done g c =
     (subst (λ (p : ℕ). ReadsSlot (g.F.Files.state c.args.files.now) (g.F.Files.state c.block.new.self) c.args.directory.value c.args.header
     p c.nth_slot-bytes.result.now) last read)
     (subst (λ (n : ℕ). Shrinks (g.F.Files.state c.block.new.self) (g.F.Files.state c.shrink-2.new.self) c.args.directory.value c.args.header
-    (c.args.header.size - n)) value c.in-Ok-shrink.ensures.done)
+    (c.args.header.size - n)) value c.in_ok-shrink.ensures.done)
     (subst (λ (n : ℕ). Writes (g.F.Files.state c.shrink-2.new.self) (g.F.Files.state c.write_at.new.self) c.args.directory.value
     record {
       kind = c.args.header.kind;
       form = c.args.header.form;
       links = c.args.header.links;
       size = c.args.header.size - n;
-    } (n * c.args.place) c.nth_slot-bytes.result.now) value c.in-Ok-write_at.ensures.done)
+    } (n * c.args.place) c.nth_slot-bytes.result.now) value c.in_ok-write_at.ensures.done)
 
 pub returns-then-place-last-clause-counted : goal.returns-then-place-last-clause-counted
 returns-then-place-last-clause-counted g c =
@@ -126,8 +130,8 @@ returns-clause-counted g c =
     (subst (λ (p : ℕ). ReadsSlot (g.F.Files.state c.args.files.now) (g.F.Files.state c.block.new.self) c.args.directory.value c.args.header
     p c.nth_slot-bytes.result.now) last read)
     (subst (λ (n : ℕ). Shrinks (g.F.Files.state c.block.new.self) (g.F.Files.state c.shrink-2.new.self) c.args.directory.value c.args.header
-    (c.args.header.size - n)) value c.in-Ok-shrink.ensures.done)
+    (c.args.header.size - n)) value c.in_ok-shrink.ensures.done)
     (subst (λ (n : ℕ). Writes (g.F.Files.state c.shrink-2.new.self) (g.F.Files.state c.write_at.new.self) c.args.directory.value
     record { kind = c.args.header.kind; form = c.args.header.form; links = c.args.header.links; size = c.args.header.size - n }
-    (n * c.args.place) c.nth_slot-bytes.result.now) value c.in-Ok-write_at.ensures.done) c.requires.size
-    c.in-Ok-shrink.ensures.counted c.in-Ok-write_at.ensures.counted
+    (n * c.args.place) c.nth_slot-bytes.result.now) value c.in_ok-write_at.ensures.done) c.requires.size
+    c.in_ok-shrink.ensures.counted c.in_ok-write_at.ensures.counted

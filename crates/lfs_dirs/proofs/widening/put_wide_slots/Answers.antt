@@ -8,12 +8,12 @@ loop-place-init c = (omega arith, wide_begins c.args.form c.args.block.now c.arg
 pub loop-place-preserved : goal.loop-place-preserved
 loop-place-preserved c =
     let was = c.loop-place.invariant.0 in
-    let more = c.in-Ok.ensures.long in
+    let more = c.in_ok-put_wide_slot.ensures.long in
     let low = c.loop-place-test.true in (
       omega (arith, was, more, low),
       wide_goes_on c.args.form c.args.block.now c.args.count c.args.slots.now.items c.loop-place.slots.items c.put_wide_slot.new.slots.items
           c.nth_slot.result.now c.loop-place.place
-          c.loop-place-test.true c.nth_slot.ensures.bytes c.loop-place.invariant.1 c.in-Ok.ensures.done c.in-Ok.ensures.formed,
+          c.loop-place-test.true c.nth_slot.ensures.bytes c.loop-place.invariant.1 c.in_ok-put_wide_slot.ensures.done c.in_ok-put_wide_slot.ensures.formed,
     )
 
 pub returns-clause-long : goal.returns-clause-long

@@ -1,3 +1,4 @@
+use Rattle.std.proofs.lemmas.Result.{err_from_is_err_and}
 use Rattle.std.proofs.Common.{◌*◌, ◌<◌, refl, arith}
 use Rattle.lfs_dirs.specs.Directory.{per_block, slot_count}
 use Rattle.lfs_dirs.specs.Searching.{count_in_nth}
@@ -20,11 +21,12 @@ loop-index-preserved g c =
     widening_goes_on c.args.directory.value c.args.header (g.F.Files.state c.args.files.now) (g.F.Files.state c.loop-index.files)
     (g.F.Files.state c.widen_nth.new.files)
     c.loop-index.index (count_in_nth c.args.header c.loop-index.index) c.loop-index.slots.items refl low c.loop-index.invariant
-    c.widen_nth.new.slots.items (g.met.F.Files.lawful c.args.files.now) c.widen_nth.ensures.reads c.in-Ok.ensures.long c.in-Ok.ensures.done
+    c.widen_nth.new.slots.items (g.met.F.Files.lawful c.args.files.now) c.widen_nth.ensures.reads c.in_ok-widen_nth.ensures.long c.in_ok-widen_nth.ensures.done
 
-pub returns-in-Err-clause-failed : goal.returns-in-Err-clause-failed
-returns-in-Err-clause-failed g c other =
-    let t = c.loop-index-test.true in
+pub returns-in_err-widen_nth-clause-failed : goal.returns-in_err-widen_nth-clause-failed
+returns-in_err-widen_nth-clause-failed g c =
+    let p = err_from_is_err_and c.from_residual.result c.from_residual.ensures.1 in rw (p.1, p.2)
+    (λ other. let t = c.loop-index-test.true in
     let e = c.div_ceil-index-end.ensures in
     let all = c.slots_of-all.ensures in
     let low : per_block c.args.header.form * c.loop-index.index < slot_count c.args.header =
@@ -33,7 +35,7 @@ returns-in-Err-clause-failed g c other =
     widening_fails c.args.directory.value c.args.header (g.F.Files.state c.args.files.now) (g.F.Files.state c.loop-index.files)
     (g.F.Files.state c.widen_nth.new.files)
     c.loop-index.index (count_in_nth c.args.header c.loop-index.index) c.loop-index.slots.items refl low c.loop-index.invariant
-    (c.in-Err.ensures.failed other)
+    (c.in_err-widen_nth.ensures.failed other))
 
 pub returns-clause-answer : goal.returns-clause-answer
 returns-clause-answer g c =
