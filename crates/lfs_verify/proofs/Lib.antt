@@ -1,6 +1,7 @@
 pub mod Words
 pub mod Steps
 pub mod Takes
+pub mod Keeping
 pub mod Bounds
 pub mod Sectors
 pub mod CleanSteps

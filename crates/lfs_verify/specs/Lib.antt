@@ -4,6 +4,7 @@ pub mod Kept
 pub mod Labels
 pub mod Rows
 pub mod Codes
+pub mod Keeping
 pub mod Tables
 pub mod Directories
 pub mod MapTables

@@ -1,5 +1,5 @@
 //! The clean segments of a volume.
-ghost use Rattle.std.specs.Prelude.{◌≡◌, ◌≤◌, ◌^◌, ◌↔◌, length, IsTrue};
+ghost use Rattle.std.specs.Prelude.{◌≡◌, ◌≤◌, ◌↔◌, length, IsTrue};
 ghost use Rattle.lfs_model.specs.Reach.{View};
 ghost use Rattle.lfs_model.specs.Stands.{EnoughClean};
 ghost use Rattle.lfs_verify.specs.Tables.{IsUsedTable, clean_count};

@@ -1,7 +1,7 @@
 //! The data blocks of files.
-ghost use Rattle.std.specs.Prelude.{◌≡◌, ◌<◌, ◌≤◌, ◌+◌, ◌^◌, length, IfOk, OnOk, OnErr};
-ghost use Rattle.lfs_model.specs.Content.{Content};
-ghost use Rattle.lfs_verify.specs.Take.{Looks, ReadsContent, TakesAddress};
+ghost use Rattle.std.specs.Prelude.{◌<◌, ◌≤◌, ◌+◌, ◌^◌, length, IfOk};
+ghost use Rattle.lfs_verify.specs.Keeping.{OfContent, Steps};
+ghost use Rattle.lfs_verify.specs.Take.{TakesAddress};
 ghost use Rattle.lfs_verify.specs.Walk.{IsDataBytes};
 
 use crate::marks::claim;
@@ -27,14 +27,9 @@ pub fn take_data<D: SectorDevice>(
     requires step { step + 1 < 2 ^ 32 }
     requires index { index < 16624 }
     requires inside { length marks.old ≤ (D.state device.old).size }
-    ensures takes { IfOk result (λ r. (c : Content)
-        → ReadsContent (D.state device.old) (D.state device.new) c
-        → TakesAddress (IsDataBytes index size) c marks.old marks.new address step r) }
-    ensures len { length marks.new ≡ length marks.old }
-    ensures failed { OnErr result ((D.state device.old).failures < (D.state device.new).failures) }
-    ensures no_failure { OnOk result
-        ((D.state device.new).failures ≡ (D.state device.old).failures) }
-    ensures looks { Looks (D.state device.old) (D.state device.new) }
+    ensures takes { IfOk result (λ r. OfContent (D.state device.old) (D.state device.new) (λ c.
+        TakesAddress (IsDataBytes index size) c marks.old marks.new address step r)) }
+    ensures keeps { Steps (D.state device.old) (D.state device.new) marks.old marks.new result }
 {
     if address == 0 {
         return Ok(true);

@@ -1,12 +1,12 @@
 //! The inodes of all files, and the kind of the root.
-ghost use Rattle.std.specs.Prelude.{◌≡◌, ◌<◌, ◌≤◌, ◌↔◌, ◌⊎◌, ℕ, length, get_or, IsTrue, IfOk, OnOk, OnErr, vec_len, vec_capacity};
-ghost use Rattle.lfs_model.specs.Checkpoint.{CheckpointValue, IsVersion, layout_version};
-ghost use Rattle.lfs_model.specs.Content.{Content};
+ghost use Rattle.std.specs.Prelude.{◌≡◌, ◌<◌, ◌≤◌, ◌↔◌, ◌⊎◌, ℕ, length, get_or, IsTrue, IfOk, vec_len, vec_capacity};
+ghost use Rattle.lfs_model.specs.Checkpoint.{IsVersion, layout_version};
 ghost use Rattle.lfs_model.specs.Reach.{view};
 ghost use Rattle.lfs_model.specs.Stands.{Inodes};
 ghost use Rattle.lfs_verify.specs.Directories.{IsDirectoryInode};
+ghost use Rattle.lfs_verify.specs.Keeping.{OfContent, OfWalk, Steps};
 ghost use Rattle.lfs_verify.specs.Kept.{KeepsInodes, there_below};
-ghost use Rattle.lfs_verify.specs.Take.{Looks, ReadsContent, Advances, Lists};
+ghost use Rattle.lfs_verify.specs.Take.{Advances, Lists};
 ghost use Rattle.lfs_verify.specs.Walk.{Walked, IsBounded};
 
 use crate::inodes::{keep_inode, take_inode};
@@ -48,20 +48,15 @@ pub fn all_inodes<D: SectorDevice>(
     requires none { vec_len inodes.old ≡ 0 }
     requires room { there_below map.now 4096 ≤ vec_capacity inodes.old }
     requires inside { length marks.old ≤ (D.state device.old).size }
-    ensures goes { IfOk result (λ r. (c : Content) (k : CheckpointValue)
-        → layout_version k ≡ version
-        → ReadsContent (D.state device.old) (D.state device.new) c → Lists (view c k) map.now
-        → Advances (view c k) marks.old marks.new 48 4144 (Inodes (view c k)) r) }
+    ensures goes { IfOk result (λ r. OfWalk (D.state device.old) (D.state device.new) (λ c k.
+        layout_version k ≡ version → Lists (view c k) map.now
+        → Advances (view c k) marks.old marks.new 48 4144 (Inodes (view c k)) r)) }
     ensures at { IfOk result (λ r. IsTrue r → (i : ℕ) → i < 4096 → (get_or map.now i 0 ≡ 0)
         ⊎ (get_or map.now i 0 < length marks.old)) }
-    ensures kept { IfOk result (λ r. IsTrue r → (c : Content)
-        → ReadsContent (D.state device.old) (D.state device.new) c
-        → KeepsInodes c map.now inodes.new.items) }
-    ensures len { length marks.new ≡ length marks.old }
-    ensures failed { OnErr result ((D.state device.old).failures < (D.state device.new).failures) }
-    ensures no_failure { OnOk result
-        ((D.state device.new).failures ≡ (D.state device.old).failures) }
-    ensures looks { Looks (D.state device.old) (D.state device.new) }
+    ensures kept { IfOk result (λ r. IsTrue r
+        → OfContent (D.state device.old) (D.state device.new) (λ c.
+        KeepsInodes c map.now inodes.new.items)) }
+    ensures keeps { Steps (D.state device.old) (D.state device.new) marks.old marks.new result }
 {
     for file in 0..4096u32 {
         let address = map[file as usize];
@@ -92,24 +87,19 @@ pub fn stage_inodes<D: SectorDevice>(
     requires none { vec_len inodes.old ≡ 0 }
     requires room { there_below map.now 4096 ≤ vec_capacity inodes.old }
     requires inside { length marks.old ≤ (D.state device.old).size }
-    ensures goes { IfOk result (λ r. (c : Content) (k : CheckpointValue)
-        → layout_version k ≡ version
-        → ReadsContent (D.state device.old) (D.state device.new) c → Lists (view c k) map.now
-        → Advances (view c k) marks.old marks.new 48 4144 (Inodes (view c k)) r) }
-    ensures holds { IfOk result (λ r. IsTrue r → (c : Content) (k : CheckpointValue)
-        → layout_version k ≡ version
-        → ReadsContent (D.state device.old) (D.state device.new) c → Lists (view c k) map.now
-        → IsBounded (view c k) → Walked (view c k) marks.old 48 → Inodes (view c k)) }
+    ensures goes { IfOk result (λ r. OfWalk (D.state device.old) (D.state device.new) (λ c k.
+        layout_version k ≡ version → Lists (view c k) map.now
+        → Advances (view c k) marks.old marks.new 48 4144 (Inodes (view c k)) r)) }
+    ensures holds { IfOk result (λ r. IsTrue r
+        → OfWalk (D.state device.old) (D.state device.new) (λ c k. layout_version k ≡ version
+        → Lists (view c k) map.now → IsBounded (view c k) → Walked (view c k) marks.old 48
+        → Inodes (view c k))) }
     ensures at { IfOk result (λ r. IsTrue r → (i : ℕ) → i < 4096
         → get_or map.now i 0 < length marks.old) }
-    ensures kept { IfOk result (λ r. IsTrue r → (c : Content)
-        → ReadsContent (D.state device.old) (D.state device.new) c
-        → KeepsInodes c map.now inodes.new.items) }
-    ensures len { length marks.new ≡ length marks.old }
-    ensures failed { OnErr result ((D.state device.old).failures < (D.state device.new).failures) }
-    ensures no_failure { OnOk result
-        ((D.state device.new).failures ≡ (D.state device.old).failures) }
-    ensures looks { Looks (D.state device.old) (D.state device.new) }
+    ensures kept { IfOk result (λ r. IsTrue r
+        → OfContent (D.state device.old) (D.state device.new) (λ c.
+        KeepsInodes c map.now inodes.new.items)) }
+    ensures keeps { Steps (D.state device.old) (D.state device.new) marks.old marks.new result }
 {
     if !all_inodes(device, version, map, inodes, marks, sector)? {
         return Ok(false);

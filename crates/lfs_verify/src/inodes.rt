@@ -1,11 +1,12 @@
 //! The inodes of all files, which a walk looks at once and keeps.
-ghost use Rattle.std.specs.Prelude.{◌≡◌, ◌<◌, ◌≤◌, ◌+◌, ◌⊎◌, ◌++◌, ◌∷◌, [], nat_lt, length, get_or, IsTrue, IfOk, OnOk, OnErr, MatchOption, vec_len, vec_capacity};
+ghost use Rattle.std.specs.Prelude.{◌≡◌, ◌<◌, ◌≤◌, ◌+◌, ◌⊎◌, ◌++◌, ◌∷◌, [], nat_lt, length, get_or, IsTrue, IfOk, MatchOption, vec_len, vec_capacity};
 ghost use Rattle.lfs_model.specs.Checkpoint.{IsVersion};
-ghost use Rattle.lfs_model.specs.Content.{Content, block};
+ghost use Rattle.lfs_model.specs.Content.{block};
 ghost use Rattle.lfs_model.specs.Entry.{IsInode};
 ghost use Rattle.lfs_model.specs.Objects.{one_if};
+ghost use Rattle.lfs_verify.specs.Keeping.{OfContent, Steps};
 ghost use Rattle.lfs_verify.specs.Kept.{there_below};
-ghost use Rattle.lfs_verify.specs.Take.{Looks, ReadsContent, TakesAddress};
+ghost use Rattle.lfs_verify.specs.Take.{TakesAddress};
 
 use crate::marks::claim;
 use crate::reading::fetch;
@@ -80,17 +81,12 @@ pub fn take_inode<D: SectorDevice>(
     requires known { IsVersion version }
     requires file { file < 4096 }
     requires inside { length marks.old ≤ (D.state device.old).size }
-    ensures takes { IfOk result (λ r. (c : Content)
-        → ReadsContent (D.state device.old) (D.state device.new) c
-        → TakesAddress (IsInode version file) c marks.old marks.new address (48 + file) r) }
+    ensures takes { IfOk result (λ r. OfContent (D.state device.old) (D.state device.new) (λ c.
+        TakesAddress (IsInode version file) c marks.old marks.new address (48 + file) r)) }
     ensures at { IfOk result (λ r. IsTrue r → address ≡ 0 ⊎ (address < length marks.old)) }
-    ensures read { IfOk result (λ r. IsTrue r → 0 < address → (c : Content)
-        → ReadsContent (D.state device.old) (D.state device.new) c → block c address ≡ out.new) }
-    ensures len { length marks.new ≡ length marks.old }
-    ensures failed { OnErr result ((D.state device.old).failures < (D.state device.new).failures) }
-    ensures no_failure { OnOk result
-        ((D.state device.new).failures ≡ (D.state device.old).failures) }
-    ensures looks { Looks (D.state device.old) (D.state device.new) }
+    ensures read { IfOk result (λ r. IsTrue r → 0 < address
+        → OfContent (D.state device.old) (D.state device.new) (λ c. block c address ≡ out.new)) }
+    ensures keeps { Steps (D.state device.old) (D.state device.new) marks.old marks.new result }
 {
     if address == 0 {
         return Ok(true);

@@ -1,12 +1,12 @@
 //! The leaves under the double roots of all files.
-ghost use Rattle.std.specs.Prelude.{◌≡◌, ◌<◌, ◌≤◌, ◌+◌, ◌*◌, ℕ, length, get_or, IfOk, OnOk, OnErr};
-ghost use Rattle.lfs_model.specs.Checkpoint.{CheckpointValue};
-ghost use Rattle.lfs_model.specs.Content.{Content, block};
+ghost use Rattle.std.specs.Prelude.{◌≡◌, ◌<◌, ◌≤◌, ◌+◌, ◌*◌, length, IfOk};
+ghost use Rattle.lfs_model.specs.Content.{block};
 ghost use Rattle.lfs_model.specs.Entry.{Inode, Double};
 ghost use Rattle.lfs_model.specs.Reach.{view};
 ghost use Rattle.lfs_model.specs.Stands.{Leaves};
+ghost use Rattle.lfs_verify.specs.Keeping.{OfWalk, Steps};
 ghost use Rattle.lfs_verify.specs.Kept.{KeepsAt, KeepsInodes};
-ghost use Rattle.lfs_verify.specs.Take.{Looks, ReadsContent, Advances, Lists};
+ghost use Rattle.lfs_verify.specs.Take.{Advances, Lists};
 
 use crate::inodes::{inode_at, inodes_at};
 use crate::pointers::take_pointers;
@@ -29,16 +29,11 @@ pub fn leaf_blocks<D: SectorDevice>(
 ) -> Result<bool, DeviceFault>
     requires file { file < 4096 }
     requires inside { length marks.old ≤ (D.state device.old).size }
-    ensures goes { IfOk result (λ r. (c : Content) (k : CheckpointValue)
-        → ReadsContent (D.state device.old) (D.state device.new) c
-        → block c ((view c k).address (Double file)) ≡ root.now
-        → Advances (view c k) marks.old marks.new (12336 + 128 * file)
-        (12336 + 128 * (file + 1)) (Leaves (view c k)) r) }
-    ensures len { length marks.new ≡ length marks.old }
-    ensures failed { OnErr result ((D.state device.old).failures < (D.state device.new).failures) }
-    ensures no_failure { OnOk result
-        ((D.state device.new).failures ≡ (D.state device.old).failures) }
-    ensures looks { Looks (D.state device.old) (D.state device.new) }
+    ensures goes { IfOk result (λ r. OfWalk (D.state device.old) (D.state device.new) (λ c k.
+        block c ((view c k).address (Double file)) ≡ root.now
+        → Advances (view c k) marks.old marks.new (12336 + 128 * file) (12336 + 128 * (file + 1))
+        (Leaves (view c k)) r)) }
+    ensures keeps { Steps (D.state device.old) (D.state device.new) marks.old marks.new result }
 {
     for leaf in 0..128u32 {
         let address = word_at(root, leaf as usize);
@@ -67,16 +62,11 @@ pub fn leaves_of_file<D: SectorDevice>(
 ) -> Result<bool, DeviceFault>
     requires file { file < 4096 }
     requires inside { length marks.old ≤ (D.state device.old).size }
-    ensures goes { IfOk result (λ r. (c : Content) (k : CheckpointValue)
-        → ReadsContent (D.state device.old) (D.state device.new) c
-        → address ≡ (view c k).address (Inode file) → KeepsAt c address inodes.now place
-        → Advances (view c k) marks.old marks.new (12336 + 128 * file)
-        (12336 + 128 * (file + 1)) (Leaves (view c k)) r) }
-    ensures len { length marks.new ≡ length marks.old }
-    ensures failed { OnErr result ((D.state device.old).failures < (D.state device.new).failures) }
-    ensures no_failure { OnOk result
-        ((D.state device.new).failures ≡ (D.state device.old).failures) }
-    ensures looks { Looks (D.state device.old) (D.state device.new) }
+    ensures goes { IfOk result (λ r. OfWalk (D.state device.old) (D.state device.new) (λ c k.
+        address ≡ (view c k).address (Inode file) → KeepsAt c address inodes.now place
+        → Advances (view c k) marks.old marks.new (12336 + 128 * file) (12336 + 128 * (file + 1))
+        (Leaves (view c k)) r)) }
+    ensures keeps { Steps (D.state device.old) (D.state device.new) marks.old marks.new result }
 {
     if address == 0 {
         return Ok(true);
@@ -115,15 +105,10 @@ pub fn stage_leaves<D: SectorDevice>(
 ) -> Result<bool, DeviceFault>
     requires files { length map.now ≡ 4096 }
     requires inside { length marks.old ≤ (D.state device.old).size }
-    ensures goes { IfOk result (λ r. (c : Content) (k : CheckpointValue)
-        → ReadsContent (D.state device.old) (D.state device.new) c → Lists (view c k) map.now
-        → KeepsInodes c map.now inodes.now
-        → Advances (view c k) marks.old marks.new 12336 536624 (Leaves (view c k)) r) }
-    ensures len { length marks.new ≡ length marks.old }
-    ensures failed { OnErr result ((D.state device.old).failures < (D.state device.new).failures) }
-    ensures no_failure { OnOk result
-        ((D.state device.new).failures ≡ (D.state device.old).failures) }
-    ensures looks { Looks (D.state device.old) (D.state device.new) }
+    ensures goes { IfOk result (λ r. OfWalk (D.state device.old) (D.state device.new) (λ c k.
+        Lists (view c k) map.now → KeepsInodes c map.now inodes.now
+        → Advances (view c k) marks.old marks.new 12336 536624 (Leaves (view c k)) r)) }
+    ensures keeps { Steps (D.state device.old) (D.state device.new) marks.old marks.new result }
 {
     let mut place = 0;
     for file in 0..4096u32 {

@@ -1,10 +1,10 @@
 //! The blocks of the inode map, and the table of inode addresses that they hold.
-ghost use Rattle.std.specs.Prelude.{◌≡◌, ◌<◌, ◌≤◌, ◌+◌, ◌*◌, ℕ, length, get_or, IsTrue, IfOk, OnOk, OnErr};
-ghost use Rattle.lfs_model.specs.Content.{Content};
+ghost use Rattle.std.specs.Prelude.{◌≡◌, ◌<◌, ◌≤◌, ◌+◌, ◌*◌, ℕ, length, get_or, IsTrue, IfOk};
 ghost use Rattle.lfs_model.specs.Reach.{view};
 ghost use Rattle.lfs_model.specs.Stands.{Maps};
+ghost use Rattle.lfs_verify.specs.Keeping.{OfContent, Steps};
 ghost use Rattle.lfs_verify.specs.MapTables.{Copies, ListsUpTo, IsEmptyFrom};
-ghost use Rattle.lfs_verify.specs.Take.{Looks, ReadsContent, Advances, Lists};
+ghost use Rattle.lfs_verify.specs.Take.{Advances, Lists};
 ghost use Rattle.lfs_verify.specs.Walk.{Walked, IsBounded};
 
 use crate::marks::claim;
@@ -49,21 +49,16 @@ pub fn take_map<D: SectorDevice>(
     requires files { length map.old ≡ 4096 }
     requires empty { IsEmptyFrom map.old index }
     requires inside { length marks.old ≤ (D.state device.old).size }
-    ensures goes { IfOk result (λ r. (c : Content)
-        → ReadsContent (D.state device.old) (D.state device.new) c
-        → Advances (view c checkpoint.now) marks.old marks.new (16 + index) (16 + (index + 1))
-        (Maps (view c checkpoint.now)) r) }
-    ensures lists { IfOk result (λ r. IsTrue r → (c : Content)
-        → ReadsContent (D.state device.old) (D.state device.new) c
-        → ListsUpTo (view c checkpoint.now) map.old index
-        → ListsUpTo (view c checkpoint.now) map.new (index + 1)) }
+    ensures goes { IfOk result (λ r. OfContent (D.state device.old) (D.state device.new) (λ c.
+        Advances (view c checkpoint.now) marks.old marks.new (16 + index) (16 + (index + 1))
+        (Maps (view c checkpoint.now)) r)) }
+    ensures lists { IfOk result (λ r. IsTrue r
+        → OfContent (D.state device.old) (D.state device.new) (λ c.
+        ListsUpTo (view c checkpoint.now) map.old index
+        → ListsUpTo (view c checkpoint.now) map.new (index + 1))) }
     ensures empty { IfOk result (λ r. IsTrue r → IsEmptyFrom map.new (index + 1)) }
     ensures files { length map.new ≡ length map.old }
-    ensures len { length marks.new ≡ length marks.old }
-    ensures failed { OnErr result ((D.state device.old).failures < (D.state device.new).failures) }
-    ensures no_failure { OnOk result
-        ((D.state device.new).failures ≡ (D.state device.old).failures) }
-    ensures looks { Looks (D.state device.old) (D.state device.new) }
+    ensures keeps { Steps (D.state device.old) (D.state device.new) marks.old marks.new result }
 {
     let address = map_address(checkpoint, index);
     if address == 0 {
@@ -98,23 +93,18 @@ pub fn stage_maps<D: SectorDevice>(
     requires files { length map.old ≡ 4096 }
     requires empty { (n : ℕ) → get_or map.old n 0 ≡ 0 }
     requires inside { length marks.old ≤ (D.state device.old).size }
-    ensures goes { IfOk result (λ r. (c : Content)
-        → ReadsContent (D.state device.old) (D.state device.new) c
-        → Advances (view c checkpoint.now) marks.old marks.new 16 48
-        (Maps (view c checkpoint.now)) r) }
-    ensures holds { IfOk result (λ r. IsTrue r → (c : Content)
-        → ReadsContent (D.state device.old) (D.state device.new) c
-        → IsBounded (view c checkpoint.now) → Walked (view c checkpoint.now) marks.old 16
-        → Maps (view c checkpoint.now)) }
-    ensures lists { IfOk result (λ r. IsTrue r → (c : Content)
-        → ReadsContent (D.state device.old) (D.state device.new) c
-        → Lists (view c checkpoint.now) map.new) }
+    ensures goes { IfOk result (λ r. OfContent (D.state device.old) (D.state device.new) (λ c.
+        Advances (view c checkpoint.now) marks.old marks.new 16 48 (Maps (view c checkpoint.now))
+        r)) }
+    ensures holds { IfOk result (λ r. IsTrue r
+        → OfContent (D.state device.old) (D.state device.new) (λ c.
+        IsBounded (view c checkpoint.now) → Walked (view c checkpoint.now) marks.old 16
+        → Maps (view c checkpoint.now))) }
+    ensures lists { IfOk result (λ r. IsTrue r
+        → OfContent (D.state device.old) (D.state device.new) (λ c.
+        Lists (view c checkpoint.now) map.new)) }
     ensures files { length map.new ≡ length map.old }
-    ensures len { length marks.new ≡ length marks.old }
-    ensures failed { OnErr result ((D.state device.old).failures < (D.state device.new).failures) }
-    ensures no_failure { OnOk result
-        ((D.state device.new).failures ≡ (D.state device.old).failures) }
-    ensures looks { Looks (D.state device.old) (D.state device.new) }
+    ensures keeps { Steps (D.state device.old) (D.state device.new) marks.old marks.new result }
 {
     for index in 0..32u32 {
         if !take_map(device, checkpoint, index, map, marks, sector)? {

@@ -1,7 +1,7 @@
 //! Reading a block of a volume.
-ghost use Rattle.std.specs.Prelude.{◌≡◌, ◌<◌, IfOk, OnOk, OnErr, cond, []};
-ghost use Rattle.lfs_model.specs.Content.{Content, block};
-ghost use Rattle.lfs_verify.specs.Take.{Looks, ReadsContent};
+ghost use Rattle.std.specs.Prelude.{◌≡◌, ◌<◌, IfOk, cond, []};
+ghost use Rattle.lfs_model.specs.Content.{block};
+ghost use Rattle.lfs_verify.specs.Keeping.{LooksOrFails, OfContent};
 
 use lfs_cache::CachedDevice;
 use lfs_device::{DeviceFault, ReadFault, SectorDevice};
@@ -19,13 +19,9 @@ pub fn fetch<D: SectorDevice>(
 ) -> Result<bool, DeviceFault>
     requires some { 0 < address }
     requires inside { address < (D.state device.old).size }
-    ensures block { IfOk result (λ r. (c : Content)
-        → ReadsContent (D.state device.old) (D.state device.new) c
-        → block c address ≡ cond r out.new []) }
-    ensures failed { OnErr result ((D.state device.old).failures < (D.state device.new).failures) }
-    ensures no_failure { OnOk result
-        ((D.state device.new).failures ≡ (D.state device.old).failures) }
-    ensures looks { Looks (D.state device.old) (D.state device.new) }
+    ensures block { IfOk result (λ r. OfContent (D.state device.old) (D.state device.new) (λ c.
+        block c address ≡ cond r out.new [])) }
+    ensures keeps { LooksOrFails (D.state device.old) (D.state device.new) result }
 {
     match device.read(address, out) {
         Ok(()) => Ok(true),

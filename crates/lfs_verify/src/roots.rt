@@ -1,12 +1,11 @@
 //! The single leaves and double roots of all files.
-ghost use Rattle.std.specs.Prelude.{◌≡◌, ◌<◌, ◌≤◌, ◌+◌, ◌*◌, ℕ, length, get_or, IfOk, OnOk, OnErr};
-ghost use Rattle.lfs_model.specs.Checkpoint.{CheckpointValue};
-ghost use Rattle.lfs_model.specs.Content.{Content};
+ghost use Rattle.std.specs.Prelude.{◌≡◌, ◌<◌, ◌≤◌, ◌+◌, ◌*◌, length, IfOk};
 ghost use Rattle.lfs_model.specs.Entry.{Inode};
 ghost use Rattle.lfs_model.specs.Reach.{view};
 ghost use Rattle.lfs_model.specs.Stands.{Roots};
+ghost use Rattle.lfs_verify.specs.Keeping.{OfWalk, Steps};
 ghost use Rattle.lfs_verify.specs.Kept.{KeepsAt, KeepsInodes};
-ghost use Rattle.lfs_verify.specs.Take.{Looks, ReadsContent, Advances, Lists};
+ghost use Rattle.lfs_verify.specs.Take.{Advances, Lists};
 
 use crate::inodes::{inode_at, inodes_at};
 use crate::pointers::take_pointers;
@@ -31,16 +30,11 @@ pub fn root_blocks<D: SectorDevice>(
 ) -> Result<bool, DeviceFault>
     requires file { file < 4096 }
     requires inside { length marks.old ≤ (D.state device.old).size }
-    ensures goes { IfOk result (λ r. (c : Content) (k : CheckpointValue)
-        → ReadsContent (D.state device.old) (D.state device.new) c
-        → address ≡ (view c k).address (Inode file) → KeepsAt c address inodes.now place
-        → Advances (view c k) marks.old marks.new (4144 + 2 * file)
-        (4144 + 2 * (file + 1)) (Roots (view c k)) r) }
-    ensures len { length marks.new ≡ length marks.old }
-    ensures failed { OnErr result ((D.state device.old).failures < (D.state device.new).failures) }
-    ensures no_failure { OnOk result
-        ((D.state device.new).failures ≡ (D.state device.old).failures) }
-    ensures looks { Looks (D.state device.old) (D.state device.new) }
+    ensures goes { IfOk result (λ r. OfWalk (D.state device.old) (D.state device.new) (λ c k.
+        address ≡ (view c k).address (Inode file) → KeepsAt c address inodes.now place
+        → Advances (view c k) marks.old marks.new (4144 + 2 * file) (4144 + 2 * (file + 1))
+        (Roots (view c k)) r)) }
+    ensures keeps { Steps (D.state device.old) (D.state device.new) marks.old marks.new result }
 {
     if address == 0 {
         return Ok(true);
@@ -73,15 +67,10 @@ pub fn stage_roots<D: SectorDevice>(
 ) -> Result<bool, DeviceFault>
     requires files { length map.now ≡ 4096 }
     requires inside { length marks.old ≤ (D.state device.old).size }
-    ensures goes { IfOk result (λ r. (c : Content) (k : CheckpointValue)
-        → ReadsContent (D.state device.old) (D.state device.new) c → Lists (view c k) map.now
-        → KeepsInodes c map.now inodes.now
-        → Advances (view c k) marks.old marks.new 4144 12336 (Roots (view c k)) r) }
-    ensures len { length marks.new ≡ length marks.old }
-    ensures failed { OnErr result ((D.state device.old).failures < (D.state device.new).failures) }
-    ensures no_failure { OnOk result
-        ((D.state device.new).failures ≡ (D.state device.old).failures) }
-    ensures looks { Looks (D.state device.old) (D.state device.new) }
+    ensures goes { IfOk result (λ r. OfWalk (D.state device.old) (D.state device.new) (λ c k.
+        Lists (view c k) map.now → KeepsInodes c map.now inodes.now
+        → Advances (view c k) marks.old marks.new 4144 12336 (Roots (view c k)) r)) }
+    ensures keeps { Steps (D.state device.old) (D.state device.new) marks.old marks.new result }
 {
     let mut place = 0;
     for file in 0..4096u32 {

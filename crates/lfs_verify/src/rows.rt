@@ -1,13 +1,11 @@
 //! The used part of a segment as a row of whole chunks, and the marks that its summaries give.
-ghost use Rattle.std.specs.Prelude.{◌≡◌, ◌<◌, ◌≤◌, ◌+◌, ◌*◌, ◌↔◌, ℕ, IfOk, OnOk, OnErr, IsTrue, length, get_or};
-ghost use Rattle.lfs_model.specs.Checkpoint.{CheckpointValue};
-ghost use Rattle.lfs_model.specs.Content.{Content};
+ghost use Rattle.std.specs.Prelude.{◌≡◌, ◌<◌, ◌≤◌, ◌+◌, ◌*◌, ◌↔◌, ℕ, IfOk, IsTrue, length, get_or};
 ghost use Rattle.lfs_model.specs.Reach.{row_by, view};
 ghost use Rattle.lfs_model.specs.Stands.{IsRows};
+ghost use Rattle.lfs_verify.specs.Keeping.{OfContent, OfWalk, Steps};
 ghost use Rattle.lfs_verify.specs.Labels.{HasAllLabels, HasLabels};
 ghost use Rattle.lfs_verify.specs.Rows.{HasRow};
 ghost use Rattle.lfs_verify.specs.Tables.{IsUsedTable};
-ghost use Rattle.lfs_verify.specs.Take.{Looks, ReadsContent};
 
 use crate::labels::label_chunk;
 use crate::reading::fetch;
@@ -32,20 +30,15 @@ fn label_row<D: SectorDevice>(
     requires inside { 66 + 64 * segment ≤ (D.state device.old).size }
     requires labelled { 66 + 64 * segment ≤ length labels.old }
     requires empty { (i : ℕ) → 2 + 64 * segment ≤ i → get_or labels.old i 0 ≡ 0 }
-    ensures row { IfOk result (λ r. (c : Content)
-        → ReadsContent (D.state device.old) (D.state device.new) c → IsTrue r
-        ↔ HasRow (row_by c used segment)) }
-    ensures labels { IfOk result (λ r. IsTrue r → (c : Content)
-        → ReadsContent (D.state device.old) (D.state device.new) c
-        → HasLabels (row_by c used segment) labels.new segment) }
+    ensures row { IfOk result (λ r. OfContent (D.state device.old) (D.state device.new) (λ c.
+        IsTrue r ↔ HasRow (row_by c used segment))) }
+    ensures labels { IfOk result (λ r. IsTrue r
+        → OfContent (D.state device.old) (D.state device.new) (λ c.
+        HasLabels (row_by c used segment) labels.new segment)) }
     ensures before { (i : ℕ) → i < 2 + 64 * segment
         → get_or labels.new i 0 ≡ get_or labels.old i 0 }
     ensures behind { (i : ℕ) → 66 + 64 * segment ≤ i → get_or labels.new i 0 ≡ 0 }
-    ensures len { length labels.new ≡ length labels.old }
-    ensures failed { OnErr result ((D.state device.old).failures < (D.state device.new).failures) }
-    ensures no_failure { OnOk result
-        ((D.state device.new).failures ≡ (D.state device.old).failures) }
-    ensures looks { Looks (D.state device.old) (D.state device.new) }
+    ensures keeps { Steps (D.state device.old) (D.state device.new) labels.old labels.new result }
 {
     let first = 2 + 64 * segment;
     let mut at = 0u32;
@@ -81,17 +74,12 @@ pub fn stage_rows<D: SectorDevice>(
     requires inside { 2 + 64 * length used.now ≤ (D.state device.old).size }
     requires labelled { length labels.old ≡ 2 + 64 * length used.now }
     requires empty { (i : ℕ) → get_or labels.old i 0 ≡ 0 }
-    ensures rows { IfOk result (λ r. (c : Content) (k : CheckpointValue)
-        → ReadsContent (D.state device.old) (D.state device.new) c → IsUsedTable (view c k) used.now
-        → IsTrue r ↔ IsRows (view c k)) }
-    ensures labels { IfOk result (λ r. IsTrue r → (c : Content) (k : CheckpointValue)
-        → ReadsContent (D.state device.old) (D.state device.new) c → IsUsedTable (view c k) used.now
-        → HasAllLabels (view c k) labels.new) }
-    ensures len { length labels.new ≡ length labels.old }
-    ensures failed { OnErr result ((D.state device.old).failures < (D.state device.new).failures) }
-    ensures no_failure { OnOk result
-        ((D.state device.new).failures ≡ (D.state device.old).failures) }
-    ensures looks { Looks (D.state device.old) (D.state device.new) }
+    ensures rows { IfOk result (λ r. OfWalk (D.state device.old) (D.state device.new) (λ c k.
+        IsUsedTable (view c k) used.now → IsTrue r ↔ IsRows (view c k))) }
+    ensures labels { IfOk result (λ r. IsTrue r
+        → OfWalk (D.state device.old) (D.state device.new) (λ c k. IsUsedTable (view c k) used.now
+        → HasAllLabels (view c k) labels.new)) }
+    ensures keeps { Steps (D.state device.old) (D.state device.new) labels.old labels.new result }
 {
     for segment in 0..used.len() {
         let count = used[segment] as u32;

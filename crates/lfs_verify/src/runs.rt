@@ -1,11 +1,11 @@
 //! Rows of data blocks whose addresses stand in one block.
-ghost use Rattle.std.specs.Prelude.{◌≡◌, ◌<◌, ◌≤◌, ◌+◌, ◌*◌, ℕ, length, IfOk, OnOk, OnErr};
-ghost use Rattle.lfs_model.specs.Checkpoint.{CheckpointValue};
-ghost use Rattle.lfs_model.specs.Content.{Content, block};
-ghost use Rattle.lfs_model.specs.Entry.{Data, Inode, Leaf, header, word};
+ghost use Rattle.std.specs.Prelude.{◌≡◌, ◌<◌, ◌≤◌, ◌+◌, ◌*◌, ℕ, length, IfOk};
+ghost use Rattle.lfs_model.specs.Entry.{Data, Leaf, word};
 ghost use Rattle.lfs_model.specs.Reach.{view};
 ghost use Rattle.lfs_model.specs.Stands.{Blocks};
-ghost use Rattle.lfs_verify.specs.Take.{Looks, ReadsContent, Advances};
+ghost use Rattle.lfs_verify.specs.Keeping.{OfWalk, Steps};
+ghost use Rattle.lfs_verify.specs.Kept.{IsSizeOf};
+ghost use Rattle.lfs_verify.specs.Take.{Advances};
 
 use crate::data::take_data;
 use crate::reading::fetch;
@@ -33,18 +33,13 @@ pub fn data_run<D: SectorDevice>(
     requires words { first + count ≤ 128 }
     requires index { index + count ≤ 16624 }
     requires inside { length marks.old ≤ (D.state device.old).size }
-    ensures goes { IfOk result (λ r. (c : Content) (k : CheckpointValue)
-        → ReadsContent (D.state device.old) (D.state device.new) c
-        → ((j : ℕ) → j < count → word words.now
-        (first + j) ≡ (view c k).address (Data file (index + j)))
-        → size ≡ (header (block c ((view c k).address (Inode file)))).size
+    ensures goes { IfOk result (λ r. OfWalk (D.state device.old) (D.state device.new) (λ c k.
+        ((j : ℕ) → j < count
+        → word words.now (first + j) ≡ (view c k).address (Data file (index + j)))
+        → IsSizeOf c k file size
         → Advances (view c k) marks.old marks.new (536624 + 16624 * file + index)
-        (536624 + 16624 * file + index + count) (Blocks (view c k)) r) }
-    ensures len { length marks.new ≡ length marks.old }
-    ensures failed { OnErr result ((D.state device.old).failures < (D.state device.new).failures) }
-    ensures no_failure { OnOk result
-        ((D.state device.new).failures ≡ (D.state device.old).failures) }
-    ensures looks { Looks (D.state device.old) (D.state device.new) }
+        (536624 + 16624 * file + index + count) (Blocks (view c k)) r)) }
+    ensures keeps { Steps (D.state device.old) (D.state device.new) marks.old marks.new result }
 {
     for place in 0..count {
         let address = word_at(words, (first + place) as usize);
@@ -75,17 +70,11 @@ pub fn data_of_leaf<D: SectorDevice>(
     requires file { file < 4096 }
     requires leaf { leaf < 129 }
     requires inside { length marks.old ≤ (D.state device.old).size }
-    ensures goes { IfOk result (λ r. (c : Content) (k : CheckpointValue)
-        → ReadsContent (D.state device.old) (D.state device.new) c
-        → address ≡ (view c k).address (Leaf file leaf)
-        → size ≡ (header (block c ((view c k).address (Inode file)))).size
+    ensures goes { IfOk result (λ r. OfWalk (D.state device.old) (D.state device.new) (λ c k.
+        address ≡ (view c k).address (Leaf file leaf) → IsSizeOf c k file size
         → Advances (view c k) marks.old marks.new (536624 + 16624 * file + (112 + 128 * leaf))
-        (536624 + 16624 * file + (112 + 128 * (leaf + 1))) (Blocks (view c k)) r) }
-    ensures len { length marks.new ≡ length marks.old }
-    ensures failed { OnErr result ((D.state device.old).failures < (D.state device.new).failures) }
-    ensures no_failure { OnOk result
-        ((D.state device.new).failures ≡ (D.state device.old).failures) }
-    ensures looks { Looks (D.state device.old) (D.state device.new) }
+        (536624 + 16624 * file + (112 + 128 * (leaf + 1))) (Blocks (view c k)) r)) }
+    ensures keeps { Steps (D.state device.old) (D.state device.new) marks.old marks.new result }
 {
     if address == 0 {
         return Ok(true);

@@ -6,6 +6,7 @@ ghost use Rattle.lfs_cache.specs.contracts.cache.CachedDevice.{the_row};
 ghost use Rattle.lfs_model.specs.Checkpoint.{FitsCheckpoint, layout_version};
 ghost use Rattle.lfs_model.specs.Usage.{IsUse, no_use};
 ghost use Rattle.lfs_verify.specs.Faults.{IsTableFault};
+ghost use Rattle.lfs_verify.specs.Keeping.{OnlyLooks};
 ghost use Rattle.lfs_verify.specs.Lending.{LendsTable};
 ghost use Rattle.lfs_verify.specs.Loading.{IsTakenIn, loaded, IsUsageUpTo, SaysUsage, IsMapUpTo, SaysMap, IsLoaded, SaysTables};
 ghost use Rattle.lfs_verify.specs.Take.{Looks};
@@ -122,9 +123,7 @@ fn load_usage_block<D: SectorDevice>(
         → SaysUsage (D.state device.old).content checkpoint.now (index + 1) usage.new) }
     ensures cause { IfErr result (IsTableFault (D.state device.old) (D.state device.new)
         checkpoint.now) }
-    ensures no_failure { OnOk result
-        ((D.state device.new).failures ≡ (D.state device.old).failures) }
-    ensures looks { Looks (D.state device.old) (D.state device.new) }
+    ensures keeps { OnlyLooks (D.state device.old) (D.state device.new) result }
 {
     let segments = segments_of(checkpoint);
     let address = usage_address(checkpoint, index);
@@ -154,9 +153,7 @@ fn load_usage<D: SectorDevice>(
         ((checkpoint.now.segments + 63) / 64) usage.new) }
     ensures cause { IfErr result (IsTableFault (D.state device.old) (D.state device.new)
         checkpoint.now) }
-    ensures no_failure { OnOk result
-        ((D.state device.new).failures ≡ (D.state device.old).failures) }
-    ensures looks { Looks (D.state device.old) (D.state device.new) }
+    ensures keeps { OnlyLooks (D.state device.old) (D.state device.new) result }
 {
     for index in 0..(segments_of(checkpoint) + 63) / 64 {
         load_usage_block(device, checkpoint, index, usage)?;
@@ -180,9 +177,7 @@ fn load_map_block<D: SectorDevice>(
         → SaysMap (D.state device.old).content checkpoint.now (index + 1) map.new) }
     ensures cause { IfErr result (IsTableFault (D.state device.old) (D.state device.new)
         checkpoint.now) }
-    ensures no_failure { OnOk result
-        ((D.state device.new).failures ≡ (D.state device.old).failures) }
-    ensures looks { Looks (D.state device.old) (D.state device.new) }
+    ensures keeps { OnlyLooks (D.state device.old) (D.state device.new) result }
 {
     let segments = segments_of(checkpoint);
     let address = map_address(checkpoint, index);
@@ -208,9 +203,7 @@ fn load_map<D: SectorDevice>(
         → SaysMap (D.state device.old).content checkpoint.now 32 map.new) }
     ensures cause { IfErr result (IsTableFault (D.state device.old) (D.state device.new)
         checkpoint.now) }
-    ensures no_failure { OnOk result
-        ((D.state device.new).failures ≡ (D.state device.old).failures) }
-    ensures looks { Looks (D.state device.old) (D.state device.new) }
+    ensures keeps { OnlyLooks (D.state device.old) (D.state device.new) result }
 {
     for index in 0..32u32 {
         load_map_block(device, checkpoint, index, map)?;

@@ -1,5 +1,5 @@
 //! How many blocks all files have, by the marks of a walk.
-ghost use Rattle.std.specs.Prelude.{◌≡◌, ◌<◌, ◌≤◌, length};
+ghost use Rattle.std.specs.Prelude.{◌≡◌, ◌<◌, length};
 ghost use Rattle.lfs_verify.specs.Totals.{above_count, CountsByMarks};
 
 /// The mark behind those of usage blocks and blocks of the inode map, which are of no file.

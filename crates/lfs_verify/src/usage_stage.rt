@@ -1,9 +1,9 @@
 //! The usage blocks, and the tables of the sectors in use that they hold.
-ghost use Rattle.std.specs.Prelude.{◌≡◌, ◌<◌, ◌≤◌, ◌+◌, ◌*◌, ◌/◌, ◌↔◌, ℕ, length, get_or, IsTrue, IfOk, OnOk, OnErr};
-ghost use Rattle.lfs_model.specs.Content.{Content};
+ghost use Rattle.std.specs.Prelude.{◌≡◌, ◌<◌, ◌≤◌, ◌+◌, ◌*◌, ◌/◌, ◌↔◌, length, get_or, IsTrue, IfOk};
 ghost use Rattle.lfs_model.specs.Reach.{view};
 ghost use Rattle.lfs_model.specs.Stands.{Usages};
-ghost use Rattle.lfs_verify.specs.Take.{Looks, ReadsContent, Advances};
+ghost use Rattle.lfs_verify.specs.Keeping.{KeepsTables, OfContent, Steps};
+ghost use Rattle.lfs_verify.specs.Take.{Advances};
 ghost use Rattle.lfs_verify.specs.UsageTables.{CopiesUses, SaysUpTo, SaysAll};
 ghost use Rattle.lfs_verify.specs.Walk.{Walked, IsBounded};
 
@@ -60,23 +60,17 @@ pub fn take_usage<D: SectorDevice>(
     requires used { length used.old ≡ checkpoint.now.segments }
     requires live { length live.old ≡ checkpoint.now.segments }
     requires inside { length marks.old ≤ (D.state device.old).size }
-    ensures goes { IfOk result (λ r. (c : Content)
-        → ReadsContent (D.state device.old) (D.state device.new) c
-        → Advances (view c checkpoint.now) marks.old marks.new index (index + 1)
-        (Usages (view c checkpoint.now)) r) }
+    ensures goes { IfOk result (λ r. OfContent (D.state device.old) (D.state device.new) (λ c.
+        Advances (view c checkpoint.now) marks.old marks.new index (index + 1)
+        (Usages (view c checkpoint.now)) r)) }
     ensures is_there { IfOk result (λ r. IsTrue r → (0 < get_or checkpoint.now.usage index 0)
         ↔ (index < (checkpoint.now.segments + 63) / 64)) }
-    ensures says { IfOk result (λ r. IsTrue r → (c : Content)
-        → ReadsContent (D.state device.old) (D.state device.new) c
-        → SaysUpTo (view c checkpoint.now) used.old live.old index
-        → SaysUpTo (view c checkpoint.now) used.new live.new (index + 1)) }
-    ensures used { length used.new ≡ length used.old }
-    ensures live { length live.new ≡ length live.old }
-    ensures len { length marks.new ≡ length marks.old }
-    ensures failed { OnErr result ((D.state device.old).failures < (D.state device.new).failures) }
-    ensures no_failure { OnOk result
-        ((D.state device.new).failures ≡ (D.state device.old).failures) }
-    ensures looks { Looks (D.state device.old) (D.state device.new) }
+    ensures says { IfOk result (λ r. IsTrue r
+        → OfContent (D.state device.old) (D.state device.new) (λ c.
+        SaysUpTo (view c checkpoint.now) used.old live.old index
+        → SaysUpTo (view c checkpoint.now) used.new live.new (index + 1))) }
+    ensures lengths { KeepsTables used.old used.new live.old live.new }
+    ensures keeps { Steps (D.state device.old) (D.state device.new) marks.old marks.new result }
 {
     let segments = segments_of(checkpoint);
     let address = usage_address(checkpoint, index);
@@ -120,24 +114,18 @@ pub fn stage_usages<D: SectorDevice>(
     requires used { length used.old ≡ checkpoint.now.segments }
     requires live { length live.old ≡ checkpoint.now.segments }
     requires inside { length marks.old ≤ (D.state device.old).size }
-    ensures goes { IfOk result (λ r. (c : Content)
-        → ReadsContent (D.state device.old) (D.state device.new) c
-        → Advances (view c checkpoint.now) marks.old marks.new 0 16
-        (Usages (view c checkpoint.now)) r) }
-    ensures holds { IfOk result (λ r. IsTrue r → (c : Content)
-        → ReadsContent (D.state device.old) (D.state device.new) c
-        → IsBounded (view c checkpoint.now) → Walked (view c checkpoint.now) marks.old 0
-        → Usages (view c checkpoint.now)) }
-    ensures says { IfOk result (λ r. IsTrue r → (c : Content)
-        → ReadsContent (D.state device.old) (D.state device.new) c
-        → SaysAll (view c checkpoint.now) used.new live.new) }
-    ensures used { length used.new ≡ length used.old }
-    ensures live { length live.new ≡ length live.old }
-    ensures len { length marks.new ≡ length marks.old }
-    ensures failed { OnErr result ((D.state device.old).failures < (D.state device.new).failures) }
-    ensures no_failure { OnOk result
-        ((D.state device.new).failures ≡ (D.state device.old).failures) }
-    ensures looks { Looks (D.state device.old) (D.state device.new) }
+    ensures goes { IfOk result (λ r. OfContent (D.state device.old) (D.state device.new) (λ c.
+        Advances (view c checkpoint.now) marks.old marks.new 0 16 (Usages (view c checkpoint.now))
+        r)) }
+    ensures holds { IfOk result (λ r. IsTrue r
+        → OfContent (D.state device.old) (D.state device.new) (λ c.
+        IsBounded (view c checkpoint.now) → Walked (view c checkpoint.now) marks.old 0
+        → Usages (view c checkpoint.now))) }
+    ensures says { IfOk result (λ r. IsTrue r
+        → OfContent (D.state device.old) (D.state device.new) (λ c.
+        SaysAll (view c checkpoint.now) used.new live.new)) }
+    ensures lengths { KeepsTables used.old used.new live.old live.new }
+    ensures keeps { Steps (D.state device.old) (D.state device.new) marks.old marks.new result }
 {
     for index in 0..16u32 {
         if !take_usage(device, checkpoint, index, used, live, marks, sector)? {

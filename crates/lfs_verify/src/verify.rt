@@ -4,6 +4,7 @@ ghost use Rattle.lfs_model.specs.Checkpoint.{FitsCheckpoint};
 ghost use Rattle.lfs_model.specs.Content.{newest};
 ghost use Rattle.lfs_model.specs.Device.{Only};
 ghost use Rattle.lfs_verify.specs.Faults.{IsBelowAll, IsOpenFault};
+ghost use Rattle.lfs_verify.specs.Keeping.{OnlyLooks};
 ghost use Rattle.lfs_verify.specs.Loading.{HasTables, IsLoaded};
 ghost use Rattle.lfs_verify.specs.Take.{Looks};
 ghost use Rattle.lfs_verify.specs.Verified.{HoldsCounted, IsFound, IsRefusedLog, IsRefusedWalk, LacksLogMap, StandsWhereEnough};
@@ -45,9 +46,7 @@ fn find_checkpoint<D: SectorDevice>(device: &mut CachedDevice<D>) -> Result<Chec
     ensures reason { IfErr result (IsRefusedWalk (D.state device.old) (D.state device.new)) }
     ensures below_all { IsBelowAll (D.state device.old)
         → (result ≡ Err MountFault.TooSmall) × (device.new ≡ device.old) }
-    ensures no_failure { OnOk result
-        ((D.state device.new).failures ≡ (D.state device.old).failures) }
-    ensures looks { Looks (D.state device.old) (D.state device.new) }
+    ensures keeps { OnlyLooks (D.state device.old) (D.state device.new) result }
 {
     if device.sectors() < LEAST_SECTORS {
         return Err(MountFault::TooSmall);
@@ -77,9 +76,7 @@ fn check<D: SectorDevice>(
     ensures reason { IfErr result (λ e. ((D.state device.new).keeps_model
         → newest (D.state device.old).content ≡ Some checkpoint.now)
         → IsRefusedWalk (D.state device.old) (D.state device.new) e) }
-    ensures no_failure { OnOk result
-        ((D.state device.new).failures ≡ (D.state device.old).failures) }
-    ensures looks { Looks (D.state device.old) (D.state device.new) }
+    ensures keeps { OnlyLooks (D.state device.old) (D.state device.new) result }
 {
     match walk(alloc, device, checkpoint) {
         Ok(found) => Ok(found),

@@ -1,15 +1,15 @@
 //! The stages in order, with the number of the first that fails.
 ghost use Rattle.std.specs.Prelude.{◌≡◌, ◌<◌, ◌≤◌, ◌↔◌, ◌+◌, ◌*◌, ℕ, length, get_or, IsTrue, OnOk, IfOk, IfErr, IsErrOf};
-ghost use Rattle.lfs_model.specs.Checkpoint.{CheckpointValue, FitsCheckpoint};
-ghost use Rattle.lfs_model.specs.Content.{Content};
+ghost use Rattle.lfs_model.specs.Checkpoint.{FitsCheckpoint};
 ghost use Rattle.lfs_model.specs.Damage.{IsDamaged};
 ghost use Rattle.lfs_model.specs.Reach.{View, view};
 ghost use Rattle.lfs_model.specs.Stands.{EnoughClean, Stages};
-ghost use Rattle.lfs_verify.specs.Codes.{HoldsBelow, FaultIs, Passed};
+ghost use Rattle.lfs_verify.specs.Codes.{FaultIs, HoldsBelow, IsDamage, Passed};
+ghost use Rattle.lfs_verify.specs.Keeping.{KeepsTables, OfContent, OfWalk, Walks};
 ghost use Rattle.lfs_verify.specs.Kept.{KeepsInodes};
 ghost use Rattle.lfs_verify.specs.Labels.{HasAllLabels};
 ghost use Rattle.lfs_verify.specs.Tables.{IsUsedTable, IsLiveTable};
-ghost use Rattle.lfs_verify.specs.Take.{Looks, ReadsContent, Lists};
+ghost use Rattle.lfs_verify.specs.Take.{Lists};
 ghost use Rattle.lfs_verify.specs.Totals.{CountsLog};
 ghost use Rattle.lfs_verify.specs.Walk.{Walked, IsBounded};
 
@@ -52,32 +52,21 @@ fn walk_usages<D: SectorDevice>(
     requires unlabelled { (i : ℕ) → get_or labels.old i 0 ≡ 0 }
     requires marks { length marks.old ≡ 2 + 64 * checkpoint.now.segments }
     requires inside { length marks.old ≤ (D.state device.old).size }
-    ensures holds { OnOk result ((c : Content)
-        → ReadsContent (D.state device.old) (D.state device.new) c
-        → Passed (view c checkpoint.now) marks.old 0 1
-        → Passed (view c checkpoint.now) marks.new 16 3) }
-    ensures damaged { IfErr result (λ e. (code : ℕ) → FaultIs e code → (c : Content)
-        → ReadsContent (D.state device.old) (D.state device.new) c
-        → Passed (view c checkpoint.now) marks.old 0 1 → IsDamaged (view c checkpoint.now) code) }
-    ensures low { IfErr result (λ e. (code : ℕ) → FaultIs e code → code < 10) }
-    ensures tables { OnOk result ((c : Content)
-        → ReadsContent (D.state device.old) (D.state device.new) c
-        → Passed (view c checkpoint.now) marks.old 0 1
-        → IsUsedTable (view c checkpoint.now) used.new
-        × IsLiveTable (view c checkpoint.now) live.new) }
-    ensures labels { OnOk result ((c : Content)
-        → ReadsContent (D.state device.old) (D.state device.new) c
-        → Passed (view c checkpoint.now) marks.old 0 1
-        → HasAllLabels (view c checkpoint.now) labels.new) }
+    ensures holds { OnOk result (OfContent (D.state device.old) (D.state device.new) (λ c.
+        Passed (view c checkpoint.now) marks.old 0 1
+        → Passed (view c checkpoint.now) marks.new 16 3)) }
+    ensures damaged { IfErr result (λ e. OfContent (D.state device.old) (D.state device.new) (λ c.
+        Passed (view c checkpoint.now) marks.old 0 1 → IsDamage (view c checkpoint.now) e)) }
+    ensures tables { OnOk result (OfContent (D.state device.old) (D.state device.new) (λ c.
+        Passed (view c checkpoint.now) marks.old 0 1 → IsUsedTable (view c checkpoint.now) used.new
+        × IsLiveTable (view c checkpoint.now) live.new)) }
+    ensures labels { OnOk result (OfContent (D.state device.old) (D.state device.new) (λ c.
+        Passed (view c checkpoint.now) marks.old 0 1
+        → HasAllLabels (view c checkpoint.now) labels.new)) }
     ensures labelled { length labels.new ≡ length labels.old }
-    ensures used { length used.new ≡ length used.old }
-    ensures live { length live.new ≡ length live.old }
+    ensures lengths { KeepsTables used.old used.new live.old live.new }
     ensures len { length marks.new ≡ length marks.old }
-    ensures failed { IsErrOf result WalkFault.Device
-        → (D.state device.old).failures < (D.state device.new).failures }
-    ensures no_failure { OnOk result
-        ((D.state device.new).failures ≡ (D.state device.old).failures) }
-    ensures looks { Looks (D.state device.old) (D.state device.new) }
+    ensures keeps { Walks (D.state device.old) (D.state device.new) result }
 {
     let mut sector = [0; 512];
     match stage_usages(device, checkpoint, used, live, marks, &mut sector) {
@@ -110,27 +99,18 @@ fn walk_inodes<D: SectorDevice>(
     requires files { length map.old ≡ 4096 }
     requires empty { (n : ℕ) → get_or map.old n 0 ≡ 0 }
     requires inside { length marks.old ≤ (D.state device.old).size }
-    ensures holds { OnOk result ((c : Content)
-        → ReadsContent (D.state device.old) (D.state device.new) c
-        → Passed (view c checkpoint.now) marks.old 16 3
-        → Passed (view c checkpoint.now) marks.new 4144 5) }
-    ensures damaged { IfErr result (λ e. (code : ℕ) → FaultIs e code → (c : Content)
-        → ReadsContent (D.state device.old) (D.state device.new) c
-        → Passed (view c checkpoint.now) marks.old 16 3 → IsDamaged (view c checkpoint.now) code) }
-    ensures low { IfErr result (λ e. (code : ℕ) → FaultIs e code → code < 10) }
-    ensures lists { OnOk result ((c : Content)
-        → ReadsContent (D.state device.old) (D.state device.new) c
-        → Lists (view c checkpoint.now) map.new) }
-    ensures kept { IfOk result (λ inodes. (c : Content)
-        → ReadsContent (D.state device.old) (D.state device.new) c
-        → KeepsInodes c map.new inodes.items) }
+    ensures holds { OnOk result (OfContent (D.state device.old) (D.state device.new) (λ c.
+        Passed (view c checkpoint.now) marks.old 16 3
+        → Passed (view c checkpoint.now) marks.new 4144 5)) }
+    ensures damaged { IfErr result (λ e. OfContent (D.state device.old) (D.state device.new) (λ c.
+        Passed (view c checkpoint.now) marks.old 16 3 → IsDamage (view c checkpoint.now) e)) }
+    ensures lists { OnOk result (OfContent (D.state device.old) (D.state device.new) (λ c.
+        Lists (view c checkpoint.now) map.new)) }
+    ensures kept { IfOk result (λ inodes. OfContent (D.state device.old) (D.state device.new) (λ c.
+        KeepsInodes c map.new inodes.items)) }
     ensures files { length map.new ≡ length map.old }
     ensures len { length marks.new ≡ length marks.old }
-    ensures failed { IsErrOf result WalkFault.Device
-        → (D.state device.old).failures < (D.state device.new).failures }
-    ensures no_failure { OnOk result
-        ((D.state device.new).failures ≡ (D.state device.old).failures) }
-    ensures looks { Looks (D.state device.old) (D.state device.new) }
+    ensures keeps { Walks (D.state device.old) (D.state device.new) result }
 {
     let mut sector = [0; 512];
     match stage_maps(device, checkpoint, map, marks, &mut sector) {
@@ -164,25 +144,15 @@ pub fn walk_pointers<D: SectorDevice>(
 ) -> Result<(), WalkFault>
     requires files { length map.now ≡ 4096 }
     requires inside { length marks.old ≤ (D.state device.old).size }
-    ensures holds { OnOk result ((c : Content) (k : CheckpointValue)
-        → ReadsContent (D.state device.old) (D.state device.new) c → IsBounded (view c k)
-        → Lists (view c k) map.now → KeepsInodes c map.now inodes.now
-        → HoldsBelow (view c k) 5 → Walked (view c k) marks.old 4144 → HoldsBelow (view c k) 7
-        × Walked (view c k) marks.new 536624) }
-    ensures damaged { IfErr result (λ e. (code : ℕ) → FaultIs e code
-        → (c : Content) (k : CheckpointValue)
-        → ReadsContent (D.state device.old) (D.state device.new) c
-        → IsBounded (view c k)
-        → Lists (view c k) map.now → KeepsInodes c map.now inodes.now
+    ensures holds { OnOk result (OfWalk (D.state device.old) (D.state device.new) (λ c k.
+        IsBounded (view c k) → Lists (view c k) map.now → KeepsInodes c map.now inodes.now
         → HoldsBelow (view c k) 5 → Walked (view c k) marks.old 4144
-        → IsDamaged (view c k) code) }
-    ensures low { IfErr result (λ e. (code : ℕ) → FaultIs e code → code < 10) }
+        → HoldsBelow (view c k) 7 × Walked (view c k) marks.new 536624)) }
+    ensures damaged { IfErr result (λ e. OfWalk (D.state device.old) (D.state device.new) (λ c k.
+        IsBounded (view c k) → Lists (view c k) map.now → KeepsInodes c map.now inodes.now
+        → HoldsBelow (view c k) 5 → Walked (view c k) marks.old 4144 → IsDamage (view c k) e)) }
     ensures len { length marks.new ≡ length marks.old }
-    ensures failed { IsErrOf result WalkFault.Device
-        → (D.state device.old).failures < (D.state device.new).failures }
-    ensures no_failure { OnOk result
-        ((D.state device.new).failures ≡ (D.state device.old).failures) }
-    ensures looks { Looks (D.state device.old) (D.state device.new) }
+    ensures keeps { Walks (D.state device.old) (D.state device.new) result }
 {
     match stage_roots(device, map, inodes, marks, sector) {
         Ok(true) => (),
@@ -209,22 +179,14 @@ fn walk_files<D: SectorDevice>(
 ) -> Result<(), WalkFault>
     requires files { length map.now ≡ 4096 }
     requires inside { length marks.old ≤ (D.state device.old).size }
-    ensures holds { OnOk result ((c : Content) (k : CheckpointValue)
-        → ReadsContent (D.state device.old) (D.state device.new) c → Lists (view c k) map.now
-        → KeepsInodes c map.now inodes.now
-        → Passed (view c k) marks.old 4144 5 → Passed (view c k) marks.new 68628528 8) }
-    ensures damaged { IfErr result (λ e. (code : ℕ) → FaultIs e code
-        → (c : Content) (k : CheckpointValue)
-        → ReadsContent (D.state device.old) (D.state device.new) c
-        → Lists (view c k) map.now → KeepsInodes c map.now inodes.now
-        → Passed (view c k) marks.old 4144 5 → IsDamaged (view c k) code) }
-    ensures low { IfErr result (λ e. (code : ℕ) → FaultIs e code → code < 10) }
+    ensures holds { OnOk result (OfWalk (D.state device.old) (D.state device.new) (λ c k.
+        Lists (view c k) map.now → KeepsInodes c map.now inodes.now
+        → Passed (view c k) marks.old 4144 5 → Passed (view c k) marks.new 68628528 8)) }
+    ensures damaged { IfErr result (λ e. OfWalk (D.state device.old) (D.state device.new) (λ c k.
+        Lists (view c k) map.now → KeepsInodes c map.now inodes.now
+        → Passed (view c k) marks.old 4144 5 → IsDamage (view c k) e)) }
     ensures len { length marks.new ≡ length marks.old }
-    ensures failed { IsErrOf result WalkFault.Device
-        → (D.state device.old).failures < (D.state device.new).failures }
-    ensures no_failure { OnOk result
-        ((D.state device.new).failures ≡ (D.state device.old).failures) }
-    ensures looks { Looks (D.state device.old) (D.state device.new) }
+    ensures keeps { Walks (D.state device.old) (D.state device.new) result }
 {
     let mut upper = [0; 512];
     let mut words = [0; 512];
@@ -299,22 +261,13 @@ fn walk_all<D: SectorDevice>(
     requires marks { length marks.old ≡ 2 + 64 * checkpoint.now.segments }
     requires unmarked { (a : ℕ) → get_or marks.old a 0 ≡ 0 }
     requires inside { length marks.old ≤ (D.state device.old).size }
-    ensures holds { IfOk result (λ r. (c : Content)
-        → ReadsContent (D.state device.old) (D.state device.new) c
-        → HoldsBelow (view c checkpoint.now) 10
-        × (IsTrue r.0 ↔ EnoughClean (view c checkpoint.now))) }
-    ensures counts { IfOk result (λ r. (c : Content)
-        → ReadsContent (D.state device.old) (D.state device.new) c
-        → CountsLog c checkpoint.now r.1.data_blocks r.1.meta_blocks) }
-    ensures damaged { IfErr result (λ e. (code : ℕ) → FaultIs e code → (c : Content)
-        → ReadsContent (D.state device.old) (D.state device.new) c
-        → IsDamaged (view c checkpoint.now) code) }
-    ensures low { IfErr result (λ e. (code : ℕ) → FaultIs e code → code < 10) }
-    ensures failed { IsErrOf result WalkFault.Device
-        → (D.state device.old).failures < (D.state device.new).failures }
-    ensures no_failure { OnOk result
-        ((D.state device.new).failures ≡ (D.state device.old).failures) }
-    ensures looks { Looks (D.state device.old) (D.state device.new) }
+    ensures holds { IfOk result (λ r. OfContent (D.state device.old) (D.state device.new) (λ c.
+        HoldsBelow (view c checkpoint.now) 10 × (IsTrue r.0 ↔ EnoughClean (view c checkpoint.now)))) }
+    ensures counts { IfOk result (λ r. OfContent (D.state device.old) (D.state device.new) (λ c.
+        CountsLog c checkpoint.now r.1.data_blocks r.1.meta_blocks)) }
+    ensures damaged { IfErr result (λ e. OfContent (D.state device.old) (D.state device.new) (λ c.
+        IsDamage (view c checkpoint.now) e)) }
+    ensures keeps { Walks (D.state device.old) (D.state device.new) result }
 {
     match walk_usages(device, checkpoint, used, live, labels, marks) {
         Ok(()) => (),
@@ -359,22 +312,14 @@ pub fn walk<D: SectorDevice>(
 ) -> Result<(bool, BlockTotals), WalkFault>
     requires fits { FitsCheckpoint checkpoint.now }
     requires inside { 2 + 64 * checkpoint.now.segments ≤ (D.state device.old).size }
-    ensures holds { IfOk result (λ r. (c : Content)
-        → ReadsContent (D.state device.old) (D.state device.new) c
-        → Stages (view c checkpoint.now) × HoldsBelow (view c checkpoint.now) 10
-        × (IsTrue r.0 ↔ EnoughClean (view c checkpoint.now))) }
-    ensures counts { IfOk result (λ r. (c : Content)
-        → ReadsContent (D.state device.old) (D.state device.new) c
-        → CountsLog c checkpoint.now r.1.data_blocks r.1.meta_blocks) }
-    ensures damaged { IfErr result (λ e. (code : ℕ) → FaultIs e code → (c : Content)
-        → ReadsContent (D.state device.old) (D.state device.new) c
-        → IsDamaged (view c checkpoint.now) code) }
-    ensures low { IfErr result (λ e. (code : ℕ) → FaultIs e code → code < 10) }
-    ensures failed { IsErrOf result WalkFault.Device
-        → (D.state device.old).failures < (D.state device.new).failures }
-    ensures no_failure { OnOk result
-        ((D.state device.new).failures ≡ (D.state device.old).failures) }
-    ensures looks { Looks (D.state device.old) (D.state device.new) }
+    ensures holds { IfOk result (λ r. OfContent (D.state device.old) (D.state device.new) (λ c.
+        Stages (view c checkpoint.now) × HoldsBelow (view c checkpoint.now) 10
+        × (IsTrue r.0 ↔ EnoughClean (view c checkpoint.now)))) }
+    ensures counts { IfOk result (λ r. OfContent (D.state device.old) (D.state device.new) (λ c.
+        CountsLog c checkpoint.now r.1.data_blocks r.1.meta_blocks)) }
+    ensures damaged { IfErr result (λ e. OfContent (D.state device.old) (D.state device.new) (λ c.
+        IsDamage (view c checkpoint.now) e)) }
+    ensures keeps { Walks (D.state device.old) (D.state device.new) result }
 {
     let segments = segments_of(checkpoint) as usize;
     let Ok(mut marks) = zeros(alloc, 2 + 64 * segments) else {

@@ -26,9 +26,9 @@ returns-then-not-branch-2-clause-goes g c = λ d k reads is sized w.
     let s1 = g.D.SectorDevice.state c.fetch.new.device in
     let s2 = g.D.SectorDevice.state c.data_of_leaves.new.device in
     let root = ap (block d) (sym is) ∙ read_in d c.args.address _ _
-    (c.in_ok-fetch.ensures.block d (reads_first s0 s1 s2 d reads c.data_of_leaves.ensures.looks)) c.if-not-branch.false in
+    (c.in_ok-fetch.ensures.block d (reads_first s0 s1 s2 d reads c.data_of_leaves.ensures.keeps.looks)) c.if-not-branch.false in
     goes_false (view d k) _ _ _ _ (Blocks (view d k)) _ c.if-not-branch-2.true
-    (c.in_ok-data_of_leaves.ensures.goes d k (reads_then s0 s1 s2 d reads c.fetch.ensures.looks) root sized) w
+    (c.in_ok-data_of_leaves.ensures.goes d k (reads_then s0 s1 s2 d reads c.fetch.ensures.keeps.looks) root sized) w
 
 pub returns-clause-goes : goal.returns-clause-goes
 returns-clause-goes g c = λ d k reads is sized w.
@@ -36,6 +36,6 @@ returns-clause-goes g c = λ d k reads is sized w.
     let s1 = g.D.SectorDevice.state c.fetch.new.device in
     let s2 = g.D.SectorDevice.state c.data_of_leaves.new.device in
     let root = ap (block d) (sym is) ∙ read_in d c.args.address _ _
-    (c.in_ok-fetch.ensures.block d (reads_first s0 s1 s2 d reads c.data_of_leaves.ensures.looks)) c.if-not-branch.false in
+    (c.in_ok-fetch.ensures.block d (reads_first s0 s1 s2 d reads c.data_of_leaves.ensures.keeps.looks)) c.if-not-branch.false in
     goes_true (view d k) _ _ _ _ (Blocks (view d k)) _ c.if-not-branch-2.false
-    (c.in_ok-data_of_leaves.ensures.goes d k (reads_then s0 s1 s2 d reads c.fetch.ensures.looks) root sized) w
+    (c.in_ok-data_of_leaves.ensures.goes d k (reads_then s0 s1 s2 d reads c.fetch.ensures.keeps.looks) root sized) w

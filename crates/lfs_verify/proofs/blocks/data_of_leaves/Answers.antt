@@ -1,16 +1,15 @@
-use Rattle.std.proofs.Common.{◌≡◌, ◌+◌, ◌*◌, ◌∙◌, refl, subst, arith}
+use Rattle.std.proofs.Common.{◌≡◌, ◌+◌, ◌*◌, subst, arith}
 use Rattle.lfs_model.specs.Reach.{view}
 use Rattle.lfs_model.specs.Stands.{Blocks}
 use Rattle.lfs_verify.specs.Walk.{Walked}
-use Rattle.lfs_verify.proofs.Takes.{reads_first, reads_then, looks_none, looks_then, goes_true, goes_false}
+use Rattle.lfs_verify.proofs.Takes.{reads_first, reads_then, goes_true, goes_false}
 use Rattle.lfs_verify.proofs.BlockSteps.{under_at}
+use Rattle.lfs_verify.proofs.Keeping.{keeps_none, keeps_then}
 use Rattle.lfs_verify.proofs.blocks.data_of_leaves.Goals as goal
 
 pub loop-place-init : goal.loop-place-init
 loop-place-init g c = record {
-  looks = looks_none (g.D.SectorDevice.state c.args.device.now) (g.met.D.SectorDevice.lawful c.args.device.now);
-  no_failure = refl;
-  len = refl;
+  keeps = keeps_none (g.D.SectorDevice.state c.args.device.now) c.args.marks.now (g.met.D.SectorDevice.lawful c.args.device.now);
   walked = λ d k reads is sized w.
       let e : 536624 + 16624 * c.args.file + 240 ≡ 536624 + 16624 * c.args.file + (112 + 128 * (0 + 1)) = omega arith in
       subst (Walked (view d k) c.args.marks.now) e w;
@@ -25,8 +24,8 @@ returns-then-not-branch-clause-goes g c = λ d k reads is sized w.
     let step = c.in_ok-data_of_leaf.ensures in
     let at = under_at d k c.args.file c.args.root.now is c.loop-place.place _ c.word_at-address.ensures in
     goes_false (view d k) _ _ _ _ (Blocks (view d k)) _ c.if-not-branch.true
-    (step.goes d k (reads_then old mid new d reads here.looks) at sized)
-    (here.walked d k (reads_first old mid new d reads step.looks) is sized w)
+    (step.goes d k (reads_then old mid new d reads here.keeps.looks) at sized)
+    (here.walked d k (reads_first old mid new d reads step.keeps.looks) is sized w)
 
 pub loop-place-preserved : goal.loop-place-preserved
 loop-place-preserved g c =
@@ -36,14 +35,12 @@ loop-place-preserved g c =
     let here = c.loop-place.invariant in
     let step = c.in_ok-data_of_leaf.ensures in
     record {
-      looks = looks_then old mid new here.looks step.looks;
-      no_failure = step.no_failure ∙ here.no_failure;
-      len = step.len ∙ here.len;
+      keeps = keeps_then old mid new _ _ _ _ here.keeps step.keeps;
       walked = λ d k reads is sized w.
           let at = under_at d k c.args.file c.args.root.now is c.loop-place.place _ c.word_at-address.ensures in
           goes_true (view d k) _ _ _ _ (Blocks (view d k)) _ c.if-not-branch.false
-          (step.goes d k (reads_then old mid new d reads here.looks) at sized)
-          (here.walked d k (reads_first old mid new d reads step.looks) is sized w);
+          (step.goes d k (reads_then old mid new d reads here.keeps.looks) at sized)
+          (here.walked d k (reads_first old mid new d reads step.keeps.looks) is sized w);
     }
 
 pub returns-clause-goes : goal.returns-clause-goes

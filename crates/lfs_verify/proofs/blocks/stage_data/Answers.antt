@@ -1,16 +1,15 @@
-use Rattle.std.proofs.Common.{◌≡◌, ◌+◌, ◌*◌, ◌∙◌, refl, sym, subst, arith}
+use Rattle.std.proofs.Common.{◌≡◌, ◌+◌, ◌*◌, sym, subst, arith}
 use Rattle.lfs_model.specs.Reach.{view}
 use Rattle.lfs_model.specs.Stands.{Blocks}
 use Rattle.lfs_verify.specs.Walk.{Walked}
 use Rattle.lfs_verify.proofs.KeptSteps.{there_start, there_next, keeps_here}
-use Rattle.lfs_verify.proofs.Takes.{reads_first, reads_then, looks_none, looks_then, goes_true, goes_false}
+use Rattle.lfs_verify.proofs.Takes.{reads_first, reads_then, goes_true, goes_false}
+use Rattle.lfs_verify.proofs.Keeping.{keeps_none, keeps_then}
 use Rattle.lfs_verify.proofs.blocks.stage_data.Goals as goal
 
 pub loop-file-init : goal.loop-file-init
 loop-file-init g c = record {
-  looks = looks_none (g.D.SectorDevice.state c.args.device.now) (g.met.D.SectorDevice.lawful c.args.device.now);
-  no_failure = refl;
-  len = refl;
+  keeps = keeps_none (g.D.SectorDevice.state c.args.device.now) c.args.marks.now (g.met.D.SectorDevice.lawful c.args.device.now);
   few = omega arith;
   place = sym (there_start c.args.map.now);
   walked = λ d k reads lists keeps w. w;
@@ -24,9 +23,9 @@ returns-then-not-branch-clause-goes g c = λ d k reads lists keeps w.
     let here = c.loop-file.invariant in
     let step = c.in_ok-data_of_file.ensures in
     goes_false (view d k) _ _ _ _ (Blocks (view d k)) _ c.if-not-branch.true
-    (step.goes d k (reads_then old mid new d reads here.looks) (lists c.loop-file.file (omega arith))
+    (step.goes d k (reads_then old mid new d reads here.keeps.looks) (lists c.loop-file.file (omega arith))
     (keeps_here d c.args.map.now c.args.inodes.now keeps c.loop-file.file (omega arith) c.loop-file.place here.place))
-    (here.walked d k (reads_first old mid new d reads step.looks) lists keeps w)
+    (here.walked d k (reads_first old mid new d reads step.keeps.looks) lists keeps w)
 
 pub loop-file-preserved : goal.loop-file-preserved
 loop-file-preserved g c =
@@ -36,16 +35,14 @@ loop-file-preserved g c =
     let here = c.loop-file.invariant in
     let step = c.in_ok-data_of_file.ensures in
     record {
-      looks = looks_then old mid new here.looks step.looks;
-      no_failure = step.no_failure ∙ here.no_failure;
-      len = step.len ∙ here.len;
+      keeps = keeps_then old mid new _ _ _ _ here.keeps step.keeps;
       few = omega (arith, here.few, c.inodes_at.ensures.few);
       place = let next = there_next c.args.map.now c.loop-file.file in omega (arith, next, here.place, c.inodes_at.ensures.number);
       walked = λ d k reads lists keeps w.
           goes_true (view d k) _ _ _ _ (Blocks (view d k)) _ c.if-not-branch.false
-          (step.goes d k (reads_then old mid new d reads here.looks) (lists c.loop-file.file (omega arith))
+          (step.goes d k (reads_then old mid new d reads here.keeps.looks) (lists c.loop-file.file (omega arith))
           (keeps_here d c.args.map.now c.args.inodes.now keeps c.loop-file.file (omega arith) c.loop-file.place here.place))
-          (here.walked d k (reads_first old mid new d reads step.looks) lists keeps w);
+          (here.walked d k (reads_first old mid new d reads step.keeps.looks) lists keeps w);
     }
 
 pub returns-clause-goes : goal.returns-clause-goes

@@ -43,9 +43,9 @@ returns-then-not-branch-2-clause-goes g c = λ d k reads is keeps w.
     let at = double_is d k c.args.file c.requires.file c.args.address _ is ((keeps (omega arith)).1 ∙ sym c.in-Some.ensures) _
     c.word_at-double.ensures in
     let upper = ap (block d) (sym at) ∙ read_in d _ _ _
-    (c.in_ok-fetch.ensures.block d (reads_first s0 s1 s2 d reads c.leaf_blocks.ensures.looks)) c.if-not-branch.false in
+    (c.in_ok-fetch.ensures.block d (reads_first s0 s1 s2 d reads c.leaf_blocks.ensures.keeps.looks)) c.if-not-branch.false in
     goes_false (view d k) _ _ _ _ (Leaves (view d k)) _ c.if-not-branch-2.true
-    (c.in_ok-leaf_blocks.ensures.goes d k (reads_then s0 s1 s2 d reads c.fetch.ensures.looks) upper) w
+    (c.in_ok-leaf_blocks.ensures.goes d k (reads_then s0 s1 s2 d reads c.fetch.ensures.keeps.looks) upper) w
 
 pub returns-clause-goes : goal.returns-clause-goes
 returns-clause-goes g c = λ d k reads is keeps w.
@@ -55,6 +55,6 @@ returns-clause-goes g c = λ d k reads is keeps w.
     let at = double_is d k c.args.file c.requires.file c.args.address _ is ((keeps (omega arith)).1 ∙ sym c.in-Some.ensures) _
     c.word_at-double.ensures in
     let upper = ap (block d) (sym at) ∙ read_in d _ _ _
-    (c.in_ok-fetch.ensures.block d (reads_first s0 s1 s2 d reads c.leaf_blocks.ensures.looks)) c.if-not-branch.false in
+    (c.in_ok-fetch.ensures.block d (reads_first s0 s1 s2 d reads c.leaf_blocks.ensures.keeps.looks)) c.if-not-branch.false in
     goes_true (view d k) _ _ _ _ (Leaves (view d k)) _ c.if-not-branch-2.false
-    (c.in_ok-leaf_blocks.ensures.goes d k (reads_then s0 s1 s2 d reads c.fetch.ensures.looks) upper) w
+    (c.in_ok-leaf_blocks.ensures.goes d k (reads_then s0 s1 s2 d reads c.fetch.ensures.keeps.looks) upper) w

@@ -1,10 +1,11 @@
-use Rattle.std.proofs.Common.{◌≡◌, ◌≤◌, ◌+◌, ◌*◌, length}
+use Rattle.std.proofs.Common.{◌≡◌, ◌≤◌, ◌+◌, ◌*◌}
 use Rattle.lfs_model.specs.Checkpoint.{CheckpointValue}
 use Rattle.lfs_model.specs.Content.{Content}
 use Rattle.lfs_model.specs.Reach.{view}
 use Rattle.lfs_verify.specs.Kept.{there_below, KeepsInodes}
 use Rattle.lfs_verify.specs.Walk.{Walked}
-use Rattle.lfs_verify.specs.Take.{Looks, ReadsContent, Lists}
+use Rattle.lfs_verify.specs.Take.{ReadsContent, Lists}
+use Rattle.lfs_verify.proofs.Keeping.{KeepsSoFar}
 use Rattle.lfs_verify.proofs.leaves.stage_leaves.Given as goal
 
 abbrev pub invariant-loop-file : goal.invariant-loop-file
@@ -12,9 +13,7 @@ invariant-loop-file g l =
     let old = g.D.SectorDevice.state l.initial.device in
     let now = g.D.SectorDevice.state l.device in
     record {
-      looks : Looks old now;
-      no_failure : now.failures ≡ old.failures;
-      len : length l.marks ≡ length l.initial.marks;
+      keeps : KeepsSoFar old now l.initial.marks l.marks;
       few : l.place ≤ l.file;
       place : l.place ≡ there_below l.map l.file;
       walked : (c : Content) (k : CheckpointValue) → ReadsContent old now c → Lists (view c k) l.map → KeepsInodes c l.map l.inodes

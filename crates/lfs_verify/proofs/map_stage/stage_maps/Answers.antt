@@ -4,15 +4,14 @@ use Rattle.lfs_model.specs.Stands.{Maps}
 use Rattle.lfs_verify.specs.Walk.{Walked}
 use Rattle.lfs_verify.specs.MapTables.{ListsUpTo}
 use Rattle.lfs_verify.proofs.Steps.{maps_of}
-use Rattle.lfs_verify.proofs.Takes.{reads_first, reads_then, looks_none, looks_then, goes_true, goes_false}
+use Rattle.lfs_verify.proofs.Takes.{reads_first, reads_then, goes_true, goes_false}
 use Rattle.lfs_verify.proofs.MapSteps.{lists_all, none_fails, root_fails, none_holds, root_reached}
+use Rattle.lfs_verify.proofs.Keeping.{keeps_none, keeps_then}
 use Rattle.lfs_verify.proofs.map_stage.stage_maps.Goals as goal
 
 pub loop-index-init : goal.loop-index-init
 loop-index-init g c = record {
-  looks = looks_none (g.D.SectorDevice.state c.args.device.now) (g.met.D.SectorDevice.lawful c.args.device.now);
-  no_failure = refl;
-  len = refl;
+  keeps = keeps_none (g.D.SectorDevice.state c.args.device.now) c.args.marks.now (g.met.D.SectorDevice.lawful c.args.device.now);
   files = refl;
   empty = λ n le. c.requires.empty n;
   lists = λ d reads n lt. absurd (omega (arith, lt));
@@ -27,8 +26,8 @@ returns-then-not-branch-clause-goes g c = λ d reads w.
     let v = view d c.args.checkpoint.now in
     let here = c.loop-index.invariant in
     let step = c.in_ok-take_map.ensures in
-    goes_false v _ _ _ _ (Maps v) _ c.if-not-branch.true (step.goes d (reads_then old mid new d reads here.looks))
-    (here.walked d (reads_first old mid new d reads step.looks) w)
+    goes_false v _ _ _ _ (Maps v) _ c.if-not-branch.true (step.goes d (reads_then old mid new d reads here.keeps.looks))
+    (here.walked d (reads_first old mid new d reads step.keeps.looks) w)
 
 pub loop-index-preserved : goal.loop-index-preserved
 loop-index-preserved g c =
@@ -38,17 +37,15 @@ loop-index-preserved g c =
     let here = c.loop-index.invariant in
     let step = c.in_ok-take_map.ensures in
     record {
-      looks = looks_then old mid new here.looks step.looks;
-      no_failure = step.no_failure ∙ here.no_failure;
-      len = step.len ∙ here.len;
+      keeps = keeps_then old mid new _ _ _ _ here.keeps step.keeps;
       files = step.files ∙ here.files;
       empty = step.empty c.if-not-branch.false;
-      lists = λ d reads. step.lists c.if-not-branch.false d (reads_then old mid new d reads here.looks)
-          (here.lists d (reads_first old mid new d reads step.looks));
+      lists = λ d reads. step.lists c.if-not-branch.false d (reads_then old mid new d reads here.keeps.looks)
+          (here.lists d (reads_first old mid new d reads step.keeps.looks));
       walked = λ d reads w.
           let v = view d c.args.checkpoint.now in
-          goes_true v _ _ _ _ (Maps v) _ c.if-not-branch.false (step.goes d (reads_then old mid new d reads here.looks))
-          (here.walked d (reads_first old mid new d reads step.looks) w);
+          goes_true v _ _ _ _ (Maps v) _ c.if-not-branch.false (step.goes d (reads_then old mid new d reads here.keeps.looks))
+          (here.walked d (reads_first old mid new d reads step.keeps.looks) w);
     }
 
 pub returns-then-map-ne0-clause-goes : goal.returns-then-map-ne0-clause-goes

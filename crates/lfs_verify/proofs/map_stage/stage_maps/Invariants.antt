@@ -2,8 +2,9 @@ use Rattle.std.proofs.Common.{◌≡◌, ◌+◌, length}
 use Rattle.lfs_model.specs.Content.{Content}
 use Rattle.lfs_model.specs.Reach.{view}
 use Rattle.lfs_verify.specs.MapTables.{ListsUpTo, IsEmptyFrom}
-use Rattle.lfs_verify.specs.Take.{Looks, ReadsContent}
+use Rattle.lfs_verify.specs.Take.{ReadsContent}
 use Rattle.lfs_verify.specs.Walk.{Walked}
+use Rattle.lfs_verify.proofs.Keeping.{KeepsSoFar}
 use Rattle.lfs_verify.proofs.map_stage.stage_maps.Given as goal
 
 abbrev pub invariant-loop-index : goal.invariant-loop-index
@@ -11,9 +12,7 @@ invariant-loop-index g l =
     let old = g.D.SectorDevice.state l.initial.device in
     let now = g.D.SectorDevice.state l.device in
     record {
-      looks : Looks old now;
-      no_failure : now.failures ≡ old.failures;
-      len : length l.marks ≡ length l.initial.marks;
+      keeps : KeepsSoFar old now l.initial.marks l.marks;
       files : length l.map ≡ length l.initial.map;
       empty : IsEmptyFrom l.map l.index;
       lists : (c : Content) → ReadsContent old now c → ListsUpTo (view c l.checkpoint) l.map l.index;

@@ -24,9 +24,11 @@ returns-then-not-branch-2-clause-goes g c = λ d k reads is keeps w.
     let s2 = g.D.SectorDevice.state c.take_pointers-2.new.device in
     let inode = (keeps (omega arith)).1 ∙ sym c.in-Some.ensures in
     double_refused d k c.args.file c.requires.file c.args.address _ is inode
-    _ _ _ c.word_at-single.ensures _ (c.in_ok-take_pointers.ensures.takes d (reads_first s0 s1 s2 d reads c.take_pointers-2.ensures.looks))
+    _ _ _ c.word_at-single.ensures _
+    (c.in_ok-take_pointers.ensures.takes d (reads_first s0 s1 s2 d reads c.take_pointers-2.ensures.keeps.looks))
     w c.if-not-branch.false
-    _ _ c.word_at-double.ensures _ (c.in_ok-take_pointers-2.ensures.takes d (reads_then s0 s1 s2 d reads c.take_pointers.ensures.looks))
+    _ _ c.word_at-double.ensures _
+    (c.in_ok-take_pointers-2.ensures.takes d (reads_then s0 s1 s2 d reads c.take_pointers.ensures.keeps.looks))
     c.if-not-branch-2.true
 
 pub returns-clause-goes : goal.returns-clause-goes
@@ -36,7 +38,9 @@ returns-clause-goes g c = λ d k reads is keeps w.
     let s2 = g.D.SectorDevice.state c.take_pointers-2.new.device in
     let inode = (keeps (omega arith)).1 ∙ sym c.in-Some.ensures in
     double_took d k c.args.file c.requires.file c.args.address _ is inode
-    _ _ _ c.word_at-single.ensures _ (c.in_ok-take_pointers.ensures.takes d (reads_first s0 s1 s2 d reads c.take_pointers-2.ensures.looks))
+    _ _ _ c.word_at-single.ensures _
+    (c.in_ok-take_pointers.ensures.takes d (reads_first s0 s1 s2 d reads c.take_pointers-2.ensures.keeps.looks))
     w c.if-not-branch.false
-    _ _ c.word_at-double.ensures _ (c.in_ok-take_pointers-2.ensures.takes d (reads_then s0 s1 s2 d reads c.take_pointers.ensures.looks))
+    _ _ c.word_at-double.ensures _
+    (c.in_ok-take_pointers-2.ensures.takes d (reads_then s0 s1 s2 d reads c.take_pointers.ensures.keeps.looks))
     c.if-not-branch-2.false

@@ -1,9 +1,10 @@
-use Rattle.std.proofs.Common.{◌≡◌, ◌<◌, ◌≤◌, ◌+◌, ◌-◌, ◌*◌, ◌↔◌, ℕ, length, get_or}
+use Rattle.std.proofs.Common.{◌≡◌, ◌<◌, ◌≤◌, ◌+◌, ◌-◌, ◌*◌, ◌↔◌, ℕ, get_or}
 use Rattle.lfs_model.specs.Content.{Content}
 use Rattle.lfs_model.specs.Reach.{row_by}
 use Rattle.lfs_verify.specs.Rows.{HasRow, from}
-use Rattle.lfs_verify.specs.Take.{Looks, ReadsContent}
+use Rattle.lfs_verify.specs.Take.{ReadsContent}
 use Rattle.lfs_verify.proofs.LabelSteps.{LabelledTo}
+use Rattle.lfs_verify.proofs.Keeping.{KeepsSoFar}
 use Rattle.lfs_verify.proofs.rows.label_row.Given as goal
 
 abbrev pub invariant-loop-at : goal.invariant-loop-at
@@ -11,10 +12,8 @@ invariant-loop-at g l =
     let old = g.D.SectorDevice.state l.initial.device in
     let now = g.D.SectorDevice.state l.device in
     record {
-      looks : Looks old now;
-      no_failure : now.failures ≡ old.failures;
+      keeps : KeepsSoFar old now l.initial.labels l.labels;
       within : l.at ≤ l.used;
-      len : length l.labels ≡ length l.initial.labels;
       before : (i : ℕ) → i < 2 + 64 * l.segment → get_or l.labels i 0 ≡ get_or l.initial.labels i 0;
       behind : (i : ℕ) → 2 + 64 * l.segment + l.at ≤ i → get_or l.labels i 0 ≡ 0;
       rest : (c : Content) → ReadsContent old now c → HasRow (from c l.used l.segment l.at) ↔ HasRow (row_by c l.used l.segment);

@@ -1,18 +1,17 @@
-use Rattle.std.proofs.Common.{rules, true, false, ◌≤◌, ◌≡◌, ◌<◌, ◌+◌, ◌*◌, ℕ, length, get_or, ◌∙◌, refl, ⊎_elim, subst, sym, arith}
+use Rattle.std.proofs.Common.{rules, true, false, ◌≤◌, ◌≡◌, ◌<◌, ◌+◌, ◌*◌, ℕ, length, get_or, ◌∙◌, ⊎_elim, subst, sym, arith}
 use Rattle.std.proofs.lemmas.Bool.{cases_lt}
 use Rattle.lfs_model.specs.Reach.{view, row_by}
 use Rattle.lfs_verify.specs.Labels.{HasLabels}
 use Rattle.lfs_verify.specs.Rows.{HasRow}
-use Rattle.lfs_verify.proofs.Takes.{reads_first, reads_then, looks_none, looks_then}
+use Rattle.lfs_verify.proofs.Takes.{reads_first, reads_then}
 use Rattle.lfs_verify.proofs.RowSteps.{rows_of, no_rows, too_many}
 use Rattle.lfs_verify.proofs.LabelSteps.{labels_stay, labels_there}
+use Rattle.lfs_verify.proofs.Keeping.{keeps_none, keeps_then}
 use Rattle.lfs_verify.proofs.rows.stage_rows.Goals as goal
 
 pub loop-segment-init : goal.loop-segment-init
 loop-segment-init g c = record {
-  looks = looks_none (g.D.SectorDevice.state c.args.device.now) (g.met.D.SectorDevice.lawful c.args.device.now);
-  no_failure = refl;
-  len = refl;
+  keeps = keeps_none (g.D.SectorDevice.state c.args.device.now) c.args.labels.now (g.met.D.SectorDevice.lawful c.args.device.now);
   empty = λ i le. c.requires.empty i;
   labels = λ d k reads table s lt. absurd (omega (arith, lt));
   rows = λ d reads s lt. absurd (omega arith);
@@ -28,7 +27,7 @@ returns-then-not-branch-clause-rows g c = λ d k reads table.
     let mid = g.D.SectorDevice.state c.loop-segment.device in
     let new = g.D.SectorDevice.state c.label_row.new.device in
     let here = c.loop-segment.invariant in
-    let is = c.in_ok-label_row.ensures.row d (reads_then old mid new d reads here.looks) in (
+    let is = c.in_ok-label_row.ensures.row d (reads_then old mid new d reads here.keeps.looks) in (
       λ on. absurd (cc),
       λ rows. absurd (no_rows d k c.args.used.now table c.loop-segment.segment (omega arith)
           (λ row. let e : true ≡ false = sym (is.1 row) ∙ c.if-not-branch.true in absurd (cc)) rows),
@@ -42,28 +41,26 @@ loop-segment-preserved g c =
     let here = c.loop-segment.invariant in
     let step = c.in_ok-label_row.ensures in
     record {
-      looks = looks_then old mid new here.looks step.looks;
-      no_failure = step.no_failure ∙ here.no_failure;
-      len = step.len ∙ here.len;
+      keeps = keeps_then old mid new _ _ _ _ here.keeps step.keeps;
       empty = λ i le. step.behind i (omega (arith, le));
       labels = λ d k reads table s lt. ⊎_elim
           (λ (before : s < c.loop-segment.segment).
           labels_stay ((view d k).row s) c.loop-segment.labels c.label_row.new.labels s
           (λ o small. step.before (2 + 64 * s + o) (omega (arith, small, before)))
-          (here.labels d k (reads_first old mid new d reads step.looks) table s before))
+          (here.labels d k (reads_first old mid new d reads step.keeps.looks) table s before))
           (λ (now : c.loop-segment.segment ≤ s).
           let e : c.loop-segment.segment ≡ s = omega (arith, lt, now) in
           let inside : c.loop-segment.segment < length c.args.used.now = omega arith in
           subst (λ (x : ℕ). HasLabels ((view d k).row x) c.label_row.new.labels x) e
           (labels_there d k c.args.used.now table c.loop-segment.segment inside c.label_row.new.labels
-          (step.labels c.if-not-branch.false d (reads_then old mid new d reads here.looks))))
+          (step.labels c.if-not-branch.false d (reads_then old mid new d reads here.keeps.looks))))
           (cases_lt s c.loop-segment.segment);
       rows = λ d reads s lt. ⊎_elim
-          (λ (before : s < c.loop-segment.segment). here.rows d (reads_first old mid new d reads step.looks) s before)
+          (λ (before : s < c.loop-segment.segment). here.rows d (reads_first old mid new d reads step.keeps.looks) s before)
           (λ (now : c.loop-segment.segment ≤ s).
           let e : c.loop-segment.segment ≡ s = omega arith in
           subst (λ (x : ℕ). HasRow (row_by d (get_or c.args.used.now x 0) x)) e
-          ((step.row d (reads_then old mid new d reads here.looks)).0 c.if-not-branch.false))
+          ((step.row d (reads_then old mid new d reads here.keeps.looks)).0 c.if-not-branch.false))
           (cases_lt s c.loop-segment.segment);
     }
 
@@ -76,6 +73,6 @@ returns-clause-labels g c = λ is d k reads table.
     let here = c.loop-segment.invariant in
     let n = table.size in
     record {
-      size = omega (arith, here.len, c.requires.labelled, n);
+      size = omega (arith, here.keeps.len, c.requires.labelled, n);
       each = λ s lt. here.labels d k reads table s (omega (arith, lt, n));
     }

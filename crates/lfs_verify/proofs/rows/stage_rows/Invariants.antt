@@ -1,11 +1,12 @@
-use Rattle.std.proofs.Common.{◌≡◌, ◌<◌, ◌≤◌, ◌+◌, ◌*◌, ℕ, length, get_or}
+use Rattle.std.proofs.Common.{◌≡◌, ◌<◌, ◌≤◌, ◌+◌, ◌*◌, ℕ, get_or}
 use Rattle.lfs_model.specs.Checkpoint.{CheckpointValue}
 use Rattle.lfs_model.specs.Content.{Content}
 use Rattle.lfs_model.specs.Reach.{row_by, view}
 use Rattle.lfs_verify.specs.Labels.{HasLabels}
 use Rattle.lfs_verify.specs.Rows.{HasRow}
 use Rattle.lfs_verify.specs.Tables.{IsUsedTable}
-use Rattle.lfs_verify.specs.Take.{Looks, ReadsContent}
+use Rattle.lfs_verify.specs.Take.{ReadsContent}
+use Rattle.lfs_verify.proofs.Keeping.{KeepsSoFar}
 use Rattle.lfs_verify.proofs.rows.stage_rows.Given as goal
 
 abbrev pub invariant-loop-segment : goal.invariant-loop-segment
@@ -13,9 +14,7 @@ invariant-loop-segment g l =
     let old = g.D.SectorDevice.state l.initial.device in
     let now = g.D.SectorDevice.state l.device in
     record {
-      looks : Looks old now;
-      no_failure : now.failures ≡ old.failures;
-      len : length l.labels ≡ length l.initial.labels;
+      keeps : KeepsSoFar old now l.initial.labels l.labels;
       empty : (i : ℕ) → 2 + 64 * l.segment ≤ i → get_or l.labels i 0 ≡ 0;
       labels : (c : Content) (k : CheckpointValue) → ReadsContent old now c → IsUsedTable (view c k) l.used → (s : ℕ) → s < l.segment
           → HasLabels ((view c k).row s) l.labels s;

@@ -27,9 +27,9 @@ returns-then-not-branch-2-clause-goes g c = λ d k reads is sized w.
     let s1 = g.D.SectorDevice.state c.fetch.new.device in
     let s2 = g.D.SectorDevice.state c.data_run.new.device in
     let words = leaf_words d k c.args.file c.args.leaf c.args.address is _ (read_in d c.args.address _ _
-    (c.in_ok-fetch.ensures.block d (reads_first s0 s1 s2 d reads c.data_run.ensures.looks)) c.if-not-branch.false) in
+    (c.in_ok-fetch.ensures.block d (reads_first s0 s1 s2 d reads c.data_run.ensures.keeps.looks)) c.if-not-branch.false) in
     goes_false (view d k) _ _ _ _ (Blocks (view d k)) _ c.if-not-branch-2.true
-    (c.in_ok-data_run.ensures.goes d k (reads_then s0 s1 s2 d reads c.fetch.ensures.looks) words sized) w
+    (c.in_ok-data_run.ensures.goes d k (reads_then s0 s1 s2 d reads c.fetch.ensures.keeps.looks) words sized) w
 
 pub returns-clause-goes : goal.returns-clause-goes
 returns-clause-goes g c = λ d k reads is sized.
@@ -37,7 +37,7 @@ returns-clause-goes g c = λ d k reads is sized.
     let s1 = g.D.SectorDevice.state c.fetch.new.device in
     let s2 = g.D.SectorDevice.state c.data_run.new.device in
     let words = leaf_words d k c.args.file c.args.leaf c.args.address is _ (read_in d c.args.address _ _
-    (c.in_ok-fetch.ensures.block d (reads_first s0 s1 s2 d reads c.data_run.ensures.looks)) c.if-not-branch.false) in
+    (c.in_ok-fetch.ensures.block d (reads_first s0 s1 s2 d reads c.data_run.ensures.keeps.looks)) c.if-not-branch.false) in
     goes_true (view d k) _ _ _ _ (Blocks (view d k)) _ c.if-not-branch-2.false
     (goes_as (view d k) _ _ _ _ _ _ (Blocks (view d k)) _ (omega arith) (omega arith)
-    (c.in_ok-data_run.ensures.goes d k (reads_then s0 s1 s2 d reads c.fetch.ensures.looks) words sized))
+    (c.in_ok-data_run.ensures.goes d k (reads_then s0 s1 s2 d reads c.fetch.ensures.keeps.looks) words sized))

@@ -1,15 +1,14 @@
-use Rattle.std.proofs.Common.{◌≡◌, ◌+◌, ◌*◌, ◌∙◌, refl, subst, arith}
+use Rattle.std.proofs.Common.{◌≡◌, ◌+◌, ◌*◌, ◌∙◌, subst, arith}
 use Rattle.lfs_model.specs.Reach.{view}
 use Rattle.lfs_verify.specs.Walk.{Walked}
-use Rattle.lfs_verify.proofs.Takes.{reads_first, reads_then, looks_none, looks_then}
+use Rattle.lfs_verify.proofs.Takes.{reads_first, reads_then}
 use Rattle.lfs_verify.proofs.DataSteps.{run_next}
+use Rattle.lfs_verify.proofs.Keeping.{keeps_none, keeps_then}
 use Rattle.lfs_verify.proofs.runs.data_run.Goals as goal
 
 pub loop-place-init : goal.loop-place-init
 loop-place-init g c = record {
-  looks = looks_none (g.D.SectorDevice.state c.args.device.now) (g.met.D.SectorDevice.lawful c.args.device.now);
-  no_failure = refl;
-  len = refl;
+  keeps = keeps_none (g.D.SectorDevice.state c.args.device.now) c.args.marks.now (g.met.D.SectorDevice.lawful c.args.device.now);
   walked = λ d k reads is sized w.
       let e : 536624 + 16624 * c.args.file + c.args.index ≡ 536624 + 16624 * c.args.file + c.args.index + 0 = omega arith in
       subst (Walked (view d k) c.args.marks.now) e w;
@@ -24,7 +23,8 @@ returns-then-not-branch-clause-goes g c = λ d k reads is sized w blocks.
     let step = c.in_ok-take_data.ensures in
     (run_next d k c.args.file c.args.index c.loop-place.place c.requires.file (omega arith) c.args.size sized _ _ _
     (c.word_at-address.ensures ∙ is c.loop-place.place (omega arith)) _
-    (step.takes d (reads_then old mid new d reads here.looks)) (here.walked d k (reads_first old mid new d reads step.looks) is sized w)).0
+    (step.takes d (reads_then old mid new d reads here.keeps.looks))
+    (here.walked d k (reads_first old mid new d reads step.keeps.looks) is sized w)).0
     c.if-not-branch.true blocks
 
 pub loop-place-preserved : goal.loop-place-preserved
@@ -35,14 +35,12 @@ loop-place-preserved g c =
     let here = c.loop-place.invariant in
     let step = c.in_ok-take_data.ensures in
     record {
-      looks = looks_then old mid new here.looks step.looks;
-      no_failure = step.no_failure ∙ here.no_failure;
-      len = step.len ∙ here.len;
+      keeps = keeps_then old mid new _ _ _ _ here.keeps step.keeps;
       walked = λ d k reads is sized w.
           (run_next d k c.args.file c.args.index c.loop-place.place c.requires.file (omega arith) c.args.size sized _ _ _
           (c.word_at-address.ensures ∙ is c.loop-place.place (omega arith)) _
-          (step.takes d (reads_then old mid new d reads here.looks))
-          (here.walked d k (reads_first old mid new d reads step.looks) is sized w)).1 c.if-not-branch.false;
+          (step.takes d (reads_then old mid new d reads here.keeps.looks))
+          (here.walked d k (reads_first old mid new d reads step.keeps.looks) is sized w)).1 c.if-not-branch.false;
     }
 
 pub returns-clause-goes : goal.returns-clause-goes

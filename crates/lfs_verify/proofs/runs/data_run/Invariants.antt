@@ -1,10 +1,11 @@
-use Rattle.std.proofs.Common.{◌≡◌, ◌<◌, ◌+◌, ◌*◌, ℕ, length}
+use Rattle.std.proofs.Common.{◌≡◌, ◌<◌, ◌+◌, ◌*◌, ℕ}
 use Rattle.lfs_model.specs.Checkpoint.{CheckpointValue}
 use Rattle.lfs_model.specs.Content.{Content, block}
 use Rattle.lfs_model.specs.Entry.{Data, Inode, header, word}
 use Rattle.lfs_model.specs.Reach.{view, address}
 use Rattle.lfs_verify.specs.Walk.{Walked}
-use Rattle.lfs_verify.specs.Take.{Looks, ReadsContent}
+use Rattle.lfs_verify.specs.Take.{ReadsContent}
+use Rattle.lfs_verify.proofs.Keeping.{KeepsSoFar}
 use Rattle.lfs_verify.proofs.runs.data_run.Given as goal
 
 abbrev pub invariant-loop-place : goal.invariant-loop-place
@@ -12,9 +13,7 @@ invariant-loop-place g l =
     let old = g.D.SectorDevice.state l.initial.device in
     let now = g.D.SectorDevice.state l.device in
     record {
-      looks : Looks old now;
-      no_failure : now.failures ≡ old.failures;
-      len : length l.marks ≡ length l.initial.marks;
+      keeps : KeepsSoFar old now l.initial.marks l.marks;
       walked : (c : Content) (k : CheckpointValue) → ReadsContent old now c
           → ((j : ℕ) → j < l.count → word l.words (l.first + j) ≡ address c k (Data l.file (l.index + j)))
           → l.size ≡ (header (block c (address c k (Inode l.file)))).size

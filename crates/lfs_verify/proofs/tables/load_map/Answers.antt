@@ -25,9 +25,9 @@ loop-index-preserved g c =
       upto = now.after;
       says = λ keeps. says_map_then old mid c.args.checkpoint.now c.loop-index.index
           (c.loop-index.index + 1) c.loop-index.map c.load_map_block.new.map was.looks
-          (was.says (now.looks.carries.kept_before keeps)) (now.says keeps);
-      looks = looks_then old mid new was.looks now.looks;
-      no_failure = now.no_failure ∙ was.no_failure;
+          (was.says (now.keeps.looks.carries.kept_before keeps)) (now.says keeps);
+      looks = looks_then old mid new was.looks now.keeps.looks;
+      no_failure = now.keeps.no_failure ∙ was.no_failure;
     }
 
 pub returns-in_err-load_map_block-clause-cause : goal.returns-in_err-load_map_block-clause-cause

@@ -2,15 +2,14 @@ use Rattle.std.proofs.Common.{◌≡◌, ◌∙◌, refl, below_more, subst, ari
 use Rattle.lfs_model.specs.Reach.{view}
 use Rattle.lfs_model.specs.Stands.{Usages}
 use Rattle.lfs_verify.specs.Walk.{Walked}
-use Rattle.lfs_verify.proofs.Takes.{reads_first, reads_then, looks_none, looks_then, goes_true, goes_false}
+use Rattle.lfs_verify.proofs.Takes.{reads_first, reads_then, goes_true, goes_false}
 use Rattle.lfs_verify.proofs.UsageSteps.{usages_of}
+use Rattle.lfs_verify.proofs.Keeping.{keeps_none, keeps_then}
 use Rattle.lfs_verify.proofs.usage_stage.stage_usages.Goals as goal
 
 pub loop-index-init : goal.loop-index-init
 loop-index-init g c = record {
-  looks = looks_none (g.D.SectorDevice.state c.args.device.now) (g.met.D.SectorDevice.lawful c.args.device.now);
-  no_failure = refl;
-  len = refl;
+  keeps = keeps_none (g.D.SectorDevice.state c.args.device.now) c.args.marks.now (g.met.D.SectorDevice.lawful c.args.device.now);
   used = refl;
   live = refl;
   is_there = λ j lt. absurd (omega (arith, lt));
@@ -26,8 +25,8 @@ returns-then-not-branch-clause-goes g c = λ d reads w.
     let v = view d c.args.checkpoint.now in
     let here = c.loop-index.invariant in
     let step = c.in_ok-take_usage.ensures in
-    goes_false v _ _ _ _ (Usages v) _ c.if-not-branch.true (step.goes d (reads_then old mid new d reads here.looks))
-    (here.walked d (reads_first old mid new d reads step.looks) w)
+    goes_false v _ _ _ _ (Usages v) _ c.if-not-branch.true (step.goes d (reads_then old mid new d reads here.keeps.looks))
+    (here.walked d (reads_first old mid new d reads step.keeps.looks) w)
 
 pub loop-index-preserved : goal.loop-index-preserved
 loop-index-preserved g c =
@@ -37,18 +36,16 @@ loop-index-preserved g c =
     let here = c.loop-index.invariant in
     let step = c.in_ok-take_usage.ensures in
     record {
-      looks = looks_then old mid new here.looks step.looks;
-      no_failure = step.no_failure ∙ here.no_failure;
-      len = step.len ∙ here.len;
-      used = step.used ∙ here.used;
-      live = step.live ∙ here.live;
+      keeps = keeps_then old mid new _ _ _ _ here.keeps step.keeps;
+      used = step.lengths.used ∙ here.used;
+      live = step.lengths.live ∙ here.live;
       is_there = below_more _ _ here.is_there (step.is_there c.if-not-branch.false);
-      says = λ d reads. step.says c.if-not-branch.false d (reads_then old mid new d reads here.looks)
-          (here.says d (reads_first old mid new d reads step.looks));
+      says = λ d reads. step.says c.if-not-branch.false d (reads_then old mid new d reads here.keeps.looks)
+          (here.says d (reads_first old mid new d reads step.keeps.looks));
       walked = λ d reads w.
           let v = view d c.args.checkpoint.now in
-          goes_true v _ _ _ _ (Usages v) _ c.if-not-branch.false (step.goes d (reads_then old mid new d reads here.looks))
-          (here.walked d (reads_first old mid new d reads step.looks) w);
+          goes_true v _ _ _ _ (Usages v) _ c.if-not-branch.false (step.goes d (reads_then old mid new d reads here.keeps.looks))
+          (here.walked d (reads_first old mid new d reads step.keeps.looks) w);
     }
 
 pub returns-clause-goes : goal.returns-clause-goes

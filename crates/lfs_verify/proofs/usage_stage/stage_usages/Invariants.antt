@@ -1,9 +1,10 @@
 use Rattle.std.proofs.Common.{◌≡◌, ◌<◌, ◌↔◌, ◌+◌, ◌/◌, ℕ, length, get_or}
 use Rattle.lfs_model.specs.Content.{Content}
 use Rattle.lfs_model.specs.Reach.{view}
-use Rattle.lfs_verify.specs.Take.{Looks, ReadsContent}
+use Rattle.lfs_verify.specs.Take.{ReadsContent}
 use Rattle.lfs_verify.specs.UsageTables.{SaysUpTo}
 use Rattle.lfs_verify.specs.Walk.{Walked}
+use Rattle.lfs_verify.proofs.Keeping.{KeepsSoFar}
 use Rattle.lfs_verify.proofs.usage_stage.stage_usages.Given as goal
 
 abbrev pub invariant-loop-index : goal.invariant-loop-index
@@ -11,9 +12,7 @@ invariant-loop-index g l =
     let old = g.D.SectorDevice.state l.initial.device in
     let now = g.D.SectorDevice.state l.device in
     record {
-      looks : Looks old now;
-      no_failure : now.failures ≡ old.failures;
-      len : length l.marks ≡ length l.initial.marks;
+      keeps : KeepsSoFar old now l.initial.marks l.marks;
       used : length l.used ≡ length l.initial.used;
       live : length l.live ≡ length l.initial.live;
       is_there : (j : ℕ) → j < l.index → (0 < get_or l.checkpoint.usage j 0) ↔ (j < (l.checkpoint.segments + 63) / 64);

@@ -11,8 +11,9 @@ returns-in-Err-Damaged-clause-reason g c = λ found keeps.
     let lawful = g.met.D.SectorDevice.lawful c.args.device.now in
     let code = c.in-Err-Damaged.stage in
     let is = subst (λ (e : WalkFault). FaultIs e code) (sym c.in-Err-Damaged.field-0-is) refl in
-    first_damage old new lawful c.args.checkpoint.now c.requires.inside keeps (found keeps) code (c.in-Err-Damaged.ensures.low code is)
-    (c.in-Err-Damaged.ensures.damaged code is old.content (read_content old new lawful c.args.checkpoint.now c.requires.inside keeps))
+    first_damage old new lawful c.args.checkpoint.now c.requires.inside keeps (found keeps) code
+    (c.in-Err-Damaged.ensures.keeps.low code is)
+    (c.in-Err-Damaged.ensures.damaged old.content (read_content old new lawful c.args.checkpoint.now c.requires.inside keeps) code is)
 
 pub returns-in-Ok-clause-holds : goal.returns-in-Ok-clause-holds
 returns-in-Ok-clause-holds g c = λ keeps.

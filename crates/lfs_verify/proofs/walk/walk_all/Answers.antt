@@ -6,19 +6,19 @@ use Rattle.lfs_verify.proofs.WholeSteps.{passed_start, sized_content}
 use Rattle.lfs_verify.proofs.walk.walk_all.Goals as goal
 
 pub returns-in-Err-clause-damaged : goal.returns-in-Err-clause-damaged
-returns-in-Err-clause-damaged g c = λ code is d reads.
+returns-in-Err-clause-damaged g c = λ d reads code is.
     let passed = passed_start _ _ (g.met.D.SectorDevice.lawful c.args.device.now) d reads c.args.checkpoint.now c.requires.fits
     c.args.marks.now c.requires.marks c.requires.unmarked in
-    c.in-Err.ensures.damaged code is d reads passed
+    c.in-Err.ensures.damaged d reads passed code is
 
 pub returns-in-Err-walk_inodes-clause-damaged : goal.returns-in-Err-walk_inodes-clause-damaged
-returns-in-Err-walk_inodes-clause-damaged g c = λ code is d reads.
+returns-in-Err-walk_inodes-clause-damaged g c = λ d reads code is.
     let s0 = g.D.SectorDevice.state c.args.device.now in
     let s1 = g.D.SectorDevice.state c.walk_usages.new.device in
     let s2 = g.D.SectorDevice.state c.walk_inodes.new.device in
     let v = view d c.args.checkpoint.now in
-    let l1 = c.walk_usages.ensures.looks in
-    let l2 = c.walk_inodes.ensures.looks in
+    let l1 = c.walk_usages.ensures.keeps.looks in
+    let l2 = c.walk_inodes.ensures.keeps.looks in
     let m1 = l1 in
     let r2 = reads in
     let r1 = reads_first s0 s1 s2 d r2 l2 in
@@ -28,18 +28,18 @@ returns-in-Err-walk_inodes-clause-damaged g c = λ code is d reads.
     let p1 = c.in-Ok.ensures.holds d r1 p0 in
     let tables = c.in-Ok.ensures.tables d r1 p0 in
     let labels = c.in-Ok.ensures.labels d r1 p0 in
-    c.in-Err-walk_inodes.ensures.damaged code is d q2 p1
+    c.in-Err-walk_inodes.ensures.damaged d q2 p1 code is
 
 pub returns-in-Err-walk_files-clause-damaged : goal.returns-in-Err-walk_files-clause-damaged
-returns-in-Err-walk_files-clause-damaged g c = λ code is d reads.
+returns-in-Err-walk_files-clause-damaged g c = λ d reads code is.
     let s0 = g.D.SectorDevice.state c.args.device.now in
     let s1 = g.D.SectorDevice.state c.walk_usages.new.device in
     let s2 = g.D.SectorDevice.state c.walk_inodes.new.device in
     let s3 = g.D.SectorDevice.state c.walk_files.new.device in
     let v = view d c.args.checkpoint.now in
-    let l1 = c.walk_usages.ensures.looks in
-    let l2 = c.walk_inodes.ensures.looks in
-    let l3 = c.walk_files.ensures.looks in
+    let l1 = c.walk_usages.ensures.keeps.looks in
+    let l2 = c.walk_inodes.ensures.keeps.looks in
+    let l3 = c.walk_files.ensures.keeps.looks in
     let m1 = l1 in
     let m2 = looks_then s0 s1 s2 m1 l2 in
     let r3 = reads in
@@ -55,18 +55,18 @@ returns-in-Err-walk_files-clause-damaged g c = λ code is d reads.
     let p2 = c.in-Ok-walk_inodes.ensures.holds d q2 p1 in
     let lists = c.in-Ok-walk_inodes.ensures.lists d q2 in
     let keeps = subst (KeepsInodes d c.walk_inodes.new.map) (sym c.deref.ensures.value) (c.in-Ok-walk_inodes.ensures.kept d q2) in
-    c.in-Err-walk_files.ensures.damaged code is d c.args.checkpoint.now q3 lists keeps p2
+    c.in-Err-walk_files.ensures.damaged d c.args.checkpoint.now q3 lists keeps p2 code is
 
 pub returns-in-Err-walk_segments-clause-damaged : goal.returns-in-Err-walk_segments-clause-damaged
-returns-in-Err-walk_segments-clause-damaged g c = λ code is d reads.
+returns-in-Err-walk_segments-clause-damaged g c = λ d reads code is.
     let s0 = g.D.SectorDevice.state c.args.device.now in
     let s1 = g.D.SectorDevice.state c.walk_usages.new.device in
     let s2 = g.D.SectorDevice.state c.walk_inodes.new.device in
     let s3 = g.D.SectorDevice.state c.walk_files.new.device in
     let v = view d c.args.checkpoint.now in
-    let l1 = c.walk_usages.ensures.looks in
-    let l2 = c.walk_inodes.ensures.looks in
-    let l3 = c.walk_files.ensures.looks in
+    let l1 = c.walk_usages.ensures.keeps.looks in
+    let l2 = c.walk_inodes.ensures.keeps.looks in
+    let l3 = c.walk_files.ensures.keeps.looks in
     let m1 = l1 in
     let m2 = looks_then s0 s1 s2 m1 l2 in
     let r3 = reads in
@@ -92,9 +92,9 @@ returns-clause-holds g c = λ d reads.
     let s2 = g.D.SectorDevice.state c.walk_inodes.new.device in
     let s3 = g.D.SectorDevice.state c.walk_files.new.device in
     let v = view d c.args.checkpoint.now in
-    let l1 = c.walk_usages.ensures.looks in
-    let l2 = c.walk_inodes.ensures.looks in
-    let l3 = c.walk_files.ensures.looks in
+    let l1 = c.walk_usages.ensures.keeps.looks in
+    let l2 = c.walk_inodes.ensures.keeps.looks in
+    let l3 = c.walk_files.ensures.keeps.looks in
     let m1 = l1 in
     let m2 = looks_then s0 s1 s2 m1 l2 in
     let r3 = reads in
@@ -121,9 +121,9 @@ returns-clause-counts g c = λ d reads.
     let s2 = g.D.SectorDevice.state c.walk_inodes.new.device in
     let s3 = g.D.SectorDevice.state c.walk_files.new.device in
     let v = view d c.args.checkpoint.now in
-    let l1 = c.walk_usages.ensures.looks in
-    let l2 = c.walk_inodes.ensures.looks in
-    let l3 = c.walk_files.ensures.looks in
+    let l1 = c.walk_usages.ensures.keeps.looks in
+    let l2 = c.walk_inodes.ensures.keeps.looks in
+    let l3 = c.walk_files.ensures.keeps.looks in
     let m1 = l1 in
     let m2 = looks_then s0 s1 s2 m1 l2 in
     let r3 = reads in

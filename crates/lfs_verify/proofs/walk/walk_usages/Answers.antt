@@ -6,24 +6,25 @@ use Rattle.lfs_verify.proofs.CodeSteps.{stage_1, stage_2, walk_pass, walk_fails,
 use Rattle.lfs_verify.proofs.walk.walk_usages.Goals as goal
 
 pub returns-in-Ok-false-clause-damaged : goal.returns-in-Ok-false-clause-damaged
-returns-in-Ok-false-clause-damaged g c = λ code is d reads passed.
+returns-in-Ok-false-clause-damaged g c = λ d reads passed code is.
     let v = view d c.args.checkpoint.now in
     walk_fails v 1 (Usages v) (stage_1 v) _ _ passed _ _ _ c.in-Ok-false.field-0-test (c.in-Ok-false.ensures.goes d reads) code is
 
 pub returns-in-Ok-false-stage_rows-clause-damaged : goal.returns-in-Ok-false-stage_rows-clause-damaged
-returns-in-Ok-false-stage_rows-clause-damaged g c = λ code is d reads passed.
+returns-in-Ok-false-stage_rows-clause-damaged g c = λ d reads passed code is.
     let s0 = g.D.SectorDevice.state c.args.device.now in
     let s1 = g.D.SectorDevice.state c.stage_usages.new.device in
     let s2 = g.D.SectorDevice.state c.stage_rows.new.device in
     let v = view d c.args.checkpoint.now in
-    let reads1 = reads_first s0 s1 s2 d reads c.stage_rows.ensures.looks in
+    let reads1 = reads_first s0 s1 s2 d reads c.stage_rows.ensures.keeps.looks in
     let usages = c.in-Ok-true.ensures.holds c.in-Ok-true.field-0-test d reads1 passed.bounded passed.walked in
     let says = c.in-Ok-true.ensures.says c.in-Ok-true.field-0-test d reads1 in
-    let used = used_says v _ _ usages (c.stage_usages.ensures.used ∙ c.requires.used) says in
+    let used = used_says v _ _ usages (c.stage_usages.ensures.lengths.used ∙ c.requires.used) says in
     let one = walk_pass v 1 (Usages v) (stage_1 v) _ _ passed _ _ _ c.in-Ok-true.field-0-test (c.in-Ok-true.ensures.goes d reads1)
     (λ w bounded. usages) in
     look_fails v 2 (IsRows v) (stage_2 v) _ _ one _ c.in-Ok-false-stage_rows.field-0-test
-    (c.in-Ok-false-stage_rows.ensures.rows d c.args.checkpoint.now (reads_then s0 s1 s2 d reads c.stage_usages.ensures.looks) used) code is
+    (c.in-Ok-false-stage_rows.ensures.rows d c.args.checkpoint.now (reads_then s0 s1 s2 d reads c.stage_usages.ensures.keeps.looks) used)
+    code is
 
 pub returns-in-Ok-true-stage_rows-clause-holds : goal.returns-in-Ok-true-stage_rows-clause-holds
 returns-in-Ok-true-stage_rows-clause-holds g c = λ d reads passed.
@@ -31,14 +32,14 @@ returns-in-Ok-true-stage_rows-clause-holds g c = λ d reads passed.
     let s1 = g.D.SectorDevice.state c.stage_usages.new.device in
     let s2 = g.D.SectorDevice.state c.stage_rows.new.device in
     let v = view d c.args.checkpoint.now in
-    let reads1 = reads_first s0 s1 s2 d reads c.stage_rows.ensures.looks in
+    let reads1 = reads_first s0 s1 s2 d reads c.stage_rows.ensures.keeps.looks in
     let usages = c.in-Ok-true.ensures.holds c.in-Ok-true.field-0-test d reads1 passed.bounded passed.walked in
     let says = c.in-Ok-true.ensures.says c.in-Ok-true.field-0-test d reads1 in
-    let used = used_says v _ _ usages (c.stage_usages.ensures.used ∙ c.requires.used) says in
+    let used = used_says v _ _ usages (c.stage_usages.ensures.lengths.used ∙ c.requires.used) says in
     let one = walk_pass v 1 (Usages v) (stage_1 v) _ _ passed _ _ _ c.in-Ok-true.field-0-test (c.in-Ok-true.ensures.goes d reads1)
     (λ w bounded. usages) in
     look_pass v 2 (IsRows v) (stage_2 v) _ _ one _ c.in-Ok-true-stage_rows.field-0-test
-    (c.in-Ok-true-stage_rows.ensures.rows d c.args.checkpoint.now (reads_then s0 s1 s2 d reads c.stage_usages.ensures.looks) used)
+    (c.in-Ok-true-stage_rows.ensures.rows d c.args.checkpoint.now (reads_then s0 s1 s2 d reads c.stage_usages.ensures.keeps.looks) used)
 
 pub returns-in-Ok-true-stage_rows-clause-tables : goal.returns-in-Ok-true-stage_rows-clause-tables
 returns-in-Ok-true-stage_rows-clause-tables g c = λ d reads passed.
@@ -46,11 +47,11 @@ returns-in-Ok-true-stage_rows-clause-tables g c = λ d reads passed.
     let s1 = g.D.SectorDevice.state c.stage_usages.new.device in
     let s2 = g.D.SectorDevice.state c.stage_rows.new.device in
     let v = view d c.args.checkpoint.now in
-    let reads1 = reads_first s0 s1 s2 d reads c.stage_rows.ensures.looks in
+    let reads1 = reads_first s0 s1 s2 d reads c.stage_rows.ensures.keeps.looks in
     let usages = c.in-Ok-true.ensures.holds c.in-Ok-true.field-0-test d reads1 passed.bounded passed.walked in
     let says = c.in-Ok-true.ensures.says c.in-Ok-true.field-0-test d reads1 in
-    let used = used_says v _ _ usages (c.stage_usages.ensures.used ∙ c.requires.used) says in
-    (used, live_says v _ _ (c.stage_usages.ensures.live ∙ c.requires.live) says)
+    let used = used_says v _ _ usages (c.stage_usages.ensures.lengths.used ∙ c.requires.used) says in
+    (used, live_says v _ _ (c.stage_usages.ensures.lengths.live ∙ c.requires.live) says)
 
 pub returns-in-Ok-true-stage_rows-clause-labels : goal.returns-in-Ok-true-stage_rows-clause-labels
 returns-in-Ok-true-stage_rows-clause-labels g c = λ d reads passed.
@@ -58,9 +59,9 @@ returns-in-Ok-true-stage_rows-clause-labels g c = λ d reads passed.
     let s1 = g.D.SectorDevice.state c.stage_usages.new.device in
     let s2 = g.D.SectorDevice.state c.stage_rows.new.device in
     let v = view d c.args.checkpoint.now in
-    let reads1 = reads_first s0 s1 s2 d reads c.stage_rows.ensures.looks in
+    let reads1 = reads_first s0 s1 s2 d reads c.stage_rows.ensures.keeps.looks in
     let usages = c.in-Ok-true.ensures.holds c.in-Ok-true.field-0-test d reads1 passed.bounded passed.walked in
     let says = c.in-Ok-true.ensures.says c.in-Ok-true.field-0-test d reads1 in
-    let used = used_says v _ _ usages (c.stage_usages.ensures.used ∙ c.requires.used) says in
+    let used = used_says v _ _ usages (c.stage_usages.ensures.lengths.used ∙ c.requires.used) says in
     c.in-Ok-true-stage_rows.ensures.labels c.in-Ok-true-stage_rows.field-0-test d c.args.checkpoint.now
-    (reads_then s0 s1 s2 d reads c.stage_usages.ensures.looks) used
+    (reads_then s0 s1 s2 d reads c.stage_usages.ensures.keeps.looks) used
