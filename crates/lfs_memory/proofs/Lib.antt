@@ -9,7 +9,6 @@ pub mod LeafPresents
 pub mod Lifted
 pub mod Lent
 pub mod LiftedKeys
-pub mod LiftedWays
 pub mod Gathered
 pub mod LogMaps
 pub mod Keys

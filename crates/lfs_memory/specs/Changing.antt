@@ -1,6 +1,7 @@
 -- What changes of files in memory do, one block or header at a time.
 use Rattle.std.specs.Prelude.{◌≡◌, ◌<◌, ◌≤◌, ◌+◌, ◌==◌, ◌&&◌, cond, not, ℕ, Bool, true, false, List, [], ◌∷◌, length, Option, Some, ◌++◌}
 use Rattle.std.specs.Prelude.{drop}
+use Rattle.lfs_model.specs.declared.limits.TheConstants.{LAST_LEAF, SECTOR_LEN}
 use Rattle.lfs_model.specs.declared.Kind.{Kind}
 use Rattle.lfs_model.specs.Counting.{segment_of}
 use Rattle.lfs_model.specs.Entry.{Entry, Data, Leaf, Inode, Header, word}
@@ -88,8 +89,8 @@ pub record Drops (v v' : LogMemory) (n : ℕ) (x : Entry) (address : ℕ) : Type
 
 -- Data block i of file n, whose pointer this is, is these bytes.
 pub record MakesBlock (v v' : LogMemory) (n i address : ℕ) (bytes : List ℕ) : Type 0 where
-  pub stores : (bytes ≡ zeros 512 → ⊥) → Stores v v' n (Data n i) address bytes
-  pub drops : bytes ≡ zeros 512 → Drops v v' n (Data n i) address
+  pub stores : (bytes ≡ zeros SECTOR_LEN → ⊥) → Stores v v' n (Data n i) address bytes
+  pub drops : bytes ≡ zeros SECTOR_LEN → Drops v v' n (Data n i) address
 
 -- It is these bytes, whatever the pointer is.
 pub record ChangesBlock (v v' : LogMemory) (n i : ℕ) (bytes : List ℕ) : Type 0 where
@@ -108,8 +109,8 @@ pub record Grows (v v' : LogMemory) (x : Entry) : Type 0 where
   pub stays : Stays 1 v v'
   pub map : v'.map ≡ v.map
   pub usage : v'.usage ≡ v.usage
-  pub low : (n q : ℕ) → x ≡ Leaf n q → q ≤ 128
-  pub comes : Fetches (blocks_of v.dirty) (blocks_of v'.dirty) x (zeros 512)
+  pub low : (n q : ℕ) → x ≡ Leaf n q → q ≤ LAST_LEAF
+  pub comes : Fetches (blocks_of v.dirty) (blocks_of v'.dirty) x (zeros SECTOR_LEN)
 
 -- Blocks of pointers that lead nowhere leave memory, one after the other.
 pub data Prunes (old : TableValue) : TableValue → Type 0 where
@@ -151,4 +152,4 @@ pub record Creates (v v' : LogMemory) (n : ℕ) (kind : Kind) (form links size :
   pub address : IsSet (address_in v.map) (address_in v'.map) n 1
   pub hidden : IsSet (is_hidden_in v.map) (is_hidden_in v'.map) n (links == 0)
   pub blocks : v'.map.blocks ≡ v.map.blocks
-  pub changes : ChangesTo (blocks_of v.dirty) (blocks_of v'.dirty) (Inode n) (Some (headed kind form n links size (zeros 512)))
+  pub changes : ChangesTo (blocks_of v.dirty) (blocks_of v'.dirty) (Inode n) (Some (headed kind form n links size (zeros SECTOR_LEN)))

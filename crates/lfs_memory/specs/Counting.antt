@@ -1,6 +1,7 @@
 -- How many blocks of a file each segment holds, counted block by block in one order.
 use Rattle.std.specs.Prelude.{◌≡◌, ◌<◌, ◌≤◌, ◌⊎◌, ◌+◌, ◌*◌, ◌-◌, ◌/◌, ◌%◌, ◌==◌, ◌&&◌, nat_lt, cond, ℕ, suc, Bool, true, false, List}
 use Rattle.std.specs.Prelude.{get_or}
+use Rattle.lfs_model.specs.declared.limits.TheConstants.{BLOCK_POINTERS, DIRECT_BLOCKS, MOST_SEGMENTS, SEGMENT_SECTORS}
 use Rattle.lfs_model.specs.Checkpoint.{CheckpointValue}
 use Rattle.lfs_model.specs.Content.{Content}
 use Rattle.lfs_model.specs.Counting.{segment_of}
@@ -18,7 +19,8 @@ use Rattle.lfs_memory.specs.Memory.{IsLoose}
 
 -- The place of a block of a file: its inode, its direct blocks, the double root, and then each leaf with the blocks below it.
 abbrev pub place : Entry → ℕ
-place (Data n i) = cond (nat_lt i 112) (1 + i) (115 + 129 * ((i - 112) / 128) + (i - 112) % 128)
+place (Data n i) = cond (nat_lt i DIRECT_BLOCKS) (1 + i)
+    (115 + 129 * ((i - DIRECT_BLOCKS) / BLOCK_POINTERS) + (i - DIRECT_BLOCKS) % BLOCK_POINTERS)
 place (Leaf n q) = 114 + 129 * q
 place (Double n) = 113
 place (Inode n) = 0
@@ -27,7 +29,7 @@ place (Usage j) = 0
 
 -- and the block of file n at a place
 abbrev pub below_leaf : ℕ → ℕ → ℕ → Entry
-below_leaf n q r = cond (r == 0) (Leaf n q) (Data n (112 + 128 * q + (r - 1)))
+below_leaf n q r = cond (r == 0) (Leaf n q) (Data n (DIRECT_BLOCKS + BLOCK_POINTERS * q + (r - 1)))
 
 abbrev pub at_place : ℕ → ℕ → Entry
 at_place n p = cond (p == 0) (Inode n)
@@ -60,7 +62,7 @@ pub record CountsWhere (old new : List ℕ) (address : ℕ) (counted : Bool) : T
 -- no log has one more there
 pub record IsOver (counts : List ℕ) (address : ℕ) : Type 0 where
   pub above : 2 ≤ address
-  pub over : (1024 ≤ segment_of address) ⊎ (64 ≤ get_or counts (segment_of address) 0)
+  pub over : (MOST_SEGMENTS ≤ segment_of address) ⊎ (SEGMENT_SECTORS ≤ get_or counts (segment_of address) 0)
 
 -- what memory holds, over this content and with these blocks
 pub record IsHeldBy (e : Content) (dirty : Dirty) (M : Memory) : Type 0 where

@@ -1,5 +1,6 @@
 -- A file's blocks from one on go.
 use Rattle.std.specs.Prelude.{◌≡◌, ◌<◌, ◌≤◌, ◌⊎◌, ◌+◌, ◌*◌, ◌==◌, ◌&&◌, nat_le, cond, ℕ, Bool, false, List, [], length, Some, None}
+use Rattle.lfs_model.specs.declared.limits.TheConstants.{BLOCK_POINTERS, DIRECT_BLOCKS, FIRST_DOUBLE, SECTOR_LEN}
 use Rattle.lfs_model.specs.Checkpoint.{CheckpointValue}
 use Rattle.lfs_model.specs.Cutting.{is_past}
 use Rattle.lfs_model.specs.Detaching.{IsCleared}
@@ -32,8 +33,8 @@ cut_from n first m = record {
 
 -- leaf q is cut in part
 pub record IsCutLeaf (first q : ℕ) : Type 0 where
-  pub from : 112 + 128 * q < first
-  pub to : first < 240 + 128 * q
+  pub from : DIRECT_BLOCKS + BLOCK_POINTERS * q < first
+  pub to : first < FIRST_DOUBLE + BLOCK_POINTERS * q
 
 -- the block of x is in memory if it is stored
 abbrev pub IsLiftedIfStored : LogMemory → Entry → Type 0
@@ -41,33 +42,33 @@ IsLiftedIfStored v x = IsInMemory v x ⊎ IsAtAddress (blocks_of v.dirty) (table
 
 -- So are the blocks of pointers of file n of which a part stays; there is no leaf below a double root that isn't stored.
 pub record HasEdge (v : LogMemory) (n first : ℕ) : Type 0 where
-  pub double : 240 < first → IsLiftedIfStored v (Double n)
+  pub double : FIRST_DOUBLE < first → IsLiftedIfStored v (Double n)
   pub leaf : (q : ℕ) → IsCutLeaf first q
       → IsLiftedIfStored v (Leaf n q) ⊎ ((1 ≤ q) × IsAtAddress (blocks_of v.dirty) (tables_of v) (Double n) 0)
 
 -- so many of the pointers of an inode don't lead to what goes: to data blocks, to the single leaf, to the double root
 pub record KeepsOfInode (first kept : ℕ) : Type 0 where
   pub few : kept ≤ 114
-  pub direct : first ≤ 112 → kept ≡ first
-  pub single : 112 < first → first ≤ 240 → kept ≡ 113
-  pub whole : 240 < first → kept ≡ 114
+  pub direct : first ≤ DIRECT_BLOCKS → kept ≡ first
+  pub single : DIRECT_BLOCKS < first → first ≤ FIRST_DOUBLE → kept ≡ 113
+  pub whole : FIRST_DOUBLE < first → kept ≡ 114
 
 -- and so many of those of a double root
 pub record KeepsOfRoot (first kept : ℕ) : Type 0 where
-  pub few : kept ≤ 128
-  pub before : (q : ℕ) → q < kept → 240 + 128 * q < first
-  pub reach : kept < 128 → first ≤ 240 + 128 * kept
+  pub few : kept ≤ BLOCK_POINTERS
+  pub before : (q : ℕ) → q < kept → FIRST_DOUBLE + BLOCK_POINTERS * q < first
+  pub reach : kept < BLOCK_POINTERS → first ≤ FIRST_DOUBLE + BLOCK_POINTERS * kept
 
 -- ---- what happens in memory
 
 -- what holds of the block of an entry in memory
 pub record IsFormed (x : Entry) (bytes : List ℕ) : Type 0 where
-  pub long : length bytes ≡ 512
+  pub long : length bytes ≡ SECTOR_LEN
   pub inode : (n : ℕ) → x ≡ Inode n → HoldsInode n bytes
 
 -- the leaf of file n that is cut in part has no pointer to what goes, if it is in memory
 pub record ClearsLeaf (old new : Dirty) (n first : ℕ) : Type 0 where
-  pub cleared : (q : ℕ) (b : List ℕ) → IsCutLeaf first q → old (Leaf n q) ≡ Some b → length b ≡ 512
+  pub cleared : (q : ℕ) (b : List ℕ) → IsCutLeaf first q → old (Leaf n q) ≡ Some b → length b ≡ SECTOR_LEN
       → (c : List ℕ) × (new (Leaf n q) ≡ Some c) × IsCleared (is_past n first) (Leaf n q) b c
   pub stay : (x : Entry) (b : List ℕ) → old x ≡ Some b → (c : List ℕ) × (new x ≡ Some c)
   pub absent : (x : Entry) → old x ≡ None → new x ≡ None

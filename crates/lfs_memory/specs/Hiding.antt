@@ -1,5 +1,6 @@
 -- A file loses its last link: it is in memory alone, and its blocks hold their segments.
 use Rattle.std.specs.Prelude.{◌≡◌, ◌<◌, ◌≤◌, ◌+◌, ◌/◌, ℕ, false, true, List, length, Some}
+use Rattle.lfs_model.specs.declared.limits.TheConstants.{BLOCK_SEGMENTS}
 use Rattle.lfs_model.specs.declared.Kind.{Kind}
 use Rattle.lfs_model.specs.Checkpoint.{CheckpointValue}
 use Rattle.lfs_model.specs.Device.{DeviceState}
@@ -27,7 +28,7 @@ pub record HidesCounts (old new : UsageTable) (counts : ℕ → ℕ) : Type 0 wh
   pub kept : (s : ℕ) → kept_of new s ≡ kept_of old s
   pub last : new.last ≡ old.last
   pub address : (j : ℕ) → address_of new j ≡ address_of old j
-  pub changed : (s : ℕ) → 0 < counts s → stale_of new (s / 64) ≡ true
+  pub changed : (s : ℕ) → 0 < counts s → stale_of new (s / BLOCK_SEGMENTS) ≡ true
   pub stale : (j : ℕ) → stale_of new j ≡ false → stale_of old j ≡ false
   pub size : length new.segments ≡ length old.segments
   pub clean : clean_in new.segments ≡ clean_in old.segments

@@ -1,3 +1,4 @@
+pub mod Numbers
 pub mod Memory
 pub mod Present
 pub mod Pointers

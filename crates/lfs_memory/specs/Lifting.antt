@@ -1,10 +1,10 @@
 -- Blocks come into memory so that they may change; what memory and device hold stays the same log map.
-use Rattle.std.specs.Prelude.{◌≡◌, ◌<◌, ◌≤◌, ◌+◌, ℕ, Bool, true, false, List, [], length, Some, None}
+use Rattle.std.specs.Prelude.{◌≡◌, ◌<◌, ◌≤◌, ◌+◌, ℕ, Bool, true, false, List, length, Some, None}
 use Rattle.lfs_model.specs.Checkpoint.{CheckpointValue}
 use Rattle.lfs_model.specs.Counting.{segment_of}
 use Rattle.lfs_model.specs.Device.{DeviceState}
-use Rattle.lfs_model.specs.Entry.{Entry, Data, Leaf, Inode}
-use Rattle.lfs_model.specs.Memory.{Memory, parent}
+use Rattle.lfs_model.specs.Entry.{Entry, Inode}
+use Rattle.lfs_model.specs.Memory.{Memory}
 use Rattle.lfs_model.specs.Running.{IsSet}
 use Rattle.lfs_model.specs.Staging.{Fetches}
 use Rattle.lfs_model.specs.Stands.{LogMap}
@@ -14,7 +14,7 @@ use Rattle.lfs_inodes.specs.Blocks.{blocks_of}
 use Rattle.lfs_inodes.specs.MapValue.{address_in, block_in}
 use Rattle.lfs_memory.specs.declared.memory.LogMemory.{LogMemory}
 use Rattle.lfs_memory.specs.Memory.{IsMemory, IsLoose}
-use Rattle.lfs_memory.specs.Present.{Looks, AnswersBlock}
+use Rattle.lfs_memory.specs.Present.{Looks}
 
 abbrev pub IsInMemory : LogMemory → Entry → Type 0
 IsInMemory v x = (b : List ℕ) × (blocks_of v.dirty x ≡ Some b)
@@ -87,7 +87,3 @@ pub record IsMapLost (v : LogMemory) (j : ℕ) : Type 0 where
 -- where memory and device hold a log map, this file isn't there
 abbrev pub IsAbsent : DeviceState → DeviceState → LogMemory → ℕ → Type 0
 IsAbsent d d' v n = (k : CheckpointValue) (m0 m : LogMap) → d'.keeps_model → IsLoose d v k m0 m → m.header n ≡ None
-
--- and no block of this leaf of a file is stored
-abbrev pub IsLeafAbsent : DeviceState → DeviceState → LogMemory → ℕ → ℕ → Type 0
-IsLeafAbsent d d' v n q = (i : ℕ) → parent (Data n i) ≡ Leaf n q → AnswersBlock d d' v n i [] false

@@ -1,5 +1,7 @@
 -- What the log holds in memory, and what that and the device stand for.
 use Rattle.std.specs.Prelude.{◌≡◌, ◌<◌, ◌≤◌, ◌+◌, ◌*◌, ◌/◌, ◌==◌, cond, ℕ, Bool, true, List, [], ◌∷◌, ◌++◌, length, Option, Some, None}
+use Rattle.lfs_model.specs.declared.limits.TheConstants.{CHECKPOINT_SLOTS, CHUNK_BLOCKS, FILE_NUMBERS, MOST_SEGMENTS, SEGMENT_SECTORS}
+use Rattle.lfs_model.specs.declared.limits.TheConstants.{TABLE_BLOCKS}
 use Rattle.lfs_model.specs.Entry.{Entry, Data, Leaf, Double, Inode, Map, Usage}
 use Rattle.lfs_model.specs.Checkpoint.{CheckpointValue, IsSegmentCount}
 use Rattle.lfs_model.specs.Crash.{StandsOn}
@@ -42,14 +44,14 @@ tables_of v = tables_by v.map v.usage
 
 -- a number past all segments stands for none
 abbrev pub segment_in : Chunk → ℕ
-segment_in c = cond (length c.names == 0) 1024 c.segment
+segment_in c = cond (length c.names == 0) MOST_SEGMENTS c.segment
 
 abbrev pub chunk_in : Chunk → Option (List Entry)
 chunk_in c = cond (length c.names == 0) None (Some (entries_of c))
 
 -- how many blocks find a place, in the chunk that has begun and in the clean segments
 abbrev pub room_of : LogMemory → ℕ
-room_of v = 63 * clean_in v.usage.segments + room_in v.chunk
+room_of v = CHUNK_BLOCKS * clean_in v.usage.segments + room_in v.chunk
 
 -- What holds of memory over any device. Behind the first sector of its segment the chunk takes so
 -- many sectors at most.
@@ -60,7 +62,7 @@ pub record IsMemoryUpTo (most : ℕ) (v : LogMemory) : Type 0 where
   -- a usage block that left its address isn't as the device has it
   pub usages : (j : ℕ) → address_of v.usage j ≡ 1 → stale_of v.usage j ≡ true
   -- no more blocks of files than a cleaning pass may write into the segments that it may take
-  pub few : v.dirty.capacity.limit + 48 ≤ 63 * (length v.usage.segments / 8)
+  pub few : v.dirty.capacity.limit + TABLE_BLOCKS ≤ CHUNK_BLOCKS * (length v.usage.segments / 8)
 
 -- between two blocks: a chunk that is full is written at once
 abbrev pub IsMemory : LogMemory → Type 0
@@ -68,11 +70,11 @@ IsMemory v = IsMemoryUpTo 62 v
 
 -- the device has all segments
 abbrev pub HasRoom : DeviceState → LogMemory → Type 0
-HasRoom d v = 2 + 64 * length v.usage.segments ≤ d.size
+HasRoom d v = CHECKPOINT_SLOTS + SEGMENT_SECTORS * length v.usage.segments ≤ d.size
 
 -- the files that the map hides are those without a name
 abbrev pub AreHidden : MapValue → LogMap → Type 0
-AreHidden map m = (n : ℕ) → n < 4096 → is_nameless m n ≡ is_hidden_in map n
+AreHidden map m = (n : ℕ) → n < FILE_NUMBERS → is_nameless m n ≡ is_hidden_in map n
 
 -- Memory and device hold log map m, and the acknowledged checkpoint k stands
 -- for m0; a block of pointers in memory may lead nowhere for a while.
@@ -125,7 +127,7 @@ pub record Places (v v' : LogMemory) (name : BlockNameValue) (lives : Bool) (age
       → (middle ≡ v.usage) × (v'.chunk.segment ≡ v.chunk.segment) × (v'.chunk.start ≡ v.chunk.start)
   pub noted : Notes middle v'.usage v'.chunk.segment lives
   pub names : v'.chunk.names ≡ v.chunk.names ++ name ∷ []
-  pub address : place ≡ 2 + 64 * v'.chunk.segment + used_of middle v'.chunk.segment
+  pub address : place ≡ CHECKPOINT_SLOTS + SEGMENT_SECTORS * v'.chunk.segment + used_of middle v'.chunk.segment
   pub opened : IsOpenChunk v'.chunk v'.usage
 
 -- The inode map points to x at this place, if x is an inode, and to the others as before.

@@ -1,6 +1,7 @@
 -- The pointers to data blocks of a file that one block above them has.
 use Rattle.std.specs.Prelude.{◌≡◌, ◌<◌, ◌≤◌, ◌⊎◌, ◌+◌, ◌-◌, ◌==◌, ℕ, not, length, filter, get_or, Option, Some, None, IfSome}
 use Rattle.std.specs.List.{range_with_len}
+use Rattle.lfs_model.specs.declared.limits.TheConstants.{FILE_BLOCKS}
 use Rattle.lfs_model.specs.Checkpoint.{CheckpointValue}
 use Rattle.lfs_model.specs.Device.{DeviceState}
 use Rattle.lfs_model.specs.Entry.{Inode}
@@ -31,7 +32,7 @@ blocks_in pointer from to = length (filter (λ i. not (pointer i == 0)) (range_w
 pub record IsPointer (d : DeviceState) (v : LogMemory) (n i pointer : ℕ) : Type 0 where
   pub some : 1 ≤ n
   pub there : 0 < address_in v.map n
-  pub low : i < 16624
+  pub low : i < FILE_BLOCKS
   pub value : d.keeps_model
       → pointer ≡ data_now d.content (blocks_of v.dirty) n (present d.content (blocks_of v.dirty) (Inode n) (address_in v.map n)) i
 
@@ -50,7 +51,7 @@ IsKeptFor (Some r) n i = IsInRun r n i
 
 -- file n has no block i, as its number tells or the index, or for there is no such file
 abbrev pub HasNoWay : LogMemory → ℕ → ℕ → Type 0
-HasNoWay v n i = (16624 ≤ i) ⊎ ((n ≡ 0) ⊎ (address_in v.map n ≡ 0))
+HasNoWay v n i = (FILE_BLOCKS ≤ i) ⊎ ((n ≡ 0) ⊎ (address_in v.map n ≡ 0))
 
 -- so many of its pointers from one on to another lead to a block
 pub record CountsRun (from end count : ℕ) (r : PointerRun) : Type 0 where

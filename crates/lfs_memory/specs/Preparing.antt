@@ -1,6 +1,7 @@
 -- What has to be in memory before a batch of changes: then these changes call no device.
 use Rattle.std.specs.Prelude.{◌≡◌, ◌<◌, ◌+◌, ◌-◌, ◌/◌, ◌==◌, ◌&&◌, ◌⊎◌, cond, nat_lt, ℕ, Bool, List, [], ◌∷◌, length, Option, Some, None}
 use Rattle.std.specs.List.{AllByRecursion}
+use Rattle.lfs_model.specs.declared.limits.TheConstants.{BLOCK_POINTERS, DIRECT_BLOCKS}
 use Rattle.lfs_model.specs.Checkpoint.{CheckpointValue}
 use Rattle.lfs_model.specs.Device.{DeviceState}
 use Rattle.lfs_model.specs.Entry.{Data, Inode}
@@ -16,7 +17,7 @@ use Rattle.lfs_memory.specs.Lifting.{IsInMemory}
 
 -- The block above data block i of file n is in memory, or the file isn't there and its inode will be that block.
 abbrev pub HasParent : LogMemory → ℕ → ℕ → Type 0
-HasParent v n i = HasAbove (blocks_of v.dirty) (Data n i) ⊎ ((address_in v.map n ≡ 0) × (i < 112))
+HasParent v n i = HasAbove (blocks_of v.dirty) (Data n i) ⊎ ((address_in v.map n ≡ 0) × (i < DIRECT_BLOCKS))
 
 abbrev pub AreBlocksReady : LogMemory → List BlockEdit → Type 0
 AreBlocksReady v edits = AllByRecursion (λ (e : BlockEdit). HasParent v e.number e.index) edits
@@ -37,7 +38,7 @@ LacksRoom v more = v.dirty.capacity.limit < length v.dirty.blocks + more
 
 -- the block above a data block, by its place in the file
 abbrev pub row_of : ℕ → ℕ
-row_of i = cond (nat_lt i 112) 0 (1 + (i - 112) / 128)
+row_of i = cond (nat_lt i DIRECT_BLOCKS) 0 (1 + (i - DIRECT_BLOCKS) / BLOCK_POINTERS)
 
 abbrev pub is_beside : BlockEdit → BlockEdit → Bool
 is_beside a b = (a.number == b.number) && (row_of a.index == row_of b.index)
@@ -58,7 +59,7 @@ ways edits = ways_from None edits
 
 -- a file that isn't there may get the blocks that its inode points to
 abbrev pub IsWithin : LogMap → ℕ → ℕ → Type 0
-IsWithin m n i = m.header n ≡ None → i < 112
+IsWithin m n i = m.header n ≡ None → i < DIRECT_BLOCKS
 
 abbrev pub AreWithin : LogMap → List BlockEdit → Type 0
 AreWithin m edits = AllByRecursion (λ (e : BlockEdit). IsWithin m e.number e.index) edits

@@ -1,5 +1,6 @@
 -- A file goes with all its blocks, whether it has a name or not.
 use Rattle.std.specs.Prelude.{◌≡◌, ◌<◌, ◌≤◌, ◌+◌, ◌/◌, ◌==◌, cond, not, nat_lt, ℕ, Bool, false, true, List, [], length, get_or, Some, None}
+use Rattle.lfs_model.specs.declared.limits.TheConstants.{BLOCK_SEGMENTS}
 use Rattle.lfs_model.specs.Checkpoint.{CheckpointValue}
 use Rattle.lfs_model.specs.Cutting.{LeavesOut}
 use Rattle.lfs_model.specs.Device.{DeviceState}
@@ -43,7 +44,7 @@ pub record TakesCounts (old new : UsageTable) (lives : Bool) (counts : ℕ → �
   pub kept : (s : ℕ) → kept_of new s ≡ kept_of old s
   pub last : new.last ≡ old.last
   pub address : (j : ℕ) → address_of new j ≡ address_of old j
-  pub changed : (s : ℕ) → 0 < counts s → stale_of new (s / 64) ≡ true
+  pub changed : (s : ℕ) → 0 < counts s → stale_of new (s / BLOCK_SEGMENTS) ≡ true
   pub stale : (j : ℕ) → stale_of new j ≡ false → stale_of old j ≡ false
   pub size : length new.segments ≡ length old.segments
   pub clean : clean_in new.segments ≡ clean_in old.segments

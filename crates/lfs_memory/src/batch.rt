@@ -1,5 +1,6 @@
 //! Changes of files that are asked for together.
 ghost use Rattle.std.specs.Prelude.{◌≡◌, ◌≤◌, length};
+ghost use Rattle.lfs_model.specs.declared.limits.TheConstants.{FILE_BLOCKS, LAST_BLOCK, LAST_NUMBER, SECTOR_LEN};
 
 use lfs_files::Header;
 use lfs_model::Kind;
@@ -10,7 +11,7 @@ pub struct HeaderEdit {
     pub number: u16,
     pub header: Header,
     ghost some: { 1 ≤ number },
-    ghost few: { number ≤ 4095 },
+    ghost few: { number ≤ LAST_NUMBER },
 }
 
 /// A data block of a file. One of zeros alone isn't stored.
@@ -20,9 +21,9 @@ pub struct BlockEdit {
     pub index: u32,
     pub bytes: [u8; 512],
     ghost some: { 1 ≤ number },
-    ghost few: { number ≤ 4095 },
-    ghost low: { index ≤ 16623 },
-    ghost long: { length bytes ≡ 512 },
+    ghost few: { number ≤ LAST_NUMBER },
+    ghost low: { index ≤ LAST_BLOCK },
+    ghost long: { length bytes ≡ SECTOR_LEN },
 }
 
 /// A file loses its blocks from this one on. Its header stays.
@@ -30,8 +31,8 @@ pub struct BlockEdit {
 pub struct Cut {
     pub number: u16,
     pub first: u32,
-    ghost few: { number ≤ 4095 },
-    ghost low: { first ≤ 16624 },
+    ghost few: { number ≤ LAST_NUMBER },
+    ghost low: { first ≤ FILE_BLOCKS },
 }
 
 /// A file that has a name loses it, and is in memory alone from then on.
@@ -44,14 +45,14 @@ pub struct LastLink {
     /// In bytes.
     pub size: u32,
     ghost some: { 1 ≤ number },
-    ghost few: { number ≤ 4095 },
+    ghost few: { number ≤ LAST_NUMBER },
 }
 
 /// A file goes with all its blocks.
 #[derive(Clone, Copy)]
 pub struct Removal {
     pub number: u16,
-    ghost few: { number ≤ 4095 },
+    ghost few: { number ≤ LAST_NUMBER },
 }
 
 /// What goes in a batch, before headers and blocks change.

@@ -1,11 +1,12 @@
 //! A batch of changes, staged whole or not at all.
 ghost use Rattle.std.specs.Prelude.{◌≡◌, ◌≤◌, ◌+◌, ◌*◌, [], length, IfOk, OnOk, OnErr};
+ghost use Rattle.lfs_memory.specs.Numbers.{IsFileNumber};
 ghost use Rattle.lfs_memory.specs.Batch.{IsNoChange, AddsHeaderEdit, AddsBlockEdit};
 ghost use Rattle.lfs_memory.specs.Preparing.{ways, way_from, is_beside, row_of};
 
 use crate::batch::{BlockEdit, HeaderEdit, Loss};
 use lfs_files::Header;
-use lfs_inodes::{DIRECT, POINTERS};
+use lfs_model::limits::{BLOCK_POINTERS, DIRECT_BLOCKS, LAST_BLOCK};
 use std::alloc::{AllocError, Global};
 
 /// The changes of one call: first what is lost, then headers, then blocks.
@@ -47,8 +48,7 @@ impl Changes {
     ///
     /// Where memory runs out.
     pub fn put_header(&mut self, number: u16, header: Header) -> Result<(), AllocError>
-        requires some { 1 ≤ number }
-        requires few { number ≤ 4095 }
+        requires number { IsFileNumber number }
         ensures done { OnOk result (AddsHeaderEdit self.old self.new number header) }
         ensures same { OnErr result (self.new.headers.items ≡ self.old.headers.items) }
         ensures blocks { self.new.blocks ≡ self.old.blocks }
@@ -69,9 +69,8 @@ impl Changes {
         index: u32,
         bytes: &[u8; 512],
     ) -> Result<(), AllocError>
-        requires some { 1 ≤ number }
-        requires few { number ≤ 4095 }
-        requires low { index ≤ 16623 }
+        requires number { IsFileNumber number }
+        requires low { index ≤ LAST_BLOCK }
         ensures done { OnOk result (AddsBlockEdit self.old self.new number index bytes.now) }
         ensures same { OnErr result (self.new.blocks.items ≡ self.old.blocks.items) }
         ensures headers { self.new.headers ≡ self.old.headers }
@@ -121,9 +120,9 @@ fn is_beside(a: &BlockEdit, b: &BlockEdit) -> bool
 fn row_of(index: u32) -> u32
     ensures { result ≡ row_of index }
 {
-    if index < DIRECT {
+    if index < DIRECT_BLOCKS {
         0
     } else {
-        1 + (index - DIRECT) / POINTERS
+        1 + (index - DIRECT_BLOCKS) / BLOCK_POINTERS
     }
 }

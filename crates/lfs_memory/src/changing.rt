@@ -6,13 +6,15 @@ ghost use Rattle.lfs_model.specs.Memory.{parent};
 ghost use Rattle.lfs_inodes.specs.Blocks.{blocks_of};
 ghost use Rattle.lfs_inodes.specs.Key.{entry_of};
 ghost use Rattle.lfs_inodes.specs.MapValue.{is_hidden_in};
+ghost use Rattle.lfs_memory.specs.Numbers.{IsFileNumber};
 ghost use Rattle.lfs_memory.specs.Changing.{ChangesBlock, ChangesHeader, Creates, Departs, Drops, Grows, HasAbove, IsBlockMiscounted, IsMiscounted, IsPointedIn, MakesBlock, Stores, Tightens};
 
 use crate::memory::LogMemory;
 use lfs_device::DeviceFault;
 use lfs_inodes::{BlockKey, DirtyTable, IN_MEMORY};
-use lfs_layout::{is_zero, set_header, word};
+use lfs_layout::{is_zero, segment_of, set_header, word};
 use lfs_model::Kind;
+use lfs_model::limits::{CHECKPOINT_SLOTS, FILE_NUMBERS, LAST_BLOCK, SECTOR_LEN};
 use lfs_segments::Usage;
 
 /// The pointer to a block, by the block above it in memory: 0 for no block, `IN_MEMORY` for one in
@@ -36,10 +38,10 @@ fn depart(usage: &mut Usage, address: u32, lives: bool) -> Result<(), DeviceFaul
     ensures miscounted { OnErr result (IsMiscounted usage.old address lives) }
     ensures same { OnErr result (usage.new ≡ usage.old) }
 {
-    if address < 2 {
+    if address < CHECKPOINT_SLOTS {
         return Ok(());
     }
-    let segment = (address - 2) / 64;
+    let segment = segment_of(address);
     if segment >= usage.segments() {
         return Err(DeviceFault);
     }
@@ -60,10 +62,10 @@ fn store_block(
     bytes: &[u8; 512],
 ) -> Result<(), DeviceFault>
     requires room { length memory.old.dirty.blocks < memory.old.dirty.capacity.limit }
-    ensures done { OnOk result (Stores memory.old memory.new (key.code / 32768 % 4096)
+    ensures done { OnOk result (Stores memory.old memory.new (key.code / 32768 % FILE_NUMBERS)
         (entry_of key) address bytes.now) }
     ensures miscounted { OnErr result (IsMiscounted memory.old.usage address
-        (not (is_hidden_in memory.old.map (key.code / 32768 % 4096)))) }
+        (not (is_hidden_in memory.old.map (key.code / 32768 % FILE_NUMBERS)))) }
     ensures same { OnErr result (memory.new ≡ memory.old) }
 {
     let lives = !memory.map.is_hidden(key.file());
@@ -78,10 +80,10 @@ fn store_block(
 
 /// A data block that this pointer leads to is there no more.
 fn drop_block(memory: &mut LogMemory, key: BlockKey, address: u32) -> Result<(), DeviceFault>
-    ensures done { OnOk result (Drops memory.old memory.new (key.code / 32768 % 4096) (entry_of key)
+    ensures done { OnOk result (Drops memory.old memory.new (key.code / 32768 % FILE_NUMBERS) (entry_of key)
         address) }
     ensures miscounted { OnErr result (IsMiscounted memory.old.usage address
-        (not (is_hidden_in memory.old.map (key.code / 32768 % 4096)))) }
+        (not (is_hidden_in memory.old.map (key.code / 32768 % FILE_NUMBERS)))) }
     ensures same { OnErr result (memory.new ≡ memory.old) }
 {
     if address == 0 {
@@ -101,9 +103,8 @@ fn put_block(
     address: u32,
     bytes: &[u8; 512],
 ) -> Result<(), DeviceFault>
-    requires some { 1 ≤ file }
-    requires file { file ≤ 4095 }
-    requires index { index ≤ 16623 }
+    requires number { IsFileNumber file }
+    requires index { index ≤ LAST_BLOCK }
     requires room { length memory.old.dirty.blocks < memory.old.dirty.capacity.limit }
     ensures done { OnOk result (MakesBlock memory.old memory.new file index address bytes.now) }
     ensures miscounted { OnErr result (IsMiscounted memory.old.usage address
@@ -131,9 +132,8 @@ pub fn change_block(
     index: u32,
     bytes: &[u8; 512],
 ) -> Result<(), DeviceFault>
-    requires some { 1 ≤ file }
-    requires file { file ≤ 4095 }
-    requires index { index ≤ 16623 }
+    requires number { IsFileNumber file }
+    requires index { index ≤ LAST_BLOCK }
     requires above { HasAbove (blocks_of memory.old.dirty) (Data file index) }
     requires room { length memory.old.dirty.blocks < memory.old.dirty.capacity.limit }
     ensures done { OnOk result (ChangesBlock memory.old memory.new file index bytes.now) }
@@ -146,8 +146,7 @@ pub fn change_block(
 
 /// The inode of a file, which is in memory, has this kind, form, number of links and size in bytes.
 pub fn change_header(memory: &mut LogMemory, file: u16, kind: Kind, form: u8, links: u32, size: u32)
-    requires some { 1 ≤ file }
-    requires file { file ≤ 4095 }
+    requires number { IsFileNumber file }
     requires there { (bytes : List ℕ) × (blocks_of memory.old.dirty (Inode file) ≡ Some bytes) }
     ensures { ChangesHeader memory.old memory.new file kind form links size }
 {
@@ -159,8 +158,7 @@ pub fn change_header(memory: &mut LogMemory, file: u16, kind: Kind, form: u8, li
 
 /// A file of this number is made. The caller knows that there is none.
 pub fn create(memory: &mut LogMemory, file: u16, kind: Kind, form: u8, links: u32, size: u32)
-    requires some { 1 ≤ file }
-    requires file { file ≤ 4095 }
+    requires number { IsFileNumber file }
     requires room { length memory.old.dirty.blocks < memory.old.dirty.capacity.limit }
     ensures { Creates memory.old memory.new file kind form links size }
 {
@@ -173,7 +171,7 @@ pub fn create(memory: &mut LogMemory, file: u16, kind: Kind, form: u8, links: u3
 
 #[tactic(auto, unfolding(lfs_model::specs::Fields::zeros))]
 fn no_bytes() -> [u8; 512]
-    ensures { result ≡ zeros 512 }
+    ensures { result ≡ zeros SECTOR_LEN }
 {
     [0; 512]
 }

@@ -1,5 +1,6 @@
 //! How many blocks of a file each segment holds.
 ghost use Rattle.std.specs.Prelude.{◌≡◌, ◌<◌, ◌≤◌, ◌+◌, IfOk, OnOk, OnErr, IsTrue, IsFalse, true, get_or, length};
+ghost use Rattle.lfs_memory.specs.Numbers.{IsFileNumber};
 ghost use Rattle.lfs_memory.specs.Present.{Looks, FailsFromDevice};
 ghost use Rattle.lfs_memory.specs.Counting.{IsBefore, CountsOne, IsOver, CountsWhere, IsNothing, CountsWords, AreNoWords, CountsLeaf, FailsLeaf, CountsLeaves, FailsLeaves, CountsDouble, FailsDouble, CountsInode, FailsInode, CountsPast, CountsFile};
 
@@ -7,23 +8,20 @@ use crate::memory::LogMemory;
 use crate::present::{read_inode, read_present};
 use lfs_cache::CachedDevice;
 use lfs_device::{DeviceFault, SectorDevice};
-use lfs_inodes::{BlockKey, DIRECT, POINTERS};
-use lfs_layout::word;
+use lfs_inodes::BlockKey;
+use lfs_layout::{DOUBLE_POINTER, FIRST_POINTER, SINGLE_POINTER, segment_of, word};
+use lfs_model::limits::{
+    BLOCK_POINTERS, CHECKPOINT_SLOTS, DIRECT_BLOCKS, FILE_NUMBERS, LAST_LEAF, MOST_SEGMENTS,
+    SEGMENT_SECTORS,
+};
 use std::alloc::{AllocError, Global};
 use std::marker::Model;
 
-/// The most segments that a volume has.
-const SEGMENTS: usize = 1_024;
+/// How many numbers there are, one for each segment that a volume may have.
+const SEGMENTS: usize = MOST_SEGMENTS as usize;
 
-/// How many sectors a segment has.
-const SECTORS: u16 = 64;
-
-/// The places of 4 bytes of an inode at which its pointers stand.
-pub(crate) const FIRST: usize = 8;
-
-pub(crate) const SINGLE: usize = 120;
-
-pub(crate) const DOUBLE: usize = 121;
+/// The most blocks that a segment has.
+const SECTORS: u16 = SEGMENT_SECTORS as u16;
 
 /// A number for each segment. Contracts see the list.
 #[derive(Drop)]
@@ -33,12 +31,13 @@ pub struct SegmentCounts {
 
 impl Model for SegmentCounts {
     ghost use Rattle.std.specs.Prelude.{◌≡◌, ℕ, List, length};
+    ghost use Rattle.lfs_model.specs.declared.limits.TheConstants.{MOST_SEGMENTS};
 
     ghost Value = { List ℕ };
 
     ghost view = { λ c. c.counts.items };
 
-    ghost invariant = { λ c. length c.counts.items ≡ 1024 };
+    ghost invariant = { λ c. length c.counts.items ≡ MOST_SEGMENTS };
 }
 
 impl SegmentCounts {
@@ -66,14 +65,14 @@ impl SegmentCounts {
     /// How many numbers there are.
     pub fn segments(&self) -> u32
         ensures value { result ≡ length self.now }
-        ensures most { result ≡ 1024 }
+        ensures most { result ≡ MOST_SEGMENTS }
     {
         self.counts.len() as u32
     }
 
     /// The number of a segment.
     pub fn count(&self, segment: u32) -> u16
-        requires { segment < 1024 }
+        requires { segment < MOST_SEGMENTS }
         ensures { result ≡ get_or self.now segment 0 }
     {
         self.counts[segment as usize]
@@ -85,10 +84,10 @@ impl SegmentCounts {
         ensures done { IsTrue result → CountsOne self.old self.new address }
         ensures over { IsFalse result → IsOver self.old address }
     {
-        if address < 2 {
+        if address < CHECKPOINT_SLOTS {
             return true;
         }
-        let segment = ((address - 2) / 64) as usize;
+        let segment = segment_of(address) as usize;
         if segment >= SEGMENTS {
             return false;
         }
@@ -128,7 +127,7 @@ fn count_words(
     start: usize,
     number: usize,
 ) -> Result<(), DeviceFault>
-    requires { start + number ≤ 128 }
+    requires { start + number ≤ BLOCK_POINTERS }
     ensures done { OnOk result (CountsWords block.now start number counts.old counts.new) }
     ensures failed { OnErr result (AreNoWords block.now start number counts.old) }
 {
@@ -151,9 +150,8 @@ fn count_leaf<D: SectorDevice>(
     first: u32,
     counts: &mut SegmentCounts,
 ) -> Result<(), DeviceFault>
-    requires some { 1 ≤ number }
-    requires number { number ≤ 4095 }
-    requires index { index ≤ 128 }
+    requires number { IsFileNumber number }
+    requires index { index ≤ LAST_LEAF }
     ensures done { OnOk result (CountsLeaf (D.state device.old) (D.state device.new) memory.now
         number index address first counts.old counts.new) }
     ensures failed { OnErr result (FailsLeaf (D.state device.old) (D.state device.new) memory.now
@@ -162,8 +160,12 @@ fn count_leaf<D: SectorDevice>(
         ≡ (D.state device.old).failures) }
     ensures looks { Looks (D.state device.old) (D.state device.new) }
 {
-    let start = pointers_before(first, DIRECT + POINTERS * index, POINTERS);
-    if start == POINTERS {
+    let start = pointers_before(
+        first,
+        DIRECT_BLOCKS + BLOCK_POINTERS * index,
+        BLOCK_POINTERS,
+    );
+    if start == BLOCK_POINTERS {
         return Ok(());
     }
     if address == 0 {
@@ -175,7 +177,12 @@ fn count_leaf<D: SectorDevice>(
     let mut leaf = [0; 512];
     let key = BlockKey::leaf(number, index);
     match read_present(device, memory, key, address, &mut leaf) {
-        Ok(()) => count_words(counts, &leaf, start as usize, (POINTERS - start) as usize),
+        Ok(()) => count_words(
+            counts,
+            &leaf,
+            start as usize,
+            (BLOCK_POINTERS - start) as usize,
+        ),
         Err(fault) => Err(fault),
     }
 }
@@ -190,17 +197,16 @@ fn count_leaves<D: SectorDevice>(
     first: u32,
     counts: &mut SegmentCounts,
 ) -> Result<(), DeviceFault>
-    requires some { 1 ≤ number }
-    requires number { number ≤ 4095 }
+    requires number { IsFileNumber number }
     ensures done { OnOk result (CountsLeaves (D.state device.old) (D.state device.new) memory.now
-        number root.now 128 first counts.old counts.new) }
+        number root.now BLOCK_POINTERS first counts.old counts.new) }
     ensures failed { OnErr result (FailsLeaves (D.state device.old) (D.state device.new) memory.now
-        number root.now 128 first counts.old) }
+        number root.now BLOCK_POINTERS first counts.old) }
     ensures no_failure { OnOk result ((D.state device.new).failures
         ≡ (D.state device.old).failures) }
     ensures looks { Looks (D.state device.old) (D.state device.new) }
 {
-    for index in 0..POINTERS {
+    for index in 0..BLOCK_POINTERS {
         let address = word(root, index as usize);
         count_leaf(device, memory, number, index + 1, address, first, counts)?;
     }
@@ -216,8 +222,7 @@ fn count_double<D: SectorDevice>(
     first: u32,
     counts: &mut SegmentCounts,
 ) -> Result<(), DeviceFault>
-    requires some { 1 ≤ number }
-    requires number { number ≤ 4095 }
+    requires number { IsFileNumber number }
     ensures done { OnOk result (CountsDouble (D.state device.old) (D.state device.new) memory.now
         number address first counts.old counts.new) }
     ensures failed { OnErr result (FailsDouble (D.state device.old) (D.state device.new) memory.now
@@ -246,8 +251,7 @@ fn count_inode<D: SectorDevice>(
     first: u32,
     counts: &mut SegmentCounts,
 ) -> Result<(), DeviceFault>
-    requires some { 1 ≤ number }
-    requires number { number ≤ 4095 }
+    requires number { IsFileNumber number }
     ensures done { OnOk result (CountsInode (D.state device.old) (D.state device.new) memory.now
         number inode.now first counts.old counts.new) }
     ensures failed { OnErr result (FailsInode (D.state device.old) (D.state device.new) memory.now
@@ -256,10 +260,15 @@ fn count_inode<D: SectorDevice>(
         ≡ (D.state device.old).failures) }
     ensures looks { Looks (D.state device.old) (D.state device.new) }
 {
-    let direct = pointers_before(first, 0, DIRECT) as usize;
-    let double = word(inode, DOUBLE);
-    count_words(counts, inode, FIRST + direct, DIRECT as usize - direct)?;
-    if !count_one(counts, double, first <= DIRECT + POINTERS) {
+    let direct = pointers_before(first, 0, DIRECT_BLOCKS) as usize;
+    let double = word(inode, DOUBLE_POINTER);
+    count_words(
+        counts,
+        inode,
+        FIRST_POINTER + direct,
+        DIRECT_BLOCKS as usize - direct,
+    )?;
+    if !count_one(counts, double, first <= DIRECT_BLOCKS + BLOCK_POINTERS) {
         return Err(DeviceFault);
     }
     count_leaf(
@@ -267,7 +276,7 @@ fn count_inode<D: SectorDevice>(
         memory,
         number,
         0,
-        word(inode, SINGLE),
+        word(inode, SINGLE_POINTER),
         first,
         counts,
     )?;
@@ -287,7 +296,7 @@ pub fn count_past<D: SectorDevice>(
     first: u32,
     counts: &mut SegmentCounts,
 ) -> Result<(), DeviceFault>
-    requires number { number < 4096 }
+    requires number { number < FILE_NUMBERS }
     ensures counted { OnOk result (CountsPast (D.state device.old) (D.state device.new) memory.now
         number first counts.new) }
     ensures failed { OnErr result (FailsFromDevice (D.state device.old)
@@ -315,7 +324,7 @@ pub fn count_file<D: SectorDevice>(
     number: u16,
     counts: &mut SegmentCounts,
 ) -> Result<(), DeviceFault>
-    requires number { number < 4096 }
+    requires number { number < FILE_NUMBERS }
     ensures counted { OnOk result (CountsFile (D.state device.old) (D.state device.new) memory.now
         number counts.new) }
     ensures failed { OnErr result (FailsFromDevice (D.state device.old)

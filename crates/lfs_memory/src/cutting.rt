@@ -4,6 +4,7 @@ ghost use Rattle.lfs_model.specs.Entry.{Inode, Leaf};
 ghost use Rattle.lfs_model.specs.Memory.{parent};
 ghost use Rattle.lfs_inodes.specs.Blocks.{blocks_of};
 ghost use Rattle.lfs_inodes.specs.MapValue.{is_hidden_in};
+ghost use Rattle.lfs_memory.specs.Numbers.{IsFileNumber};
 ghost use Rattle.lfs_memory.specs.Memory.{IsMemory};
 ghost use Rattle.lfs_memory.specs.Present.{Looks, FailsFromDevice};
 ghost use Rattle.lfs_memory.specs.Lifting.{IsInMemory, Prepares};
@@ -11,16 +12,18 @@ ghost use Rattle.lfs_memory.specs.Removing.{AreCovered};
 ghost use Rattle.lfs_memory.specs.Counting.{CountsPast};
 ghost use Rattle.lfs_memory.specs.Cutting.{IsCutLeaf, IsLiftedIfStored, HasEdge, KeepsOfInode, KeepsOfRoot, ClearsLeaf, ClearsPointers, DropsPast, Cuts};
 
-use crate::counting::{FIRST, SegmentCounts, count_past};
+use crate::counting::{SegmentCounts, count_past};
 use crate::lifting::{LiftFault, lift_child, lift_inode};
 use crate::memory::LogMemory;
 use crate::removing::{are_covered, take_counts};
 use lfs_cache::CachedDevice;
 use lfs_device::{DeviceFault, SectorDevice};
-use lfs_inodes::{BlockKey, DIRECT, DirtyTable, POINTERS};
+use lfs_inodes::{BlockKey, DirtyTable};
+use lfs_layout::FIRST_POINTER;
+use lfs_model::limits::{BLOCK_POINTERS, DIRECT_BLOCKS, FILE_BLOCKS, FILE_NUMBERS};
 
 /// How many pointers an inode has: to data blocks, to the single leaf and to the double root.
-const ALL: u32 = DIRECT + 2;
+const ALL: u32 = DIRECT_BLOCKS + 2;
 
 /// Brings the leaf of which a part stays into memory, if there is one that is stored. The block
 /// above it is there.
@@ -35,9 +38,8 @@ fn lift_part<D: SectorDevice>(
     first: u32,
 ) -> Result<(), LiftFault>
     requires memory { IsMemory memory.old }
-    requires some { 1 ≤ number }
-    requires number { number < 4096 }
-    requires first { first ≤ 16624 }
+    requires number { IsFileNumber number }
+    requires first { first ≤ FILE_BLOCKS }
     requires above { (q : ℕ) → IsCutLeaf first q → IsInMemory memory.old (parent (Leaf number q)) }
     ensures prepares { Prepares (D.state device.old) (D.state device.new) memory.old memory.new 1 }
     ensures leaf { OnOk result ((q : ℕ) → IsCutLeaf first q
@@ -49,13 +51,13 @@ fn lift_part<D: SectorDevice>(
     ensures no_failure { OnOk result ((D.state device.new).failures
         ≡ (D.state device.old).failures) }
 {
-    if first <= DIRECT {
+    if first <= DIRECT_BLOCKS {
         return Ok(());
     }
-    if (first - DIRECT) % POINTERS == 0 {
+    if (first - DIRECT_BLOCKS) % BLOCK_POINTERS == 0 {
         return Ok(());
     }
-    let leaf = BlockKey::leaf(number, (first - DIRECT) / POINTERS);
+    let leaf = BlockKey::leaf(number, (first - DIRECT_BLOCKS) / BLOCK_POINTERS);
     match lift_child(device, memory, leaf) {
         Ok(_) => Ok(()),
         Err(fault) => Err(fault),
@@ -75,9 +77,8 @@ fn lift_edge<D: SectorDevice>(
     first: u32,
 ) -> Result<(), LiftFault>
     requires memory { IsMemory memory.old }
-    requires some { 1 ≤ number }
-    requires number { number < 4096 }
-    requires first { first ≤ 16624 }
+    requires number { IsFileNumber number }
+    requires first { first ≤ FILE_BLOCKS }
     requires above { IsInMemory memory.old (Inode number) }
     ensures prepares { Prepares (D.state device.old) (D.state device.new) memory.old memory.new 2 }
     ensures edge { OnOk result (HasEdge memory.new number first) }
@@ -88,7 +89,7 @@ fn lift_edge<D: SectorDevice>(
     ensures no_failure { OnOk result ((D.state device.new).failures
         ≡ (D.state device.old).failures) }
 {
-    if first <= DIRECT + POINTERS {
+    if first <= DIRECT_BLOCKS + BLOCK_POINTERS {
         return lift_part(device, memory, number, first);
     }
     match lift_child(device, memory, BlockKey::double(number)) {
@@ -102,48 +103,46 @@ fn lift_edge<D: SectorDevice>(
 fn kept_of_inode(first: u32) -> u32
     ensures { KeepsOfInode first result }
 {
-    if first <= DIRECT {
+    if first <= DIRECT_BLOCKS {
         return first;
     }
-    if first <= DIRECT + POINTERS {
-        return DIRECT + 1;
+    if first <= DIRECT_BLOCKS + BLOCK_POINTERS {
+        return DIRECT_BLOCKS + 1;
     }
     ALL
 }
 
 /// How many of the pointers of a double root don't lead to what goes.
 fn kept_of_root(first: u32) -> u32
-    requires { first ≤ 16624 }
+    requires { first ≤ FILE_BLOCKS }
     ensures { KeepsOfRoot first result }
 {
-    (first.saturating_sub(DIRECT + POINTERS) + POINTERS - 1) / POINTERS
+    (first.saturating_sub(DIRECT_BLOCKS + BLOCK_POINTERS) + BLOCK_POINTERS - 1) / BLOCK_POINTERS
 }
 
 /// The leaf of which a part stays leads to none of what goes, if it is in memory.
 fn clear_leaf(dirty: &mut DirtyTable, number: u16, first: u32)
-    requires some { 1 ≤ number }
-    requires number { number ≤ 4095 }
-    requires first { first ≤ 16624 }
+    requires number { IsFileNumber number }
+    requires first { first ≤ FILE_BLOCKS }
     ensures clears { ClearsLeaf (blocks_of dirty.old) (blocks_of dirty.new) number first }
     ensures length { length dirty.new.blocks ≡ length dirty.old.blocks }
     ensures capacity { dirty.new.capacity ≡ dirty.old.capacity }
 {
-    if first <= DIRECT {
+    if first <= DIRECT_BLOCKS {
         return;
     }
-    let kept = (first - DIRECT) % POINTERS;
+    let kept = (first - DIRECT_BLOCKS) % BLOCK_POINTERS;
     if kept == 0 {
         return;
     }
-    let leaf = BlockKey::leaf(number, (first - DIRECT) / POINTERS);
-    dirty.clear_words(leaf, kept as usize, (POINTERS - kept) as usize);
+    let leaf = BlockKey::leaf(number, (first - DIRECT_BLOCKS) / BLOCK_POINTERS);
+    dirty.clear_words(leaf, kept as usize, (BLOCK_POINTERS - kept) as usize);
 }
 
 /// The blocks of the file that are in memory lead to none of what goes.
 fn clear_pointers(dirty: &mut DirtyTable, number: u16, first: u32)
-    requires some { 1 ≤ number }
-    requires number { number ≤ 4095 }
-    requires first { first ≤ 16624 }
+    requires number { IsFileNumber number }
+    requires first { first ≤ FILE_BLOCKS }
     ensures clears { ClearsPointers (blocks_of dirty.old) (blocks_of dirty.new) number first }
     ensures length { length dirty.new.blocks ≡ length dirty.old.blocks }
     ensures capacity { dirty.new.capacity ≡ dirty.old.capacity }
@@ -151,23 +150,22 @@ fn clear_pointers(dirty: &mut DirtyTable, number: u16, first: u32)
     let kept = kept_of_inode(first);
     dirty.clear_words(
         BlockKey::inode(number),
-        FIRST + kept as usize,
+        FIRST_POINTER + kept as usize,
         (ALL - kept) as usize,
     );
     let leaves = kept_of_root(first);
     dirty.clear_words(
         BlockKey::double(number),
         leaves as usize,
-        (POINTERS - leaves) as usize,
+        (BLOCK_POINTERS - leaves) as usize,
     );
     clear_leaf(dirty, number, first);
 }
 
 /// The blocks of a file from one on, so many in each segment, leave memory and the tables.
 fn drop_past(memory: &mut LogMemory, number: u16, first: u32, lives: bool, counts: &SegmentCounts)
-    requires some { 1 ≤ number }
-    requires number { number ≤ 4095 }
-    requires first { first ≤ 16624 }
+    requires number { IsFileNumber number }
+    requires first { first ≤ FILE_BLOCKS }
     requires covered { AreCovered memory.old.usage lives counts.now }
     ensures { DropsPast memory.old memory.new number first lives counts.now }
 {
@@ -188,9 +186,8 @@ fn drop_counted<D: SectorDevice>(
     first: u32,
     counts: &mut SegmentCounts,
 ) -> Result<(), DeviceFault>
-    requires some { 1 ≤ number }
-    requires number { number ≤ 4095 }
-    requires first { first ≤ 16624 }
+    requires number { IsFileNumber number }
+    requires first { first ≤ FILE_BLOCKS }
     ensures looks { Looks (D.state device.old) (D.state device.new) }
     ensures counted { OnOk result (CountsPast (D.state device.old) (D.state device.new) memory.old
         number first counts.new) }
@@ -229,8 +226,8 @@ pub fn cut_file<D: SectorDevice>(
     counts: &mut SegmentCounts,
 ) -> Result<(), LiftFault>
     requires memory { IsMemory memory.old }
-    requires number { number < 4096 }
-    requires first { first ≤ 16624 }
+    requires number { number < FILE_NUMBERS }
+    requires first { first ≤ FILE_BLOCKS }
     ensures cuts { OnOk result (Cuts (D.state device.old) (D.state device.new) memory.old memory.new
         number first) }
     ensures prepares { OnErr result (Prepares (D.state device.old) (D.state device.new) memory.old

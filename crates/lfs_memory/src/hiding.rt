@@ -1,6 +1,7 @@
 //! A file loses its last link, and stays for as long as it is open.
 ghost use Rattle.std.specs.Prelude.{◌≡◌, ◌<◌, ◌≤◌, true, length, OnOk, OnErr, IsErrOf};
 ghost use Rattle.lfs_model.specs.Entry.{Inode};
+ghost use Rattle.lfs_memory.specs.Numbers.{IsFileNumber};
 ghost use Rattle.lfs_memory.specs.Memory.{IsMemory};
 ghost use Rattle.lfs_memory.specs.Lifting.{IsInMemory, Prepares};
 ghost use Rattle.lfs_memory.specs.Removing.{AreCovered, counts_in};
@@ -38,8 +39,7 @@ fn drop_links(
     size: u32,
     counts: &SegmentCounts,
 )
-    requires some { 1 ≤ number }
-    requires number { number < 4096 }
+    requires number { IsFileNumber number }
     requires there { IsInMemory memory.old (Inode number) }
     requires covered { AreCovered memory.old.usage true counts.now }
     ensures { LosesLinks memory.old memory.new number kind form size counts.now }
@@ -68,8 +68,7 @@ pub fn hide_file<D: SectorDevice>(
     counts: &mut SegmentCounts,
 ) -> Result<(), LiftFault>
     requires memory { IsMemory memory.old }
-    requires some { 1 ≤ number }
-    requires number { number < 4096 }
+    requires number { IsFileNumber number }
     ensures hides { OnOk result (Hides (D.state device.old) (D.state device.new) memory.old
         memory.new number kind form size) }
     ensures no_failure { OnOk result ((D.state device.new).failures

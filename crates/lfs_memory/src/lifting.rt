@@ -1,22 +1,24 @@
 //! Blocks come into memory so that they may change.
 ghost use Rattle.std.specs.Prelude.{◌≡◌, ◌<◌, ◌≤◌, ◌⊎◌, ◌↔◌, ◌/◌, ℕ, [], false, length, None, IsTrue, IsFalse, OnOk, OnErr, IfOk, IsErrOf};
-ghost use Rattle.lfs_model.specs.Entry.{Inode, Leaf, Data};
+ghost use Rattle.lfs_model.specs.Entry.{Inode};
 ghost use Rattle.lfs_model.specs.Memory.{parent};
 ghost use Rattle.lfs_model.specs.Running.{IsSet};
 ghost use Rattle.lfs_model.specs.Staging.{IsAtAddress};
 ghost use Rattle.lfs_inodes.specs.Key.{entry_of};
 ghost use Rattle.lfs_inodes.specs.Blocks.{blocks_of};
 ghost use Rattle.lfs_inodes.specs.MapValue.{address_in, is_hidden_in, block_in};
+ghost use Rattle.lfs_memory.specs.Numbers.{IsFileNumber};
 ghost use Rattle.lfs_memory.specs.Memory.{IsMemory, tables_of};
-ghost use Rattle.lfs_memory.specs.Present.{FailsFromDevice, AnswersBlock};
-ghost use Rattle.lfs_memory.specs.Lifting.{IsInMemory, Prepares, Gathers, IsCountedAbove, Brings, MapLifts, IsMapLost, IsAbsent, IsLeafAbsent};
+ghost use Rattle.lfs_memory.specs.Present.{FailsFromDevice};
+ghost use Rattle.lfs_memory.specs.Lifting.{IsInMemory, Prepares, Gathers, IsCountedAbove, Brings, MapLifts, IsMapLost, IsAbsent};
 
 use crate::memory::LogMemory;
 use lfs_cache::CachedDevice;
 use lfs_device::{DeviceFault, SectorDevice};
-use lfs_inodes::{BlockKey, DIRECT, IN_MEMORY, InodeMap, POINTERS};
-use lfs_layout::word;
+use lfs_inodes::{BlockKey, IN_MEMORY, InodeMap};
+use lfs_layout::{segment_of, word};
 use lfs_model::BlockKind;
+use lfs_model::limits::{CHECKPOINT_SLOTS, FILE_NUMBERS, MAP_BLOCKS};
 use lfs_segments::Usage;
 
 /// Whether a block at this address is counted, among those that live in its segment or those that
@@ -24,10 +26,10 @@ use lfs_segments::Usage;
 pub fn is_counted(usage: &Usage, address: u32, lives: bool) -> bool
     ensures { IsTrue result ↔ IsCountedAbove usage.now address lives }
 {
-    if address < 2 {
+    if address < CHECKPOINT_SLOTS {
         return false;
     }
-    let segment = (address - 2) / 64;
+    let segment = segment_of(address);
     if segment >= usage.segments() {
         return false;
     }
@@ -45,7 +47,7 @@ pub fn is_counted(usage: &Usage, address: u32, lives: bool) -> bool
 ///
 /// Where it isn't counted at its address.
 pub fn lift_map(memory: &mut LogMemory, index: usize) -> Result<(), DeviceFault>
-    requires index { index < 32 }
+    requires index { index < MAP_BLOCKS }
     ensures done { OnOk result (MapLifts memory.old memory.new index) }
     ensures same { OnErr result (memory.new ≡ memory.old) }
     ensures lost { OnErr result (IsMapLost memory.old index) }
@@ -54,11 +56,11 @@ pub fn lift_map(memory: &mut LogMemory, index: usize) -> Result<(), DeviceFault>
     if address == IN_MEMORY {
         return Ok(());
     }
-    if address >= 2 {
+    if address >= CHECKPOINT_SLOTS {
         if !is_counted(&memory.usage, address, true) {
             return Err(DeviceFault);
         }
-        memory.usage.lift((address - 2) / 64, true);
+        memory.usage.lift(segment_of(address), true);
     }
     memory.map.set_block_address(index, IN_MEMORY);
     Ok(())
@@ -70,7 +72,7 @@ pub fn lift_map(memory: &mut LogMemory, index: usize) -> Result<(), DeviceFault>
 ///
 /// As those of `lift_map`.
 pub(crate) fn lift_map_of(memory: &mut LogMemory, number: u16) -> Result<(), DeviceFault>
-    requires number { number < 4096 }
+    requires number { number < FILE_NUMBERS }
     ensures done { OnOk result ((memory.new ≡ memory.old)
         ⊎ MapLifts memory.old memory.new (number / 128)) }
     ensures mapped { OnOk result (is_hidden_in memory.new.map number ≡ false
@@ -93,7 +95,7 @@ pub fn bring(memory: &mut LogMemory, key: BlockKey, address: u32, lives: bool, b
     requires room { length memory.old.dirty.blocks < memory.old.dirty.capacity.limit }
     ensures { Brings memory.old memory.new (entry_of key) address lives bytes.now }
 {
-    memory.usage.lift((address - 2) / 64, lives);
+    memory.usage.lift(segment_of(address), lives);
     memory.dirty.fetch(key, bytes);
     mark(&mut memory.map, key);
 }
@@ -188,7 +190,7 @@ pub fn lift_inode<D: SectorDevice>(
     number: u16,
 ) -> Result<bool, LiftFault>
     requires memory { IsMemory memory.old }
-    requires number { number < 4096 }
+    requires number { number < FILE_NUMBERS }
     ensures prepares { Prepares (D.state device.old) (D.state device.new) memory.old memory.new 1 }
     ensures gathers { Gathers (D.state device.old) (D.state device.new) memory.old memory.new }
     ensures inside { IfOk result (λ found. IsTrue found
@@ -283,85 +285,4 @@ pub fn lift_child<D: SectorDevice>(
         Ok(()) => Ok(true),
         Err(fault) => Err(fault),
     }
-}
-
-/// Brings a leaf of pointers of a file into memory, and the double root above it, where they are
-/// stored. The inode is there.
-///
-/// # Errors
-///
-/// As those of `lift`.
-pub fn lift_leaf<D: SectorDevice>(
-    device: &mut CachedDevice<D>,
-    memory: &mut LogMemory,
-    number: u16,
-    index: u32,
-) -> Result<bool, LiftFault>
-    requires memory { IsMemory memory.old }
-    requires some { 1 ≤ number }
-    requires number { number < 4096 }
-    requires index { index ≤ 128 }
-    requires above { IsInMemory memory.old (Inode number) }
-    ensures prepares { Prepares (D.state device.old) (D.state device.new) memory.old memory.new 2 }
-    ensures gathers { Gathers (D.state device.old) (D.state device.new) memory.old memory.new }
-    ensures inside { IfOk result (λ found. IsTrue found
-        → IsInMemory memory.new (Leaf number index)) }
-    ensures absent { IfOk result (λ found. IsFalse found
-        → IsLeafAbsent (D.state device.old) (D.state device.new) memory.old number index) }
-    ensures full { IsErrOf result LiftFault.Full
-        → memory.new.dirty.capacity.limit ≤ length memory.new.dirty.blocks }
-    ensures failed { IsErrOf result LiftFault.Device
-        → FailsFromDevice (D.state device.old) (D.state device.new) memory.old }
-    ensures no_failure { OnOk result ((D.state device.new).failures
-        ≡ (D.state device.old).failures) }
-{
-    let leaf = BlockKey::leaf(number, index);
-    if index == 0 {
-        return lift_child(device, memory, leaf);
-    }
-    match lift_child(device, memory, BlockKey::double(number)) {
-        Ok(true) => {}
-        Ok(false) => return Ok(false),
-        Err(fault) => return Err(fault),
-    }
-    lift_child(device, memory, leaf)
-}
-
-/// Brings the inode of a file into memory, and the blocks of pointers on the way to a data block,
-/// where they are stored: whether all of them are there then.
-///
-/// # Errors
-///
-/// As those of `lift`.
-pub fn lift_way<D: SectorDevice>(
-    device: &mut CachedDevice<D>,
-    memory: &mut LogMemory,
-    number: u16,
-    index: u32,
-) -> Result<bool, LiftFault>
-    requires memory { IsMemory memory.old }
-    requires number { number < 4096 }
-    requires index { index ≤ 16623 }
-    ensures prepares { Prepares (D.state device.old) (D.state device.new) memory.old memory.new 3 }
-    ensures gathers { Gathers (D.state device.old) (D.state device.new) memory.old memory.new }
-    ensures inside { IfOk result (λ found. IsTrue found
-        → (1 ≤ number) × IsInMemory memory.new (parent (Data number index))) }
-    ensures absent { IfOk result (λ found. IsFalse found
-        → AnswersBlock (D.state device.old) (D.state device.new) memory.old number index [] false) }
-    ensures full { IsErrOf result LiftFault.Full
-        → memory.new.dirty.capacity.limit ≤ length memory.new.dirty.blocks }
-    ensures failed { IsErrOf result LiftFault.Device
-        → FailsFromDevice (D.state device.old) (D.state device.new) memory.old }
-    ensures no_failure { OnOk result ((D.state device.new).failures
-        ≡ (D.state device.old).failures) }
-{
-    match lift_inode(device, memory, number) {
-        Ok(true) => {}
-        Ok(false) => return Ok(false),
-        Err(fault) => return Err(fault),
-    }
-    if index < DIRECT {
-        return Ok(true);
-    }
-    lift_leaf(device, memory, number, (index - DIRECT) / POINTERS)
 }

@@ -6,8 +6,7 @@ ghost use Rattle.lfs_memory.specs.Memory.{IsMemory, IsPointedAt, Places, room_of
 ghost use Rattle.lfs_segments.specs.Table.{clean_in};
 ghost use Rattle.lfs_segments.specs.Chunk.{due_in};
 
-use crate::present::header_of;
-use lfs_inodes::{BlockKey, DirtyTable, InodeMap};
+use lfs_inodes::{BlockKey, DirtyTable, InodeMap, header_of};
 use lfs_layout::BlockName;
 use lfs_model::{BlockKind, Kind};
 use lfs_segments::{ChunkWriter, Usage};

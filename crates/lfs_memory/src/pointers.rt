@@ -5,16 +5,19 @@ ghost use Rattle.lfs_inodes.specs.Blocks.{blocks_of};
 ghost use Rattle.lfs_inodes.specs.Key.{entry_of};
 ghost use Rattle.lfs_inodes.specs.MapValue.{address_in};
 ghost use Rattle.lfs_model.specs.Fields.{zeros};
+ghost use Rattle.lfs_memory.specs.Numbers.{IsFileNumber};
 ghost use Rattle.lfs_memory.specs.Present.{Looks, FailsFromDevice, AnswersAddress, AnswersBlock};
 ghost use Rattle.lfs_memory.specs.Pointers.{IsInRun, IsRunOf, IsKeptFor, HasNoWay, KeepsRun, CountsRun, AnswersCount, pointer_in, blocks_in};
 
 use crate::memory::LogMemory;
-use crate::present::{MOST_INDEX, copy_present, inode_pointer, locate_block, present_word};
+use crate::present::{copy_present, inode_pointer, locate_block, present_word};
 use lfs_cache::CachedDevice;
 use lfs_device::{DeviceFault, SectorDevice};
-use lfs_inodes::{
-    BlockKey, DIRECT, FIRST, IN_MEMORY, POINTERS, Pointers, first_of_leaf, leaf_pointers,
-    present_pointers,
+use lfs_inodes::{BlockKey, IN_MEMORY, Pointers, first_of_leaf, leaf_pointers, present_pointers};
+use lfs_layout::FIRST_POINTER;
+use lfs_model::limits::{
+    BLOCK_POINTERS, DIRECT_BLOCKS, FILE_BLOCKS, FILE_NUMBERS, FIRST_DOUBLE, LAST_BLOCK, LAST_LEAF,
+    SECTOR_LEN,
 };
 
 /// The pointers of one block of a file to the data blocks below it: those of its inode, or those of
@@ -96,12 +99,11 @@ fn read_inode_run<D: SectorDevice>(
     number: u16,
     address: u32,
 ) -> Result<PointerRun, DeviceFault>
-    requires some { 1 ≤ number }
-    requires number { number < 4096 }
+    requires number { IsFileNumber number }
     requires address { address ≡ address_in memory.now.map number }
     requires there { 0 < address }
     ensures read { IfOk result (IsRunOf (D.state device.new) memory.now) }
-    ensures from { IfOk result (λ run. (index : ℕ) → 0 ≤ index → index < 112
+    ensures from { IfOk result (λ run. (index : ℕ) → 0 ≤ index → index < DIRECT_BLOCKS
         → IsInRun run number index) }
     ensures failed { OnErr result (FailsFromDevice (D.state device.old)
         (D.state device.new) memory.now) }
@@ -117,8 +119,8 @@ fn read_inode_run<D: SectorDevice>(
         Ok(pointers) => Ok(PointerRun {
             number,
             first: 0,
-            len: DIRECT,
-            place: FIRST,
+            len: DIRECT_BLOCKS,
+            place: FIRST_POINTER as u32,
             pointers,
         }),
         Err(_) => Err(DeviceFault),
@@ -133,14 +135,13 @@ fn read_leaf_run<D: SectorDevice>(
     address: u32,
     leaf: u32,
 ) -> Result<PointerRun, DeviceFault>
-    requires some { 1 ≤ number }
-    requires number { number < 4096 }
+    requires number { IsFileNumber number }
     requires address { address ≡ address_in memory.now.map number }
     requires there { 0 < address }
-    requires leaf { leaf ≤ 128 }
+    requires leaf { leaf ≤ LAST_LEAF }
     ensures read { IfOk result (IsRunOf (D.state device.new) memory.now) }
-    ensures from { IfOk result (λ run. (index : ℕ) → 112 + 128 * leaf ≤ index
-        → index < 240 + 128 * leaf → IsInRun run number index) }
+    ensures from { IfOk result (λ run. (index : ℕ) → DIRECT_BLOCKS + BLOCK_POINTERS * leaf ≤ index
+        → index < FIRST_DOUBLE + BLOCK_POINTERS * leaf → IsInRun run number index) }
     ensures failed { OnErr result (FailsFromDevice (D.state device.old)
         (D.state device.new) memory.now) }
     ensures no_failure { OnOk result ((D.state device.new).failures
@@ -155,8 +156,8 @@ fn read_leaf_run<D: SectorDevice>(
     match leaf_pointers(device, &memory.dirty, number, first, leaf) {
         Ok(pointers) => Ok(PointerRun {
             number,
-            first: DIRECT + POINTERS * leaf,
-            len: POINTERS,
+            first: DIRECT_BLOCKS + BLOCK_POINTERS * leaf,
+            len: BLOCK_POINTERS,
             place: 0,
             pointers,
         }),
@@ -172,11 +173,10 @@ fn read_run<D: SectorDevice>(
     address: u32,
     index: u32,
 ) -> Result<PointerRun, DeviceFault>
-    requires some { 1 ≤ number }
-    requires number { number < 4096 }
+    requires number { IsFileNumber number }
     requires address { address ≡ address_in memory.now.map number }
     requires there { 0 < address }
-    requires index { index < 16624 }
+    requires index { index < FILE_BLOCKS }
     ensures read { IfOk result (IsRunOf (D.state device.new) memory.now) }
     ensures from { IfOk result (λ run. IsInRun run number index) }
     ensures failed { OnErr result (FailsFromDevice (D.state device.old)
@@ -185,10 +185,10 @@ fn read_run<D: SectorDevice>(
         ≡ (D.state device.old).failures) }
     ensures looks { Looks (D.state device.old) (D.state device.new) }
 {
-    if index < DIRECT {
+    if index < DIRECT_BLOCKS {
         return read_inode_run(device, memory, number, address);
     }
-    let leaf = (index - DIRECT) / POINTERS;
+    let leaf = (index - DIRECT_BLOCKS) / BLOCK_POINTERS;
     read_leaf_run(device, memory, number, address, leaf)
 }
 
@@ -200,7 +200,7 @@ fn find_run<D: SectorDevice>(
     number: u16,
     index: u32,
 ) -> Result<Option<PointerRun>, DeviceFault>
-    requires number { number < 4096 }
+    requires number { number < FILE_NUMBERS }
     ensures read { IfOk result (KeepsRun (D.state device.new) memory.now) }
     ensures from { IfOk result (λ found. IfSome found (λ run. IsInRun run number index)) }
     ensures none { IfOk result (λ found. IfNone found (HasNoWay memory.now number index)) }
@@ -210,7 +210,7 @@ fn find_run<D: SectorDevice>(
         ≡ (D.state device.old).failures) }
     ensures looks { Looks (D.state device.old) (D.state device.new) }
 {
-    if index > MOST_INDEX {
+    if index > LAST_BLOCK {
         return Ok(None);
     }
     let address = inode_pointer(memory, number);
@@ -242,7 +242,7 @@ fn keep_run<D: SectorDevice>(
     number: u16,
     index: u32,
 ) -> Result<bool, DeviceFault>
-    requires number { number < 4096 }
+    requires number { number < FILE_NUMBERS }
     requires kept { KeepsRun (D.state device.old) memory.now kept.old }
     ensures kept { KeepsRun (D.state device.new) memory.now kept.new }
     ensures from { IfOk result (λ found. IsTrue found → IsKeptFor kept.new number index) }
@@ -290,12 +290,12 @@ pub fn find_block<D: SectorDevice>(
     number: u16,
     index: u32,
 ) -> Result<u32, DeviceFault>
-    requires number { number < 4096 }
+    requires number { number < FILE_NUMBERS }
     requires kept { KeepsRun (D.state device.old) memory.now kept.now }
     ensures kept { KeepsRun (D.state device.new) memory.now kept.now }
     ensures answer { IfOk result (AnswersAddress (D.state device.old) (D.state device.new)
         memory.now (Data number index)) }
-    ensures some { IfOk result (λ address. (1 ≤ address) → (1 ≤ number) × (index ≤ 16623)) }
+    ensures some { IfOk result (λ address. (1 ≤ address) → (1 ≤ number) × (index ≤ LAST_BLOCK)) }
     ensures failed { OnErr result (FailsFromDevice (D.state device.old)
         (D.state device.new) memory.now) }
     ensures no_failure { OnOk result ((D.state device.new).failures
@@ -317,12 +317,12 @@ fn find_by_run<D: SectorDevice>(
     number: u16,
     index: u32,
 ) -> Result<u32, DeviceFault>
-    requires number { number < 4096 }
+    requires number { number < FILE_NUMBERS }
     requires kept { KeepsRun (D.state device.old) memory.now kept.old }
     ensures kept { KeepsRun (D.state device.new) memory.now kept.new }
     ensures answer { IfOk result (AnswersAddress (D.state device.old) (D.state device.new)
         memory.now (Data number index)) }
-    ensures some { IfOk result (λ address. (1 ≤ address) → (1 ≤ number) × (index ≤ 16623)) }
+    ensures some { IfOk result (λ address. (1 ≤ address) → (1 ≤ number) × (index ≤ LAST_BLOCK)) }
     ensures failed { OnErr result (FailsFromDevice (D.state device.old)
         (D.state device.new) memory.now) }
     ensures no_failure { OnOk result ((D.state device.new).failures
@@ -349,12 +349,12 @@ pub fn read_block<D: SectorDevice>(
     index: u32,
     out: &mut [u8; 512],
 ) -> Result<bool, DeviceFault>
-    requires number { number < 4096 }
+    requires number { number < FILE_NUMBERS }
     requires kept { KeepsRun (D.state device.old) memory.now kept.old }
     ensures kept { KeepsRun (D.state device.new) memory.now kept.new }
     ensures answer { IfOk result (AnswersBlock (D.state device.old) (D.state device.new) memory.now
         number index out.new) }
-    ensures zeros { IfOk result (λ found. IsFalse found → out.new ≡ zeros 512) }
+    ensures zeros { IfOk result (λ found. IsFalse found → out.new ≡ zeros SECTOR_LEN) }
     ensures failed { OnErr result (FailsFromDevice (D.state device.old)
         (D.state device.new) memory.now) }
     ensures no_failure { OnOk result ((D.state device.new).failures
@@ -375,7 +375,7 @@ pub fn read_block<D: SectorDevice>(
 
 #[tactic(auto, unfolding(lfs_model::specs::Fields::zeros))]
 fn clear(out: &mut [u8; 512])
-    ensures { out.new ≡ zeros 512 }
+    ensures { out.new ≡ zeros SECTOR_LEN }
 {
     *out = [0; 512];
 }
@@ -408,7 +408,7 @@ fn count_part<D: SectorDevice>(
     from: u32,
     to: u32,
 ) -> Result<(u32, u32), DeviceFault>
-    requires number { number < 4096 }
+    requires number { number < FILE_NUMBERS }
     requires order { from < to }
     requires kept { KeepsRun (D.state device.old) memory.now kept.old }
     ensures kept { KeepsRun (D.state device.new) memory.now kept.new }
@@ -443,7 +443,7 @@ pub fn count_blocks<D: SectorDevice>(
     from: u32,
     to: u32,
 ) -> Result<u32, DeviceFault>
-    requires number { number < 4096 }
+    requires number { number < FILE_NUMBERS }
     requires order { from ≤ to }
     requires kept { KeepsRun (D.state device.old) memory.now kept.old }
     ensures kept { KeepsRun (D.state device.new) memory.now kept.new }

@@ -4,6 +4,7 @@ ghost use Rattle.lfs_model.specs.Entry.{Leaf, Inode};
 ghost use Rattle.lfs_model.specs.Memory.{parent, IsPointers};
 ghost use Rattle.lfs_inodes.specs.Key.{entry_of};
 ghost use Rattle.lfs_inodes.specs.MapValue.{block_in};
+ghost use Rattle.lfs_memory.specs.Numbers.{IsFileNumber};
 ghost use Rattle.lfs_memory.specs.Memory.{IsMemory};
 ghost use Rattle.lfs_memory.specs.Present.{FailsFromDevice};
 ghost use Rattle.lfs_memory.specs.Lifting.{IsInMemory, IsMapLost, MapLifts, Prepares};
@@ -15,7 +16,8 @@ use crate::lifting::{LiftFault, lift_child, lift_inode, lift_map};
 use crate::memory::LogMemory;
 use lfs_cache::CachedDevice;
 use lfs_device::{DeviceFault, SectorDevice};
-use lfs_inodes::{BlockKey, DIRECT, POINTERS};
+use lfs_inodes::BlockKey;
+use lfs_model::limits::{BLOCK_POINTERS, DIRECT_BLOCKS, LAST_BLOCK, LAST_LEAF, LAST_NUMBER};
 
 /// A block of pointers of a file is in memory after this, an empty one where it isn't stored. The
 /// block above it is there.
@@ -66,9 +68,8 @@ fn prepare_leaf<D: SectorDevice>(
     index: u32,
 ) -> Result<(), LiftFault>
     requires memory { IsMemory memory.old }
-    requires some { 1 ≤ number }
-    requires few { number ≤ 4095 }
-    requires index { index ≤ 128 }
+    requires number { IsFileNumber number }
+    requires index { index ≤ LAST_LEAF }
     requires above { IsInMemory memory.old (Inode number) }
     ensures prepares { Prepares (D.state device.old) (D.state device.new) memory.old memory.new 2 }
     ensures inside { OnOk result (IsInMemory memory.new (Leaf number index)) }
@@ -104,9 +105,8 @@ fn prepare_way<D: SectorDevice>(
     index: u32,
 ) -> Result<(), LiftFault>
     requires memory { IsMemory memory.old }
-    requires some { 1 ≤ number }
-    requires few { number ≤ 4095 }
-    requires index { index ≤ 16623 }
+    requires number { IsFileNumber number }
+    requires index { index ≤ LAST_BLOCK }
     ensures prepares { Prepares (D.state device.old) (D.state device.new) memory.old memory.new 3 }
     ensures ready { OnOk result (HasParent memory.new number index) }
     ensures full { IsErrOf result LiftFault.Full
@@ -121,28 +121,32 @@ fn prepare_way<D: SectorDevice>(
         Ok(found) => found,
         Err(fault) => return Err(fault),
     };
-    if index < DIRECT {
+    if index < DIRECT_BLOCKS {
         return Ok(());
     }
     if !found {
         return Err(LiftFault::Device);
     }
-    prepare_leaf(device, memory, number, (index - DIRECT) / POINTERS)
+    prepare_leaf(
+        device,
+        memory,
+        number,
+        (index - DIRECT_BLOCKS) / BLOCK_POINTERS,
+    )
 }
 
 /// Whether a data block of a file may change with no call of the device: the block above it is in
 /// memory, or will be the inode of a file that isn't there.
 fn is_ready(memory: &LogMemory, number: u16, index: u32) -> bool
-    requires some { 1 ≤ number }
-    requires few { number ≤ 4095 }
-    requires index { index ≤ 16623 }
+    requires number { IsFileNumber number }
+    requires index { index ≤ LAST_BLOCK }
     ensures yes { IsTrue result → HasParent memory.now number index }
     ensures no { IsFalse result → HasParent memory.now number index → ⊥ }
 {
     if pointer_to(&memory.dirty, BlockKey::data(number, index)).is_some() {
         return true;
     }
-    index < DIRECT && memory.map.address(number) == 0
+    index < DIRECT_BLOCKS && memory.map.address(number) == 0
 }
 
 /// A data block of a file may change after this with no call of the device. Nothing comes into
@@ -159,9 +163,8 @@ pub fn prepare_block<D: SectorDevice>(
     index: u32,
 ) -> Result<(), LiftFault>
     requires memory { IsMemory memory.old }
-    requires some { 1 ≤ number }
-    requires few { number ≤ 4095 }
-    requires index { index ≤ 16623 }
+    requires number { IsFileNumber number }
+    requires index { index ≤ LAST_BLOCK }
     ensures prepares { Prepares (D.state device.old) (D.state device.new) memory.old memory.new 3 }
     ensures ready { OnOk result (HasParent memory.new number index) }
     ensures same { HasParent memory.old number index → memory.new ≡ memory.old }
@@ -183,7 +186,7 @@ pub fn prepare_block<D: SectorDevice>(
 /// The block of the inode map that has the file's inode will be written, if the file is to have
 /// links.
 fn prepare_name(memory: &mut LogMemory, number: u16, links: u32) -> Result<(), DeviceFault>
-    requires few { number ≤ 4095 }
+    requires few { number ≤ LAST_NUMBER }
     ensures done { OnOk result ((memory.new ≡ memory.old)
         ⊎ MapLifts memory.old memory.new (number / 128)) }
     ensures mapped { OnOk result (0 < links → block_in memory.new.map (number / 128) ≡ 1) }
@@ -210,8 +213,7 @@ pub fn prepare_header<D: SectorDevice>(
     links: u32,
 ) -> Result<(), LiftFault>
     requires memory { IsMemory memory.old }
-    requires some { 1 ≤ number }
-    requires few { number ≤ 4095 }
+    requires number { IsFileNumber number }
     ensures prepares { Prepares (D.state device.old) (D.state device.new) memory.old memory.new 1 }
     ensures ready { OnOk result (IsHeaderReady memory.new number links) }
     ensures full { IsErrOf result LiftFault.Full

@@ -1,25 +1,20 @@
 //! What the log answers to reads.
 ghost use Rattle.std.specs.Prelude.{◌≡◌, ◌<◌, ◌≤◌, ◌⊎◌, OnOk, OnErr, IfOk, IfSome, IfNone, IsTrue, IsFalse};
-ghost use Rattle.lfs_model.specs.Entry.{Inode, Data, Leaf, Double, header};
-ghost use Rattle.lfs_model.specs.Inode.{kind_of};
+ghost use Rattle.lfs_model.specs.Entry.{Inode, Data, Leaf, Double};
 ghost use Rattle.lfs_inodes.specs.Key.{entry_of};
 ghost use Rattle.lfs_inodes.specs.Blocks.{blocks_of};
 ghost use Rattle.lfs_inodes.specs.MapValue.{address_in};
 ghost use Rattle.lfs_inodes.specs.Present.{present};
 ghost use Rattle.lfs_memory.specs.Memory.{IsMemory};
-ghost use Rattle.lfs_memory.specs.Present.{Looks, FailsFromDevice, IsMissing, AnswersInode, AnswersHeader, as_header, AnswersAddress, ShowsHeader, ShowsWord};
+ghost use Rattle.lfs_memory.specs.Present.{Looks, FailsFromDevice, IsMissing, AnswersInode, AnswersHeader, AnswersAddress, ShowsHeader, ShowsWord};
 
-use crate::counting::{DOUBLE, SINGLE};
 use crate::memory::LogMemory;
 use lfs_cache::CachedDevice;
 use lfs_device::{DeviceFault, SectorDevice};
 use lfs_files::Header;
-use lfs_inodes::{BlockKey, IN_MEMORY, first_pointer, locate_behind};
-use lfs_layout::word;
-use lfs_model::Kind;
-
-/// The greatest index of a block of a file.
-pub(crate) const MOST_INDEX: u32 = 16_623;
+use lfs_inodes::{BlockKey, IN_MEMORY, first_pointer, header_of, locate_behind};
+use lfs_layout::{DOUBLE_POINTER, SINGLE_POINTER, word};
+use lfs_model::limits::{BLOCK_POINTERS, FILE_NUMBERS, LAST_BLOCK, LAST_LEAF};
 
 /// The block of this key, whose pointer is known: in memory, or at its address on the device.
 ///
@@ -76,7 +71,7 @@ pub fn present_word<D: SectorDevice>(
     place: usize,
 ) -> Result<u32, DeviceFault>
     requires stored { 1 ≤ address }
-    requires place { place < 128 }
+    requires place { place < BLOCK_POINTERS }
     ensures read { IfOk result (ShowsWord (D.state device.old) (D.state device.new) memory.now
         (entry_of key) address place) }
     ensures unread { OnErr result ((D.state device.new).keeps_model
@@ -193,7 +188,7 @@ pub fn read_inode<D: SectorDevice>(
     number: u16,
     out: &mut [u8; 512],
 ) -> Result<bool, DeviceFault>
-    requires number { number < 4096 }
+    requires number { number < FILE_NUMBERS }
     ensures answer { IfOk result (AnswersInode (D.state device.old) (D.state device.new) memory.now
         number out.new) }
     ensures some { IfOk result (λ found. IsTrue found
@@ -233,7 +228,7 @@ pub fn read_header<D: SectorDevice>(
     memory: &LogMemory,
     number: u16,
 ) -> Result<Option<Header>, DeviceFault>
-    requires number { number < 4096 }
+    requires number { number < FILE_NUMBERS }
     ensures answer { IfOk result (AnswersHeader (D.state device.old) (D.state device.new) memory.now
         number) }
     ensures failed { OnErr result (FailsFromDevice (D.state device.old)
@@ -254,7 +249,7 @@ pub fn read_header<D: SectorDevice>(
 
 /// The pointer to the inode of a file, or 0 where the file isn't there.
 pub(crate) fn inode_pointer(memory: &LogMemory, number: u16) -> u32
-    requires number { number < 4096 }
+    requires number { number < FILE_NUMBERS }
     ensures none { result ≡ 0 → (number ≡ 0) ⊎ (address_in memory.now.map number ≡ 0) }
     ensures some { (result ≡ 0 → ⊥) → (1 ≤ number) × (result ≡ address_in memory.now.map number) }
 {
@@ -275,8 +270,8 @@ fn inode_word<D: SectorDevice>(
     number: u16,
     place: usize,
 ) -> Result<Option<u32>, DeviceFault>
-    requires number { number < 4096 }
-    requires place { place < 128 }
+    requires number { number < FILE_NUMBERS }
+    requires place { place < BLOCK_POINTERS }
     ensures some { IfOk result (λ found. IfSome found (λ n.
         (1 ≤ number) × (1 ≤ address_in memory.now.map number))) }
     ensures none { IfOk result (λ found. IfNone found
@@ -299,29 +294,6 @@ fn inode_word<D: SectorDevice>(
     }
 }
 
-/// What an inode says of its file.
-#[tactic(auto, unfolding(lfs_model::specs::Entry::header))]
-pub fn header_of(inode: &[u8; 512]) -> Header
-    ensures { header inode.now ≡ as_header result }
-{
-    Header {
-        kind: kind_of(inode[0]),
-        form: inode[1],
-        links: word(inode, 2),
-        size: word(inode, 3),
-    }
-}
-
-fn kind_of(byte: u8) -> Kind
-    ensures { result ≡ kind_of byte }
-{
-    match byte {
-        1 => Kind::File,
-        2 => Kind::Directory,
-        _ => Kind::Link,
-    }
-}
-
 /// The pointer to a block of a file: 0 where none is stored, `IN_MEMORY` for one in memory, else
 /// its address.
 ///
@@ -334,17 +306,17 @@ pub(crate) fn locate_block<D: SectorDevice>(
     number: u16,
     index: u32,
 ) -> Result<u32, DeviceFault>
-    requires number { number < 4096 }
+    requires number { number < FILE_NUMBERS }
     ensures answer { IfOk result (AnswersAddress (D.state device.old) (D.state device.new)
         memory.now (Data number index)) }
-    ensures some { IfOk result (λ address. (1 ≤ address) → (1 ≤ number) × (index ≤ 16623)) }
+    ensures some { IfOk result (λ address. (1 ≤ address) → (1 ≤ number) × (index ≤ LAST_BLOCK)) }
     ensures failed { OnErr result (FailsFromDevice (D.state device.old)
         (D.state device.new) memory.now) }
     ensures no_failure { OnOk result ((D.state device.new).failures
         ≡ (D.state device.old).failures) }
     ensures looks { Looks (D.state device.old) (D.state device.new) }
 {
-    if index > MOST_INDEX {
+    if index > LAST_BLOCK {
         return Ok(0);
     }
     let first = match inode_word(device, memory, number, first_pointer(index)) {
@@ -369,7 +341,7 @@ pub fn locate_double<D: SectorDevice>(
     memory: &LogMemory,
     number: u16,
 ) -> Result<u32, DeviceFault>
-    requires number { number < 4096 }
+    requires number { number < FILE_NUMBERS }
     ensures answer { IfOk result (AnswersAddress (D.state device.old) (D.state device.new)
         memory.now (Double number)) }
     ensures failed { OnErr result (FailsFromDevice (D.state device.old)
@@ -378,7 +350,7 @@ pub fn locate_double<D: SectorDevice>(
         ≡ (D.state device.old).failures) }
     ensures looks { Looks (D.state device.old) (D.state device.new) }
 {
-    match inode_word(device, memory, number, DOUBLE) {
+    match inode_word(device, memory, number, DOUBLE_POINTER) {
         Ok(Some(pointer)) => Ok(pointer),
         Ok(None) => Ok(0),
         Err(fault) => Err(fault),
@@ -397,8 +369,8 @@ pub fn locate_leaf<D: SectorDevice>(
     number: u16,
     leaf: u32,
 ) -> Result<u32, DeviceFault>
-    requires number { number < 4096 }
-    requires leaf { leaf ≤ 128 }
+    requires number { number < FILE_NUMBERS }
+    requires leaf { leaf ≤ LAST_LEAF }
     ensures answer { IfOk result (AnswersAddress (D.state device.old) (D.state device.new)
         memory.now (Leaf number leaf)) }
     ensures failed { OnErr result (FailsFromDevice (D.state device.old)
@@ -407,7 +379,11 @@ pub fn locate_leaf<D: SectorDevice>(
         ≡ (D.state device.old).failures) }
     ensures looks { Looks (D.state device.old) (D.state device.new) }
 {
-    let place = if leaf == 0 { SINGLE } else { DOUBLE };
+    let place = if leaf == 0 {
+        SINGLE_POINTER
+    } else {
+        DOUBLE_POINTER
+    };
     let first = match inode_word(device, memory, number, place) {
         Ok(Some(first)) => first,
         Ok(None) => return Ok(0),

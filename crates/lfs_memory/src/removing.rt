@@ -11,6 +11,7 @@ use crate::lifting::lift_map_of;
 use crate::memory::LogMemory;
 use lfs_cache::CachedDevice;
 use lfs_device::{DeviceFault, SectorDevice};
+use lfs_model::limits::FILE_NUMBERS;
 use lfs_segments::Usage;
 
 /// Whether each segment has so many blocks, of those that live there or of those that hold it.
@@ -52,7 +53,7 @@ pub(crate) fn take_counts(usage: &mut Usage, counts: &SegmentCounts, lives: bool
 
 /// The blocks of a file, so many in each segment, leave memory and the tables.
 fn drop_file(memory: &mut LogMemory, number: u16, lives: bool, counts: &SegmentCounts)
-    requires number { number < 4096 }
+    requires number { number < FILE_NUMBERS }
     requires covered { AreCovered memory.old.usage lives counts.now }
     ensures { DropsFile memory.old memory.new number lives counts.now }
 {
@@ -75,7 +76,7 @@ pub fn remove_file<D: SectorDevice>(
     counts: &mut SegmentCounts,
 ) -> Result<(), DeviceFault>
     requires memory { IsMemory memory.old }
-    requires number { number < 4096 }
+    requires number { number < FILE_NUMBERS }
     ensures removed { OnOk result (RemovesFile (D.state device.old) (D.state device.new) memory.old
         memory.new number) }
     ensures prepares { OnErr result (Prepares (D.state device.old) (D.state device.new) memory.old

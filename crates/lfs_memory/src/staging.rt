@@ -22,6 +22,7 @@ use crate::removing::remove_file;
 use lfs_cache::CachedDevice;
 use lfs_device::{DeviceFault, SectorDevice};
 use lfs_files::LogFault;
+use lfs_model::limits::FILE_NUMBERS;
 
 /// Whether memory has room for a batch.
 pub fn has_room(memory: &LogMemory, changes: &Changes) -> bool
@@ -199,7 +200,7 @@ pub fn remove_tight<D: SectorDevice>(
     counts: &mut SegmentCounts,
 ) -> Result<(), DeviceFault>
     requires memory { IsMemory memory.old }
-    requires number { number < 4096 }
+    requires number { number < FILE_NUMBERS }
     ensures done { OnOk result (RemovesTight (D.state device.old) (D.state device.new) memory.old
         memory.new number) }
     ensures kept { OnErr result (PreparesTight (D.state device.old) (D.state device.new) memory.old

@@ -3,11 +3,11 @@ use Rattle.lfs_memory.proofs.Going.{ok_then}
 use Rattle.lfs_memory.proofs.CountedFiles.{leaf_before, leaf_skipped, leaf_over, leaf_counted, leaf_no_words, leaf_unread, on_err_then}
 use Rattle.lfs_memory.proofs.counting.count_leaf.Goals as goal
 
-pub returns-then-start-eq-POINTERS-clause-done : goal.returns-then-start-eq-POINTERS-clause-done
-returns-then-start-eq-POINTERS-clause-done g c =
+pub returns-then-start-eq-BLOCK_POINTERS-clause-done : goal.returns-then-start-eq-BLOCK_POINTERS-clause-done
+returns-then-start-eq-BLOCK_POINTERS-clause-done g c =
     leaf_before (g.D.SectorDevice.state c.args.device.now) (g.D.SectorDevice.state c.args.device.now) c.args.memory.now c.args.number
     c.args.index c.args.address c.args.first
-    c.pointers_before-start.result c.args.counts.now c.pointers_before-start.ensures c.if-start-eq-POINTERS.true
+    c.pointers_before-start.result c.args.counts.now c.pointers_before-start.ensures c.if-start-eq-BLOCK_POINTERS.true
 
 pub returns-then-address-eq0-clause-done : goal.returns-then-address-eq0-clause-done
 returns-then-address-eq0-clause-done g c =
@@ -17,7 +17,7 @@ returns-then-address-eq0-clause-done g c =
 pub returns-then-not-count_one-clause-failed : goal.returns-then-not-count_one-clause-failed
 returns-then-not-count_one-clause-failed g c =
     leaf_over (g.D.SectorDevice.state c.args.device.now) c.args.memory.now c.args.number c.args.index c.args.address c.args.first
-    c.pointers_before-start.result c.pointers_before-start.ensures c.if-start-eq-POINTERS.false _ refl c.args.counts.now
+    c.pointers_before-start.result c.pointers_before-start.ensures c.if-start-eq-BLOCK_POINTERS.false _ refl c.args.counts.now
     (g.D.SectorDevice.state c.args.device.now) (c.if-not-count_one.ensures.wanted (search rules))
     (c.if-not-count_one.ensures.over (search rules))
 
@@ -25,7 +25,7 @@ pub returns-in-Ok-clause-done : goal.returns-in-Ok-clause-done
 returns-in-Ok-clause-done g c =
     ok_then c.count_words.result _ _
     (leaf_counted (g.D.SectorDevice.state c.args.device.now) c.args.memory.now c.args.number c.args.index c.args.address c.args.first
-    c.pointers_before-start.result c.pointers_before-start.ensures c.if-start-eq-POINTERS.false _ refl c.args.counts.now
+    c.pointers_before-start.result c.pointers_before-start.ensures c.if-start-eq-BLOCK_POINTERS.false _ refl c.args.counts.now
     (g.D.SectorDevice.state c.read_present.new.device) _ c.leaf-key.ensures c.if-address-eq0.false c.count_one.new.counts
     (c.if-not-count_one.ensures.done (search rules))
     c.read_present.new.out c.count_words.new.counts c.in-Ok.ensures.read) c.count_words.ensures.done
@@ -34,7 +34,7 @@ pub returns-in-Ok-clause-failed : goal.returns-in-Ok-clause-failed
 returns-in-Ok-clause-failed g c =
     on_err_then c.count_words.result _ _
     (leaf_no_words (g.D.SectorDevice.state c.args.device.now) c.args.memory.now c.args.number c.args.index c.args.address c.args.first
-    c.pointers_before-start.result c.pointers_before-start.ensures c.if-start-eq-POINTERS.false _ refl c.args.counts.now
+    c.pointers_before-start.result c.pointers_before-start.ensures c.if-start-eq-BLOCK_POINTERS.false _ refl c.args.counts.now
     (g.D.SectorDevice.state c.read_present.new.device) _ c.leaf-key.ensures c.if-address-eq0.false c.count_one.new.counts
     (c.if-not-count_one.ensures.done (search rules))
     c.read_present.new.out c.in-Ok.ensures.read) c.count_words.ensures.failed

@@ -4,7 +4,7 @@ use Rattle.lfs_memory.proofs.cutting.drop_counted.Goals as goal
 
 pub returns-then-not-are_covered-clause-failed : goal.returns-then-not-are_covered-clause-failed
 returns-then-not-are_covered-clause-failed g c =
-    let low = c.requires.number in
+    let low = c.requires.number.few in
     uncovered_past (g.D.SectorDevice.state c.args.device.now) (g.D.SectorDevice.state c.count_past.new.device) c.args.memory.now
     c.args.number c.args.first (not c.is_hidden-lives.result) c.count_past.new.counts
     (omega (arith, low)) (ap not c.is_hidden-lives.ensures) c.count_past.ensures.looks c.in-Ok.ensures.counted

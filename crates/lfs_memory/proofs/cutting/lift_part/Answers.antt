@@ -3,7 +3,7 @@ use Rattle.lfs_memory.proofs.cutting.lift_part.Goals as goal
 
 pub lift_child-requires-clause-above : goal.lift_child-requires-clause-above
 lift_child-requires-clause-above g c =
-    above_cut_leaf c.args.memory.now c.args.number c.args.first _ c.leaf-leaf.ensures c.if-first-le-DIRECT.false c.if-first-eq0.false
+    above_cut_leaf c.args.memory.now c.args.number c.args.first _ c.leaf-leaf.ensures c.if-first-le-DIRECT_BLOCKS.false c.if-first-eq0.false
     c.requires.above
 
 pub returns-in-Err-clause-failed : goal.returns-in-Err-clause-failed

@@ -54,7 +54,7 @@ returns-then-not-are_covered-clause-failed g c _ =
     link_excused old new c.args.memory.now c.args.number
     (blocks_covered old mid new c.args.memory.now c.lift_inode.new.memory c.args.number c.count_file.new.counts
     (g.met.D.SectorDevice.lawful c.args.device.now)
-    c.in-Ok-true.ensures.prepares c.count_file.ensures.looks c.requires.number shown c.in-Ok.ensures.counted
+    c.in-Ok-true.ensures.prepares c.count_file.ensures.looks c.requires.number.few shown c.in-Ok.ensures.counted
     (c.if-not-are_covered.ensures.no (search rules)))
 
 pub returns-clause-hides : goal.returns-clause-hides
@@ -65,5 +65,5 @@ returns-clause-hides g c =
     let shown : is_hidden_in c.args.memory.now.map c.args.number ≡ false = sym c.is_hidden.ensures ∙ c.if-is_hidden.false in
     file_hidden old mid new c.args.memory.now c.lift_inode.new.memory c.args.number c.count_file.new.counts
     (g.met.D.SectorDevice.lawful c.args.device.now)
-    c.in-Ok-true.ensures.prepares c.count_file.ensures.looks c.requires.number shown c.in-Ok.ensures.counted c.drop_links.new.memory
+    c.in-Ok-true.ensures.prepares c.count_file.ensures.looks c.requires.number.few shown c.in-Ok.ensures.counted c.drop_links.new.memory
     c.args.kind c.args.form c.args.size c.drop_links.ensures

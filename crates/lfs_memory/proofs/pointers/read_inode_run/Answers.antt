@@ -14,7 +14,7 @@ returns-in-Ok-clause-read g c =
       time = c.present_pointers.ensures.time;
       told = c.present_pointers.ensures.told;
     })
-    c.requires.some c.requires.address c.requires.there c.inode-inode.ensures c.in-Ok.pointers c.in-Ok.ensures.value
+    c.requires.number.some c.requires.address c.requires.there c.inode-inode.ensures c.in-Ok.pointers c.in-Ok.ensures.value
 
 pub returns-in-Err-clause-failed : goal.returns-in-Err-clause-failed
 returns-in-Err-clause-failed g c =
@@ -26,12 +26,13 @@ returns-in-Err-clause-failed g c =
       time = c.present_pointers.ensures.time;
       told = c.present_pointers.ensures.told;
     })
-    c.requires.some c.requires.address c.requires.there c.inode-inode.ensures c.in-Err.field-0
+    c.requires.number.some c.requires.address c.requires.there c.inode-inode.ensures c.in-Err.field-0
     (λ is. c.in-Err.ensures.unreadable (ap Err is)) (λ is. c.in-Err.ensures.failed (ap Err is))
 
 pub returns-then-is_lacking-clause-failed : goal.returns-then-is_lacking-clause-failed
 returns-then-is_lacking-clause-failed g c =
     let d = g.D.SectorDevice.state c.args.device.now in
-    inode_lacks d d c.args.memory.now c.args.number c.args.address _ (looks_none d) c.requires.some c.requires.address c.requires.there
+    inode_lacks d d c.args.memory.now c.args.number c.args.address _ (looks_none d) c.requires.number.some c.requires.address
+    c.requires.there
     c.inode-inode.ensures
     (c.is_lacking.ensures.inside c.if-is_lacking.true) (c.is_lacking.ensures.none c.if-is_lacking.true)

@@ -17,7 +17,7 @@ returns-in-Ok-leaf_pointers-clause-read g c =
       time = c.leaf_pointers.ensures.time;
       told = c.leaf_pointers.ensures.told;
     })
-    c.requires.some c.requires.address c.requires.there c.inode-inode.ensures c.requires.leaf read.value
+    c.requires.number.some c.requires.address c.requires.there c.inode-inode.ensures c.requires.leaf read.value
     (read.is ∙ ap (word read.shown) c.first_of_leaf.ensures.value)
     c.in-Ok-leaf_pointers.pointers c.in-Ok-leaf_pointers.ensures.value
 
@@ -39,7 +39,7 @@ returns-in-Err-leaf_pointers-clause-failed g c =
       time = c.leaf_pointers.ensures.time;
       told = c.leaf_pointers.ensures.told;
     })
-    c.requires.some c.requires.address c.requires.there c.inode-inode.ensures c.requires.leaf read.value
+    c.requires.number.some c.requires.address c.requires.there c.inode-inode.ensures c.requires.leaf read.value
     (read.is ∙ ap (word read.shown) c.first_of_leaf.ensures.value)
     c.in-Err-leaf_pointers.field-0 (λ is. c.in-Err-leaf_pointers.ensures.unreadable (ap Err is))
     (λ is. c.in-Err-leaf_pointers.ensures.failed (ap Err is))

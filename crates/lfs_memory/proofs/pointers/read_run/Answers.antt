@@ -2,11 +2,12 @@ use Rattle.std.proofs.Common.{arith}
 use Rattle.lfs_memory.proofs.PointerRuns.{ok_for}
 use Rattle.lfs_memory.proofs.pointers.read_run.Goals as goal
 
-pub returns-then-index-lt-DIRECT-clause-from : goal.returns-then-index-lt-DIRECT-clause-from
-returns-then-index-lt-DIRECT-clause-from g c =
-    ok_for c.read_inode_run.result c.args.number 0 112 c.args.index (omega arith) c.if-index-lt-DIRECT.true c.read_inode_run.ensures.from
+pub returns-then-index-lt-DIRECT_BLOCKS-clause-from : goal.returns-then-index-lt-DIRECT_BLOCKS-clause-from
+returns-then-index-lt-DIRECT_BLOCKS-clause-from g c =
+    ok_for c.read_inode_run.result c.args.number 0 112 c.args.index
+    (omega arith) c.if-index-lt-DIRECT_BLOCKS.true c.read_inode_run.ensures.from
 
 pub returns-clause-from : goal.returns-clause-from
 returns-clause-from g c =
-    let high = c.if-index-lt-DIRECT.false in
+    let high = c.if-index-lt-DIRECT_BLOCKS.false in
     ok_for c.read_leaf_run.result c.args.number _ _ c.args.index (omega (arith, high)) (omega (arith, high)) c.read_leaf_run.ensures.from

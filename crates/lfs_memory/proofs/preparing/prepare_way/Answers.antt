@@ -12,7 +12,7 @@ returns-in-Err-clause-failed g c is =
 pub returns-then-not-found-clause-failed : goal.returns-then-not-found-clause-failed
 returns-then-not-found-clause-failed g c _ =
     absent_within (g.D.SectorDevice.state c.args.device.now) (g.D.SectorDevice.state c.lift_inode.new.device) c.args.memory.now
-    c.args.number c.args.index c.if-index-lt-DIRECT.false
+    c.args.number c.args.index c.if-index-lt-DIRECT_BLOCKS.false
     (c.in-Ok.ensures.absent (search rules))
 
 pub returns-clause-prepares : goal.returns-clause-prepares
@@ -24,7 +24,7 @@ returns-clause-prepares g c =
 
 pub returns-clause-ready : goal.returns-clause-ready
 returns-clause-ready g c =
-    ok_then c.prepare_leaf.result _ _ (way_high c.prepare_leaf.new.memory c.args.number c.args.index c.if-index-lt-DIRECT.false)
+    ok_then c.prepare_leaf.result _ _ (way_high c.prepare_leaf.new.memory c.args.number c.args.index c.if-index-lt-DIRECT_BLOCKS.false)
     c.prepare_leaf.ensures.inside
 
 pub returns-clause-failed : goal.returns-clause-failed

@@ -6,8 +6,8 @@ use Rattle.lfs_memory.specs.Present.{ShowsWord}
 use Rattle.lfs_memory.proofs.Presents.{address_past, address_none, address_found, address_failed}
 use Rattle.lfs_memory.proofs.present.locate_block.Goals as goal
 
-pub returns-then-index-gt-MOST_INDEX-clause-answer : goal.returns-then-index-gt-MOST_INDEX-clause-answer
-returns-then-index-gt-MOST_INDEX-clause-answer g c =
+pub returns-then-index-gt-LAST_BLOCK-clause-answer : goal.returns-then-index-gt-LAST_BLOCK-clause-answer
+returns-then-index-gt-LAST_BLOCK-clause-answer g c =
     address_past (g.D.SectorDevice.state c.args.device.now) c.args.memory.now c.args.number c.args.index (search rules)
 
 pub returns-in-Ok-None-clause-answer : goal.returns-in-Ok-None-clause-answer
