@@ -12,7 +12,8 @@ use Rattle.lfs_memory.specs.inodes.Data.{data_count}
 use Rattle.lfs_memory.specs.declared.memory.LogMemory.{LogMemory}
 use Rattle.lfs_memory.specs.Memory.{Stops}
 use Rattle.lfs_memory.proofs.Going.{has_room_still}
-use Rattle.lfs_log.specs.Early.{WritesChunks, full_chunk, reserve_of}
+use Rattle.lfs_log.specs.Early.{WritesChunks, full_chunk}
+use Rattle.lfs_log.specs.Thresholds.{reserve_of}
 use Rattle.lfs_log.specs.Held.{Held, Halts, IsReadyToPass, WritesEarly}
 
 module _ {D : Type 0} (state : D → DeviceState) where

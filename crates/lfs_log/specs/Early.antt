@@ -1,5 +1,5 @@
 -- What is written between commits: full chunks of data blocks, in segments that the acknowledged checkpoint doesn't reach.
-use Rattle.std.specs.Prelude.{◌≡◌, ◌<◌, ◌≤◌, ◌+◌, ◌/◌, ℕ, [], length}
+use Rattle.std.specs.Prelude.{◌≡◌, ◌<◌, ◌≤◌, ◌+◌, ℕ, [], length}
 use Rattle.lfs_model.specs.Device.{DeviceState}
 use Rattle.lfs_memory.specs.segments.Table.{kept_of, clean_in}
 use Rattle.lfs_memory.specs.segments.Chunk.{room_behind}
@@ -12,10 +12,6 @@ use Rattle.lfs_log.specs.Saving.{orders_for, segments_for}
 -- how many blocks a chunk has that fills a segment
 abbrev pub full_chunk : ℕ
 full_chunk = 63
-
--- so many segments stay clean for the next commit, and an eighth behind it
-abbrev pub reserve_of : ℕ → ℕ
-reserve_of segments = segments / 8 + 8
 
 -- The acknowledged checkpoint reaches no sector of the segment that the next block goes to: the chunk that has begun stands in such a
 -- one, and no chunk begins behind the last.

@@ -30,7 +30,8 @@ use Rattle.lfs_memory.specs.Removing.{without_file}
 use Rattle.lfs_memory.specs.Batch.{room_for, staged, raises, FitsBatch}
 use Rattle.lfs_verify.specs.declared.totals.BlockTotals.{BlockTotals}
 use Rattle.lfs_memory.specs.segments.Early.{AreUntaken, early_in, taken_in}
-use Rattle.lfs_log.specs.Early.{full_chunk, reserve_of}
+use Rattle.lfs_log.specs.Early.{full_chunk}
+use Rattle.lfs_log.specs.Thresholds.{reserve_of}
 use Rattle.lfs_log.specs.Saving.{orders_for, segments_for}
 
 pub record Held (D : Type 0) : Type 0 where

@@ -7,6 +7,7 @@ pub mod Relocating
 pub mod Cleaning
 pub mod Telling
 pub mod Early
+pub mod Thresholds
 pub mod Versions
 pub use Rattle.lfs_memory.specs as memory
 pub use Rattle.lfs_memory.specs.files

@@ -8,6 +8,7 @@ ghost use Rattle.lfs_log.specs.Cleaning.{AreCleanable, AreEmptied, Crowds, Empti
 ghost use Rattle.lfs_log.specs.Relocating.{CameFrom, IsAmong, Misses, Relocates, VacatesAll};
 
 use crate::relocating::{are_in_order, relocate_segment};
+use crate::thresholds::{is_eighth_clean, most_victims};
 use lfs_cache::CachedDevice;
 use lfs_device::SectorDevice;
 use lfs_memory::LogMemory;
@@ -251,15 +252,14 @@ pub fn may_clean(memory: &LogMemory, victims: &[u16]) -> bool
     if memory.dirty.len() != 0 {
         return false;
     }
-    let segments = memory.usage.segments();
-    if 8 * u64::from(memory.usage.clean()) < u64::from(segments) {
+    if !is_eighth_clean(&memory.usage) {
         return false;
     }
     let count = victims.len();
     if count < 2 {
         return false;
     }
-    if count > segments as usize / 8 + 1 {
+    if count > most_victims(&memory.usage) as usize {
         return false;
     }
     are_cleanable(&memory.usage, victims)

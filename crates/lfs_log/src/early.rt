@@ -1,19 +1,20 @@
 //! Blocks that are written between commits: full chunks of data blocks go to clean segments, where no
 //! acknowledged checkpoint reaches them, and leave memory. An early write is a commit's beginning
 //! that stops.
-ghost use Rattle.std.specs.Prelude.{◌≡◌, ◌<◌, ◌≤◌, ◌+◌, ◌⊎◌, [], length, OnOk, OnErr, IsTrue, IsFalse};
+ghost use Rattle.std.specs.Prelude.{◌≡◌, ◌<◌, ◌≤◌, ◌+◌, ◌⊎◌, [], length, OnOk, OnErr};
 ghost use Rattle.lfs_memory.specs.segments.Table.{clean_in};
 ghost use Rattle.lfs_memory.specs.inodes.Data.{data_count};
 ghost use Rattle.lfs_memory.specs.Memory.{IsMemory, HasRoom, Goes, Stops, room_of};
-ghost use Rattle.lfs_log.specs.Early.{GoesEarly, IsFresh, WritesChunks, blocks_due, reserve_of};
+ghost use Rattle.lfs_log.specs.Early.{GoesEarly, IsFresh, WritesChunks, blocks_due};
+ghost use Rattle.lfs_log.specs.Thresholds.{reserve_of};
 ghost use Rattle.lfs_log.specs.Saving.{orders_for};
 ghost use Rattle.lfs_log.specs.Telling.{orders_due};
 
 use crate::committing::seal_rest;
 use crate::placing::save_block;
+use crate::thresholds::exceeds_reserve;
 use lfs_device::{DeviceFault, SectorDevice};
 use lfs_memory::LogMemory;
-use lfs_memory::segments::Usage;
 
 /// How many blocks a chunk has that fills a segment.
 const FULL_CHUNK: usize = 63;
@@ -90,16 +91,6 @@ fn write_chunk<D: SectorDevice>(
     Ok(())
 }
 
-/// Whether more segments are clean than the next commit asks for.
-fn is_above_reserve(usage: &Usage) -> bool
-    ensures yes { IsTrue result
-        → reserve_of (length usage.now.segments) < clean_in usage.now.segments }
-    ensures no { IsFalse result
-        → clean_in usage.now.segments ≤ reserve_of (length usage.now.segments) }
-{
-    usage.segments() / 8 + 8 < usage.clean()
-}
-
 /// Writes full chunks of data blocks to clean segments, as long as memory has one and more than
 /// the reserve of the next commit is clean.
 ///
@@ -126,7 +117,7 @@ pub fn write_chunks<D: SectorDevice>(
     ensures told { length (D.state device.new).told
         ≤ length (D.state device.old).told + orders_for (length memory.old.dirty.blocks) }
 {
-    while memory.dirty.has_data(FULL_CHUNK) && is_above_reserve(&memory.usage) {
+    while memory.dirty.has_data(FULL_CHUNK) && exceeds_reserve(&memory.usage) {
         write_chunk(device, memory, age)?;
     }
     Ok(())

@@ -12,6 +12,7 @@ pub mod placing;
 pub mod publishing;
 pub mod relocating;
 pub mod settling;
+pub mod thresholds;
 
 pub use layout_version::LayoutVersion;
 pub use lfs_memory as memory;

@@ -21,6 +21,7 @@ use crate::committing::save;
 use crate::early::{age_after, write_chunks};
 use crate::layout_version::{LayoutVersion, is_raised_after, unsaved_by, version_after};
 use crate::opening::{MOST_DIRTY, open_memory};
+use crate::thresholds::has_reserve;
 use lfs_cache::{CachedDevice, DEFAULT_SECTORS, MOST_SECTORS};
 use lfs_device::{SectorDevice, TendedDevice};
 use lfs_memory::counting::SegmentCounts;
@@ -83,7 +84,8 @@ impl<D: SectorDevice> Model for Log<D> {
 impl<D: SectorDevice> Log<D> {
     ghost use Rattle.lfs_log.specs.Cleaning.{Cleans, MayClean, Overfills, most_brought};
     ghost use Rattle.lfs_log.specs.Saving.{commit_orders, orders_for, pass_orders};
-    ghost use Rattle.lfs_log.specs.Early.{full_chunk, reserve_of};
+    ghost use Rattle.lfs_log.specs.Early.{full_chunk};
+    ghost use Rattle.lfs_log.specs.Thresholds.{HasReserve, LacksReserve, reserve_of};
     ghost use Rattle.lfs_log.specs.Held.{Mounts, Saves, Halts, Reads, ReadsHeader, ReadsBlock, TellsBlock, TellsLeaf, TellsDouble, CountsBlocks, IsReadFault, IsFull, IsVacant, HasAll, IsStaged, IsRefused, IsStageFault, IsRemoved, IsKept, HoldsOne, AreAllSaved, WritesEarly, unsaved_in, waiting_in};
 
     /// The volume that the newest checkpoint of the device leads to, with the totals of its files;
@@ -582,17 +584,14 @@ impl<D: SectorDevice> Log<D> {
         Ok(())
     }
 
-    /// Whether so few segments are clean that a commit might leave fewer than an eighth of them, or
-    /// no number is left.
-    fn is_full(&self) -> bool
-        ensures full { IsTrue result → IsFull self.now }
-        ensures room { IsFalse result → length self.now.memory.usage.segments + 64
-            ≤ 8 * clean_in self.now.memory.usage.segments }
-        ensures number { IsFalse result → self.now.number < 2 ^ 64 - 1 }
+    /// Whether so many segments are clean that a commit leaves an eighth of them clean, whatever it
+    /// takes. `commit` asks beside this only that a number is left.
+    pub fn may_commit(&self) -> bool
+        ensures yes { IsTrue result → HasReserve self.now.memory.usage }
+        ensures no { IsFalse result → LacksReserve self.now.memory.usage }
+        ensures full { IsFalse result → IsFull self.now }
     {
-        let clean = u64::from(self.memory.usage.clean());
-        let segments = u64::from(self.memory.usage.segments());
-        self.number == u64::MAX || 8 * clean < segments + 64
+        has_reserve(&self.memory.usage)
     }
 
     /// Writes full chunks of data blocks to segments that are clean, as long as memory has one and
@@ -657,7 +656,10 @@ impl<D: SectorDevice> Log<D> {
         if self.halted {
             return Err(LogFault::Halted);
         }
-        if self.is_full() {
+        if self.number == u64::MAX {
+            return Err(LogFault::Full);
+        }
+        if !self.may_commit() {
             return Err(LogFault::Full);
         }
         drop_run(&mut self.pointers);

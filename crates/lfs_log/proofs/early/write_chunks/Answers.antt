@@ -4,7 +4,8 @@ use Rattle.lfs_memory.specs.inodes.Data.{data_count}
 use Rattle.lfs_memory.specs.declared.memory.LogMemory.{LogMemory}
 use Rattle.lfs_memory.specs.Memory.{Stops}
 use Rattle.lfs_memory.proofs.Going.{on_err, stops_then, has_room_still}
-use Rattle.lfs_log.specs.Early.{full_chunk, reserve_of}
+use Rattle.lfs_log.specs.Early.{full_chunk}
+use Rattle.lfs_log.specs.Thresholds.{reserve_of}
 use Rattle.lfs_log.proofs.EarlyBlocks.{chunks_none, chunks_more}
 use Rattle.lfs_log.proofs.early.write_chunks.Goals as goal
 
@@ -40,7 +41,7 @@ loop-memory-preserved g c =
     let done = c.in_ok-write_chunk.ensures in
     let goes = done.done in
     let above : reserve_of (length c.loop-memory.memory.usage.segments) < clean_in c.loop-memory.memory.usage.segments =
-    c.is_above_reserve.ensures.yes (search rules) in
+    c.exceeds_reserve.ensures.yes (search rules) in
     let full : full_chunk ≤ data_count c.loop-memory.memory.dirty = c.has_data.ensures.yes (search rules) in
     let taken = done.taken in
     let size = goes.segments in

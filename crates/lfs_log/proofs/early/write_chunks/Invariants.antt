@@ -1,7 +1,8 @@
 use Rattle.std.proofs.Common.{◌≡◌, ◌<◌, ◌≤◌, ◌⊎◌, length}
 use Rattle.lfs_memory.specs.segments.Table.{clean_in}
 use Rattle.lfs_memory.specs.inodes.Data.{data_count}
-use Rattle.lfs_log.specs.Early.{WritesChunks, full_chunk, reserve_of}
+use Rattle.lfs_log.specs.Early.{WritesChunks, full_chunk}
+use Rattle.lfs_log.specs.Thresholds.{reserve_of}
 use Rattle.lfs_log.proofs.early.write_chunks.Given as goal
 
 abbrev pub invariant-loop-memory : goal.invariant-loop-memory

@@ -2,7 +2,7 @@ use Rattle.std.proofs.Common.{◌≡◌, ◌≤◌, ⊎_elim, inl, inr, true, le
 use Rattle.lfs_memory.specs.segments.Table.{clean_in}
 use Rattle.lfs_memory.specs.declared.memory.LogMemory.{LogMemory}
 use Rattle.lfs_log.specs.Versions.{number_of}
-use Rattle.lfs_log.specs.Early.{reserve_of}
+use Rattle.lfs_log.specs.Thresholds.{reserve_of}
 use Rattle.lfs_log.specs.Held.{Held, Halts, WritesEarly}
 use Rattle.lfs_log.proofs.EarlyWrites.{early_halts, writes_early}
 use Rattle.lfs_log.proofs.log.Log.write_early.Goals as goal
