@@ -1,3 +1,4 @@
 pub mod Met
 pub mod Readings
 pub mod Slots
+pub mod Telling

@@ -1,5 +1,5 @@
 -- Which numbers a walk met.
-use Rattle.std.specs.Prelude.{◌≡◌, ℕ, Bool, true, Some}
+use Rattle.std.specs.Prelude.{◌≡◌, ℕ, true, Some}
 use Rattle.std.specs.List.{slice_get}
 use Rattle.lfs_salvage.specs.declared.walk.Walk.{Walk}
 

@@ -1,8 +1,7 @@
 //! Where the inodes of objects stand.
-ghost use Rattle.std.specs.Prelude.{◌≡◌};
+ghost use Rattle.lfs_salvage.specs.Telling.{TellsNothing};
 
 use crate::readings::read_sector;
-use crate::walk::MOST_NUMBERS;
 use lfs_device::SectorDevice;
 use lfs_layout::{Checkpoint, Inode, InodeView, PointerView};
 use std::alloc::{AllocError, Global};
@@ -40,7 +39,7 @@ impl Addresses {
         block: u32,
         sector: u32,
     ) -> Result<(), AllocError>
-        ensures { (D.state device.new).told ≡ (D.state device.old).told }
+        ensures { TellsNothing (D.state device.old) (D.state device.new) }
     {
         let bytes = match sector {
             0 => None,
@@ -73,7 +72,7 @@ impl Addresses {
 
     /// What a number leads to.
     pub fn object<D: SectorDevice>(&self, device: &mut D, number: u32) -> Object
-        ensures { (D.state device.new).told ≡ (D.state device.old).told }
+        ensures { TellsNothing (D.state device.old) (D.state device.new) }
     {
         let sector = self.get(number);
         if sector == 0 {
@@ -99,7 +98,7 @@ pub fn read_addresses<D: SectorDevice>(
     device: &mut D,
     checkpoint: &Checkpoint,
 ) -> Result<Addresses, AllocError>
-    ensures { (D.state device.new).told ≡ (D.state device.old).told }
+    ensures { TellsNothing (D.state device.old) (D.state device.new) }
 {
     let mut addresses = Addresses::new(alloc);
     let mut block: u32 = 0;

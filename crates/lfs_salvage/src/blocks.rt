@@ -1,28 +1,17 @@
 //! The blocks of an object, one after another.
-ghost use Rattle.std.specs.Prelude.{◌≡◌};
+ghost use Rattle.lfs_salvage.specs.Telling.{TellsNothing};
 
 use crate::readings::Readings;
 use lfs_device::SectorDevice;
 use lfs_layout::{Inode, PointerView};
+use lfs_model::limits::{BLOCK_POINTERS, DIRECT_BLOCKS, FILE_BLOCKS, FIRST_DOUBLE, SECTOR_LEN};
 
 /// The bytes of a block.
-pub const BLOCK_LEN: u32 = 512;
-
-/// The blocks that the inode itself has the addresses of.
-pub const DIRECT: u32 = 112;
-
-/// The addresses in a block of pointers.
-pub const ROW: u32 = 128;
-
-/// The first block that the double root leads to.
-pub const DOUBLE_FIRST: u32 = DIRECT + ROW;
-
-/// The most blocks that an object has.
-const MOST_BLOCKS: u32 = DOUBLE_FIRST + ROW * ROW;
+pub const BLOCK_LEN: u32 = SECTOR_LEN as u32;
 
 /// The most steps that the blocks of an object take: one to each, one to each row of addresses, and
 /// one to the double root.
-pub const MOST_STEPS: u32 = MOST_BLOCKS + ROW + 3;
+pub const MOST_STEPS: u32 = FILE_BLOCKS + BLOCK_POINTERS + 3;
 
 /// Blocks that can't be read, and the sector that is to blame.
 #[derive(Clone, Copy)]
@@ -76,16 +65,34 @@ pub struct Blocks {
     root: Option<Row>,
 }
 
+/// What a step reads.
+#[derive(Clone, Copy)]
+enum Goal {
+    /// The next block.
+    Block,
+    /// The addresses of a row of blocks.
+    Row,
+    /// The double root.
+    Root,
+}
+
+impl Goal {
+    // How many blocks it leads to.
+    fn blocks(self) -> u32 {
+        match self {
+            Goal::Block => 1,
+            Goal::Row => BLOCK_POINTERS,
+            Goal::Root => FILE_BLOCKS,
+        }
+    }
+}
+
 /// How the next step goes on.
 #[derive(Clone, Copy)]
-enum Way {
-    End,
-    /// The block of this address.
-    Block(u32),
-    /// A row of so many blocks whose addresses stand in this sector; 0 where there are none.
-    Row(u32),
-    /// The double root is read.
-    Root,
+struct Way {
+    goal: Goal,
+    /// The sector that has it; 0 where there is none.
+    sector: u32,
 }
 
 impl Blocks {
@@ -103,33 +110,46 @@ impl Blocks {
 
     // The address of the next block, if that of its row is at hand.
     fn known(&self) -> Option<u32> {
-        if self.next < DIRECT {
+        if self.next < DIRECT_BLOCKS {
             return self.inode.direct.get(self.next as usize).copied();
         }
         let row = self.row?;
         row.get(self.next.saturating_sub(row.first))
     }
 
-    // The sector of the row that the next block is in, behind those of the inode.
-    fn row_way(&self) -> Way {
-        if self.next < DOUBLE_FIRST {
-            return Way::Row(self.inode.single);
+    // The row that the next block is in, behind those of the inode, or the double root above it.
+    fn row_way(&self) -> Option<Way> {
+        if self.next < FIRST_DOUBLE {
+            let sector = self.inode.single;
+            return Some(Way {
+                goal: Goal::Row,
+                sector,
+            });
         }
         let Some(root) = self.root else {
-            return Way::Root;
+            let sector = self.inode.double;
+            return Some(Way {
+                goal: Goal::Root,
+                sector,
+            });
         };
-        match root.get(self.next.saturating_sub(root.first) / ROW) {
-            Some(sector) => Way::Row(sector),
-            None => Way::End,
-        }
+        let sector = root.get(self.next.saturating_sub(root.first) / BLOCK_POINTERS)?;
+        Some(Way {
+            goal: Goal::Row,
+            sector,
+        })
     }
 
-    fn way(&self) -> Way {
+    // None behind the last block.
+    fn way(&self) -> Option<Way> {
         if self.next >= self.count {
-            return Way::End;
+            return None;
         }
         match self.known() {
-            Some(address) => Way::Block(address),
+            Some(sector) => Some(Way {
+                goal: Goal::Block,
+                sector,
+            }),
             None => self.row_way(),
         }
     }
@@ -146,55 +166,16 @@ impl Blocks {
         }
     }
 
-    fn take_block<D: SectorDevice>(
-        &mut self,
-        device: &mut D,
-        readings: &mut Readings,
-        sector: u32,
-    ) -> Piece
-        ensures { (D.state device.new).told ≡ (D.state device.old).told }
-    {
-        let gap = self.pass(1, sector);
-        if sector == 0 {
-            return Piece::Nothing;
+    // Takes in what was read.
+    fn take(&mut self, way: Way, bytes: &[u8; 512]) -> Piece {
+        match way.goal {
+            Goal::Block => {
+                let block = self.pass(1, way.sector).first;
+                return Piece::Block(block, way.sector, *bytes);
+            }
+            Goal::Row => self.row = Some(Row::new(self.next, bytes)),
+            Goal::Root => self.root = Some(Row::new(FIRST_DOUBLE, bytes)),
         }
-        match readings.read(device, sector) {
-            Some(bytes) => Piece::Block(gap.first, sector, bytes),
-            None => Piece::Gap(gap),
-        }
-    }
-
-    fn take_row<D: SectorDevice>(
-        &mut self,
-        device: &mut D,
-        readings: &mut Readings,
-        sector: u32,
-    ) -> Piece
-        ensures { (D.state device.new).told ≡ (D.state device.old).told }
-    {
-        if sector == 0 {
-            self.pass(ROW, sector);
-            return Piece::Nothing;
-        }
-        let Some(bytes) = readings.read(device, sector) else {
-            return Piece::Gap(self.pass(ROW, sector));
-        };
-        self.row = Some(Row::new(self.next, &bytes));
-        Piece::Nothing
-    }
-
-    fn take_root<D: SectorDevice>(&mut self, device: &mut D, readings: &mut Readings) -> Piece
-        ensures { (D.state device.new).told ≡ (D.state device.old).told }
-    {
-        let sector = self.inode.double;
-        if sector == 0 {
-            self.pass(MOST_BLOCKS, sector);
-            return Piece::Nothing;
-        }
-        let Some(bytes) = readings.read(device, sector) else {
-            return Piece::Gap(self.pass(MOST_BLOCKS, sector));
-        };
-        self.root = Some(Row::new(DOUBLE_FIRST, &bytes));
         Piece::Nothing
     }
 
@@ -205,13 +186,16 @@ impl Blocks {
         device: &mut D,
         readings: &mut Readings,
     ) -> Option<Piece>
-        ensures { (D.state device.new).told ≡ (D.state device.old).told }
+        ensures { TellsNothing (D.state device.old) (D.state device.new) }
     {
-        match self.way() {
-            Way::End => None,
-            Way::Block(sector) => Some(self.take_block(device, readings, sector)),
-            Way::Row(sector) => Some(self.take_row(device, readings, sector)),
-            Way::Root => Some(self.take_root(device, readings)),
+        let way = self.way()?;
+        if way.sector == 0 {
+            self.pass(way.goal.blocks(), 0);
+            return Some(Piece::Nothing);
         }
+        let Some(bytes) = readings.read(device, way.sector) else {
+            return Some(Piece::Gap(self.pass(way.goal.blocks(), way.sector)));
+        };
+        Some(self.take(way, &bytes))
     }
 }

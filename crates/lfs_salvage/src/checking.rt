@@ -1,9 +1,9 @@
 //! The stages of the check of a volume in order, to find where the first one fails.
-ghost use Rattle.std.specs.Prelude.{◌≡◌};
+ghost use Rattle.lfs_salvage.specs.Telling.{TellsNothing};
 
 use crate::count_stages::{clean_stage, label_stage, live_stage, need_stage};
-use crate::damage::{Damage, Stop};
-use crate::file_stages::{block_stage, inode_stage, leaf_stage, root_stage};
+use crate::damage::{Checked, Damage, Stop};
+use crate::file_stages::{FileStage, file_stage, inode_stage};
 use crate::log_stages::{map_stage, summary_stage, usage_stage};
 use crate::name_stages::{Names, link_stage, name_stage, slot_stage, text_stage};
 use crate::readings::Readings;
@@ -18,15 +18,15 @@ fn log_stages<D: SectorDevice>(
     device: &mut D,
     survey: &mut Survey,
 ) -> Result<Vec<Inode>, Stop>
-    ensures { (D.state device.new).told ≡ (D.state device.old).told }
+    ensures { TellsNothing (D.state device.old) (D.state device.new) }
 {
     usage_stage(device, survey)?;
     summary_stage(device, survey)?;
     map_stage(device, survey)?;
     let inodes = inode_stage(alloc, device, survey)?;
-    root_stage(device, survey, inodes.as_slice())?;
-    leaf_stage(device, survey, inodes.as_slice())?;
-    block_stage(device, survey, inodes.as_slice())?;
+    file_stage(device, survey, inodes.as_slice(), FileStage::Roots)?;
+    file_stage(device, survey, inodes.as_slice(), FileStage::Leaves)?;
+    file_stage(device, survey, inodes.as_slice(), FileStage::Blocks)?;
     label_stage(survey)?;
     live_stage(survey)?;
     Ok(inodes)
@@ -38,8 +38,8 @@ fn tree_stages<D: SectorDevice>(
     device: &mut D,
     survey: &Survey,
     inodes: &[Inode],
-) -> Result<(), Stop>
-    ensures { (D.state device.new).told ≡ (D.state device.old).told }
+) -> Checked
+    ensures { TellsNothing (D.state device.old) (D.state device.new) }
 {
     let mut readings = Readings::new(alloc, survey.checkpoint.segments)?;
     let mut names = Names::new(alloc, inodes)?;
@@ -52,12 +52,8 @@ fn tree_stages<D: SectorDevice>(
 }
 
 // All stages, in order.
-fn all_stages<D: SectorDevice>(
-    alloc: Global,
-    device: &mut D,
-    checkpoint: &Checkpoint,
-) -> Result<(), Stop>
-    ensures { (D.state device.new).told ≡ (D.state device.old).told }
+fn all_stages<D: SectorDevice>(alloc: Global, device: &mut D, checkpoint: &Checkpoint) -> Checked
+    ensures { TellsNothing (D.state device.old) (D.state device.new) }
 {
     let mut survey = Survey::new(alloc, checkpoint)?;
     let inodes = log_stages(alloc, device, &mut survey)?;
@@ -74,7 +70,7 @@ pub fn find_damage<D: SectorDevice>(
     device: &mut D,
     checkpoint: &Checkpoint,
 ) -> Result<Option<Damage>, AllocError>
-    ensures { (D.state device.new).told ≡ (D.state device.old).told }
+    ensures { TellsNothing (D.state device.old) (D.state device.new) }
 {
     match all_stages(alloc, device, checkpoint) {
         Ok(()) => Ok(None),

@@ -1,17 +1,12 @@
 //! Stages 8, 9, 14 and 15: labels, live counts, space and clean segments.
-use crate::damage::{Part, Stage, Stop};
-use crate::readings::{CHECKPOINT_SLOTS, SEGMENT_SECTORS};
+use crate::damage::{Checked, Part, Stage, Stop};
+use crate::readings::first_sector;
 use crate::survey::Survey;
 use lfs_layout::{BlockName, SegmentUsage};
 use lfs_model::BlockKind;
-
-/// The need of a tree without any block, that of each inode and block of pointers, and the most for
-/// each segment.
-const NEED_OF_NOTHING: u32 = 720;
-
-const NEED_OF_META: u32 = 7;
-
-const MOST_NEED: u32 = 47;
+use lfs_model::limits::{
+    CHECKPOINT_SLOTS, LEAST_NEED, NEED_OF_META, NEED_OF_SEGMENT, SEGMENT_SECTORS,
+};
 
 /// One segment in so many is to be clean.
 const CLEAN_PART: u32 = 8;
@@ -47,7 +42,7 @@ fn mislabelled(name: BlockName, sector: u32) -> Stop {
 }
 
 /// Labels.
-pub fn label_stage(survey: &Survey) -> Result<(), Stop> {
+pub fn label_stage(survey: &Survey) -> Checked {
     for sector in CHECKPOINT_SLOTS..survey.sectors() {
         if let Some(name) = survey.reached(sector) {
             let (segment, place) = segment_of(sector);
@@ -62,9 +57,7 @@ pub fn label_stage(survey: &Survey) -> Result<(), Stop> {
 
 // How many sectors of a segment were reached.
 fn live_in(survey: &Survey, segment: u32) -> u32 {
-    let first = SEGMENT_SECTORS
-        .saturating_mul(segment)
-        .saturating_add(CHECKPOINT_SLOTS);
+    let first = first_sector(segment);
     let mut live: u32 = 0;
     for place in 0..SEGMENT_SECTORS {
         let reached = survey.reached(first.saturating_add(place)).is_some();
@@ -74,7 +67,7 @@ fn live_in(survey: &Survey, segment: u32) -> u32 {
 }
 
 /// Live counts.
-pub fn live_stage(survey: &Survey) -> Result<(), Stop> {
+pub fn live_stage(survey: &Survey) -> Checked {
     for segment in 0..survey.checkpoint.segments {
         if live_in(survey, segment) != u32::from(usage_of(survey, segment).live) {
             return Err(Stage(9).fails(Part::Segment(segment), 0));
@@ -84,7 +77,7 @@ pub fn live_stage(survey: &Survey) -> Result<(), Stop> {
 }
 
 // What a block adds to the need of a tree.
-fn need_of(name: Option<BlockName>) -> u32 {
+fn need_of(name: Option<BlockName>) -> u64 {
     match name {
         Some(name) => match name.kind {
             BlockKind::Data => 1,
@@ -96,19 +89,19 @@ fn need_of(name: Option<BlockName>) -> u32 {
 }
 
 /// Space.
-pub fn need_stage(survey: &Survey) -> Result<(), Stop> {
-    let mut need = NEED_OF_NOTHING;
+pub fn need_stage(survey: &Survey) -> Checked {
+    let mut need = LEAST_NEED;
     for sector in 0..survey.sectors() {
         need = need.saturating_add(need_of(survey.reached(sector)));
     }
-    if need > MOST_NEED.saturating_mul(survey.checkpoint.segments) {
+    if need > NEED_OF_SEGMENT.saturating_mul(u64::from(survey.checkpoint.segments)) {
         return Err(Stage(14).fails(Part::All, 0));
     }
     Ok(())
 }
 
 /// Clean segments.
-pub fn clean_stage(survey: &Survey) -> Result<(), Stop> {
+pub fn clean_stage(survey: &Survey) -> Checked {
     let clean = survey.usage.iter().filter(|usage| usage.used == 0).count();
     if clean.saturating_mul(CLEAN_PART as usize) < survey.usage.len() {
         return Err(Stage(15).fails(Part::All, 0));

@@ -42,6 +42,9 @@ pub enum Stop {
     Memory(AllocError),
 }
 
+/// What a stage answers.
+pub type Checked = Result<(), Stop>;
+
 impl From<AllocError> for Stop {
     fn from(error: AllocError) -> Stop {
         Stop::Memory(error)

@@ -1,5 +1,5 @@
 //! The entries of a directory, as far as they can be read.
-ghost use Rattle.std.specs.Prelude.{◌≡◌};
+ghost use Rattle.lfs_salvage.specs.Telling.{TellsNothing};
 
 use crate::blocks::{BLOCK_LEN, Blocks, Gap, MOST_STEPS, Piece};
 use crate::readings::Readings;
@@ -104,7 +104,7 @@ pub fn list<D: SectorDevice>(
     readings: &mut Readings,
     inode: &Inode,
 ) -> Result<Listing, AllocError>
-    ensures { (D.state device.new).told ≡ (D.state device.old).told }
+    ensures { TellsNothing (D.state device.old) (D.state device.new) }
 {
     let mut listing = Listing {
         entries: Vec::new(alloc),

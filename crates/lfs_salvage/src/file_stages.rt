@@ -1,13 +1,14 @@
 //! Stages 4 to 7: inodes, blocks of pointers, and data blocks.
-ghost use Rattle.std.specs.Prelude.{◌≡◌};
+ghost use Rattle.lfs_salvage.specs.Telling.{TellsNothing};
 
-use crate::blocks::{BLOCK_LEN, DIRECT, DOUBLE_FIRST, ROW};
-use crate::damage::{Part, Stage, Stop};
+use crate::blocks::BLOCK_LEN;
+use crate::damage::{Checked, Part, Stage, Stop};
 use crate::readings::read_sector;
 use crate::survey::Survey;
-use crate::walk::{MOST_NUMBERS, ROOT};
+use crate::walk::{NUMBERS, ROOT};
 use lfs_device::SectorDevice;
 use lfs_layout::{BlockName, Inode, InodeView, PointerView, is_zero};
+use lfs_model::limits::{BLOCK_POINTERS, DIRECT_BLOCKS, FIRST_DOUBLE};
 use lfs_model::{BlockKind, Kind};
 use std::alloc::Global;
 
@@ -27,7 +28,7 @@ fn take_inode<D: SectorDevice>(
     number: u32,
     sector: u32,
 ) -> Option<Inode>
-    ensures { (D.state device.new).told ≡ (D.state device.old).told }
+    ensures { TellsNothing (D.state device.old) (D.state device.new) }
 {
     let name = name_of(number, BlockKind::Inode, 0);
     let bytes = survey.take(device, sector, name)?;
@@ -47,10 +48,10 @@ pub fn inode_stage<D: SectorDevice>(
     device: &mut D,
     survey: &mut Survey,
 ) -> Result<Vec<Inode>, Stop>
-    ensures { (D.state device.new).told ≡ (D.state device.old).told }
+    ensures { TellsNothing (D.state device.old) (D.state device.new) }
 {
     let mut inodes = Vec::new(alloc);
-    for number in 0..MOST_NUMBERS {
+    for number in 0..NUMBERS {
         let sector = survey.address(number);
         if sector != 0 {
             match take_inode(device, survey, number, sector) {
@@ -70,8 +71,8 @@ fn take_pointers<D: SectorDevice>(
     number: u32,
     part: Part,
     sector: u32,
-) -> Result<(), Stop>
-    ensures { (D.state device.new).told ≡ (D.state device.old).told }
+) -> Checked
+    ensures { TellsNothing (D.state device.old) (D.state device.new) }
 {
     if sector == 0 {
         return Ok(());
@@ -86,26 +87,19 @@ fn take_pointers<D: SectorDevice>(
     }
 }
 
-/// Single leaves and double roots.
-pub fn root_stage<D: SectorDevice>(
-    device: &mut D,
-    survey: &mut Survey,
-    inodes: &[Inode],
-) -> Result<(), Stop>
-    ensures { (D.state device.new).told ≡ (D.state device.old).told }
+// Looks at the single leaf and the double root of an object.
+fn take_roots<D: SectorDevice>(device: &mut D, survey: &mut Survey, inode: &Inode) -> Checked
+    ensures { TellsNothing (D.state device.old) (D.state device.new) }
 {
-    for inode in inodes {
-        let leaf = Part::Leaf(0);
-        take_pointers(device, survey, Stage(5), inode.number, leaf, inode.single)?;
-        let double = Part::Double;
-        take_pointers(device, survey, Stage(5), inode.number, double, inode.double)?;
-    }
-    Ok(())
+    let leaf = Part::Leaf(0);
+    take_pointers(device, survey, Stage(5), inode.number, leaf, inode.single)?;
+    let double = Part::Double;
+    take_pointers(device, survey, Stage(5), inode.number, double, inode.double)
 }
 
 // The addresses in a block of pointers, all 0 where there is none.
 fn addresses_in<D: SectorDevice>(device: &mut D, sector: u32) -> [u32; 128]
-    ensures { (D.state device.new).told ≡ (D.state device.old).told }
+    ensures { TellsNothing (D.state device.old) (D.state device.new) }
 {
     if sector == 0 {
         return [0; 128];
@@ -117,12 +111,8 @@ fn addresses_in<D: SectorDevice>(device: &mut D, sector: u32) -> [u32; 128]
 }
 
 // Looks at the leaves of a double root.
-fn take_leaves<D: SectorDevice>(
-    device: &mut D,
-    survey: &mut Survey,
-    inode: &Inode,
-) -> Result<(), Stop>
-    ensures { (D.state device.new).told ≡ (D.state device.old).told }
+fn take_leaves<D: SectorDevice>(device: &mut D, survey: &mut Survey, inode: &Inode) -> Checked
+    ensures { TellsNothing (D.state device.old) (D.state device.new) }
 {
     let leaves = addresses_in(device, inode.double);
     let mut leaf: u32 = 0;
@@ -130,20 +120,6 @@ fn take_leaves<D: SectorDevice>(
         leaf = leaf.saturating_add(1);
         let part = Part::Leaf(leaf);
         take_pointers(device, survey, Stage(6), inode.number, part, *sector)?;
-    }
-    Ok(())
-}
-
-/// Leaves of double roots.
-pub fn leaf_stage<D: SectorDevice>(
-    device: &mut D,
-    survey: &mut Survey,
-    inodes: &[Inode],
-) -> Result<(), Stop>
-    ensures { (D.state device.new).told ≡ (D.state device.old).told }
-{
-    for inode in inodes {
-        take_leaves(device, survey, inode)?;
     }
     Ok(())
 }
@@ -168,8 +144,8 @@ fn take_row<D: SectorDevice>(
     inode: &Inode,
     first: u32,
     addresses: &[u32],
-) -> Result<(), Stop>
-    ensures { (D.state device.new).told ≡ (D.state device.old).told }
+) -> Checked
+    ensures { TellsNothing (D.state device.old) (D.state device.new) }
 {
     let mut block = first;
     for sector in addresses {
@@ -186,47 +162,67 @@ fn take_row<D: SectorDevice>(
 }
 
 // Looks at the data blocks that a double root leads to.
-fn take_rows<D: SectorDevice>(
-    device: &mut D,
-    survey: &mut Survey,
-    inode: &Inode,
-) -> Result<(), Stop>
-    ensures { (D.state device.new).told ≡ (D.state device.old).told }
+fn take_rows<D: SectorDevice>(device: &mut D, survey: &mut Survey, inode: &Inode) -> Checked
+    ensures { TellsNothing (D.state device.old) (D.state device.new) }
 {
     let leaves = addresses_in(device, inode.double);
-    let mut first = DOUBLE_FIRST;
+    let mut first = FIRST_DOUBLE;
     for leaf in &leaves {
         let addresses = addresses_in(device, *leaf);
         take_row(device, survey, inode, first, &addresses)?;
-        first = first.saturating_add(ROW);
+        first = first.saturating_add(BLOCK_POINTERS);
     }
     Ok(())
 }
 
 // Looks at the data blocks of an object.
-fn take_blocks<D: SectorDevice>(
-    device: &mut D,
-    survey: &mut Survey,
-    inode: &Inode,
-) -> Result<(), Stop>
-    ensures { (D.state device.new).told ≡ (D.state device.old).told }
+fn take_blocks<D: SectorDevice>(device: &mut D, survey: &mut Survey, inode: &Inode) -> Checked
+    ensures { TellsNothing (D.state device.old) (D.state device.new) }
 {
     take_row(device, survey, inode, 0, &inode.direct)?;
     let addresses = addresses_in(device, inode.single);
-    take_row(device, survey, inode, DIRECT, &addresses)?;
+    take_row(device, survey, inode, DIRECT_BLOCKS, &addresses)?;
     take_rows(device, survey, inode)
 }
 
-/// Data blocks.
-pub fn block_stage<D: SectorDevice>(
+/// The stages that go through all inodes.
+#[derive(Clone, Copy)]
+pub enum FileStage {
+    /// Single leaves and double roots.
+    Roots,
+    /// Leaves of double roots.
+    Leaves,
+    /// Data blocks.
+    Blocks,
+}
+
+// Looks at what a stage looks at of an object.
+fn take_part<D: SectorDevice>(
+    device: &mut D,
+    survey: &mut Survey,
+    inode: &Inode,
+    stage: FileStage,
+) -> Checked
+    ensures { TellsNothing (D.state device.old) (D.state device.new) }
+{
+    match stage {
+        FileStage::Roots => take_roots(device, survey, inode),
+        FileStage::Leaves => take_leaves(device, survey, inode),
+        FileStage::Blocks => take_blocks(device, survey, inode),
+    }
+}
+
+/// One of these stages.
+pub fn file_stage<D: SectorDevice>(
     device: &mut D,
     survey: &mut Survey,
     inodes: &[Inode],
-) -> Result<(), Stop>
-    ensures { (D.state device.new).told ≡ (D.state device.old).told }
+    stage: FileStage,
+) -> Checked
+    ensures { TellsNothing (D.state device.old) (D.state device.new) }
 {
     for inode in inodes {
-        take_blocks(device, survey, inode)?;
+        take_part(device, survey, inode, stage)?;
     }
     Ok(())
 }

@@ -25,4 +25,4 @@ pub use directory::{Entry, Listing, Place, list};
 pub use paths::{Paths, read_paths};
 pub use readings::{Readings, read_sector};
 pub use slots::{Slot, Slots, read_slots};
-pub use walk::{MOST_NUMBERS, ROOT, Walk, named_by};
+pub use walk::{NUMBERS, ROOT, Walk, named_by};

@@ -1,12 +1,12 @@
 //! Stages 10 to 13: directories, texts of links, names, and counts of links.
-ghost use Rattle.std.specs.Prelude.{◌≡◌};
+ghost use Rattle.lfs_salvage.specs.Telling.{TellsNothing};
 
 use crate::blocks::{BLOCK_LEN, Blocks, MOST_STEPS, Piece};
-use crate::damage::{Part, Stage, Stop};
+use crate::damage::{Checked, Part, Stage};
 use crate::directory::{Entry, list};
 use crate::readings::Readings;
 use crate::survey::Survey;
-use crate::walk::{MOST_NUMBERS, ROOT, Walk};
+use crate::walk::{NUMBERS, ROOT, Walk};
 use lfs_device::SectorDevice;
 use lfs_layout::Inode;
 use lfs_model::Kind;
@@ -47,15 +47,15 @@ impl Names {
     ///
     /// Where memory runs out.
     pub fn new(alloc: Global, inodes: &[Inode]) -> Result<Names, AllocError> {
-        let mut directories = Vec::from_elem(alloc, false, MOST_NUMBERS as usize)?;
+        let mut directories = Vec::from_elem(alloc, false, NUMBERS as usize)?;
         for inode in inodes {
             if let Some(place) = directories.get_mut(inode.number as usize) {
                 *place = inode.kind == Kind::Directory;
             }
         }
         Ok(Names {
-            counts: Vec::from_elem(alloc, 0, MOST_NUMBERS as usize)?,
-            below: Vec::from_elem(alloc, 0, MOST_NUMBERS as usize)?,
+            counts: Vec::from_elem(alloc, 0, NUMBERS as usize)?,
+            below: Vec::from_elem(alloc, 0, NUMBERS as usize)?,
             directories,
             ways: Vec::new(alloc),
         })
@@ -91,7 +91,7 @@ fn take_entries(
     names: &mut Names,
     directory: u32,
     entries: &[Entry],
-) -> Result<(), Stop> {
+) -> Checked {
     let mut seen = BTreeSet::new(alloc);
     for entry in entries {
         if !take_entry(alloc, survey, &mut seen, entry)? {
@@ -111,8 +111,8 @@ fn take_directory<D: SectorDevice>(
     readings: &mut Readings,
     names: &mut Names,
     inode: &Inode,
-) -> Result<(), Stop>
-    ensures { (D.state device.new).told ≡ (D.state device.old).told }
+) -> Checked
+    ensures { TellsNothing (D.state device.old) (D.state device.new) }
 {
     let listing = list(alloc, device, readings, inode)?;
     if let Some(place) = listing.strays.first() {
@@ -142,8 +142,8 @@ pub fn slot_stage<D: SectorDevice>(
     inodes: &[Inode],
     readings: &mut Readings,
     names: &mut Names,
-) -> Result<(), Stop>
-    ensures { (D.state device.new).told ≡ (D.state device.old).told }
+) -> Checked
+    ensures { TellsNothing (D.state device.old) (D.state device.new) }
 {
     for inode in inodes {
         if inode.kind == Kind::Directory {
@@ -160,12 +160,8 @@ fn text_len(inode: &Inode, block: u32) -> usize {
 }
 
 // Looks at the text of a link.
-fn take_text<D: SectorDevice>(
-    device: &mut D,
-    readings: &mut Readings,
-    inode: &Inode,
-) -> Result<(), Stop>
-    ensures { (D.state device.new).told ≡ (D.state device.old).told }
+fn take_text<D: SectorDevice>(device: &mut D, readings: &mut Readings, inode: &Inode) -> Checked
+    ensures { TellsNothing (D.state device.old) (D.state device.new) }
 {
     let mut blocks = Blocks::new(readings, *inode);
     for _ in 0..MOST_STEPS {
@@ -188,8 +184,8 @@ pub fn text_stage<D: SectorDevice>(
     device: &mut D,
     inodes: &[Inode],
     readings: &mut Readings,
-) -> Result<(), Stop>
-    ensures { (D.state device.new).told ≡ (D.state device.old).told }
+) -> Checked
+    ensures { TellsNothing (D.state device.old) (D.state device.new) }
 {
     for inode in inodes {
         if inode.kind == Kind::Link {
@@ -223,10 +219,8 @@ fn meet_below(walk: &mut Walk, names: &Names, directory: u32) -> Result<(), Allo
 
 // Comes to all directories that the root leads to.
 fn walk_down(alloc: Global, names: &Names) -> Result<Walk, AllocError> {
-    let mut walk = Walk::new(alloc)?;
-    walk.meet(ROOT);
-    walk.push(ROOT)?;
-    for _ in 0..MOST_NUMBERS {
+    let mut walk = Walk::from_root(alloc)?;
+    for _ in 0..NUMBERS {
         let Some(number) = walk.next_directory() else {
             break;
         };
@@ -236,7 +230,7 @@ fn walk_down(alloc: Global, names: &Names) -> Result<Walk, AllocError> {
 }
 
 // Stops at the first object that has too few names, or too many, or that the root doesn't lead to.
-fn find_misnamed(inodes: &[Inode], names: &Names, walk: &Walk) -> Result<(), Stop> {
+fn find_misnamed(inodes: &[Inode], names: &Names, walk: &Walk) -> Checked {
     for inode in inodes {
         let is_cut = inode.kind == Kind::Directory && !walk.has_met(inode.number);
         if is_cut || !is_named(names, inode) {
@@ -247,13 +241,13 @@ fn find_misnamed(inodes: &[Inode], names: &Names, walk: &Walk) -> Result<(), Sto
 }
 
 /// Names.
-pub fn name_stage(alloc: Global, inodes: &[Inode], names: &Names) -> Result<(), Stop> {
+pub fn name_stage(alloc: Global, inodes: &[Inode], names: &Names) -> Checked {
     let walk = walk_down(alloc, names)?;
     find_misnamed(inodes, names, &walk)
 }
 
 /// Counts of links.
-pub fn link_stage(inodes: &[Inode], names: &Names) -> Result<(), Stop> {
+pub fn link_stage(inodes: &[Inode], names: &Names) -> Checked {
     for inode in inodes {
         let links = match inode.kind {
             Kind::Directory => at(&names.below, inode.number).saturating_add(2),

@@ -1,10 +1,10 @@
 //! The paths of objects, by the first name that leads to each.
-ghost use Rattle.std.specs.Prelude.{◌≡◌};
+ghost use Rattle.lfs_salvage.specs.Telling.{TellsNothing};
 
 use crate::addresses::{Addresses, Object};
 use crate::directory::{Entry, list};
 use crate::readings::Readings;
-use crate::walk::{MOST_NUMBERS, ROOT, Walk};
+use crate::walk::{NUMBERS, ROOT, Walk};
 use lfs_device::SectorDevice;
 use lfs_model::Kind;
 use std::alloc::{AllocError, Global};
@@ -28,7 +28,7 @@ pub struct Paths {
 impl Paths {
     fn new(alloc: Global) -> Result<Paths, AllocError> {
         let mut above = Vec::new(alloc);
-        for _ in 0..MOST_NUMBERS {
+        for _ in 0..NUMBERS {
             above.push(Above {
                 directory: 0,
                 name: Vec::new(alloc),
@@ -59,7 +59,7 @@ impl Paths {
     fn way_up(&self, alloc: Global, number: u32) -> Result<Option<Vec<u32>>, AllocError> {
         let mut way = Vec::new(alloc);
         let mut at = number;
-        for _ in 0..MOST_NUMBERS {
+        for _ in 0..NUMBERS {
             if at == ROOT {
                 return Ok(Some(way));
             }
@@ -130,7 +130,7 @@ fn open<D: SectorDevice>(
     number: u32,
     sought: &[u8],
 ) -> Result<(), AllocError>
-    ensures { (D.state device.new).told ≡ (D.state device.old).told }
+    ensures { TellsNothing (D.state device.old) (D.state device.new) }
 {
     match addresses.object(device, number) {
         Object::There(inode) if inode.kind == Kind::Directory => {
@@ -160,14 +160,12 @@ pub fn read_paths<D: SectorDevice>(
     segments: u32,
     sought: &[u8],
 ) -> Result<Paths, AllocError>
-    ensures { (D.state device.new).told ≡ (D.state device.old).told }
+    ensures { TellsNothing (D.state device.old) (D.state device.new) }
 {
     let mut readings = Readings::new(alloc, segments)?;
     let mut paths = Paths::new(alloc)?;
-    let mut walk = Walk::new(alloc)?;
-    walk.meet(ROOT);
-    walk.push(ROOT)?;
-    for _ in 0..MOST_NUMBERS {
+    let mut walk = Walk::from_root(alloc)?;
+    for _ in 0..NUMBERS {
         let Some(number) = walk.next_directory() else {
             break;
         };

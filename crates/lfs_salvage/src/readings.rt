@@ -2,25 +2,28 @@
 ghost use Rattle.std.specs.Prelude.{◌≡◌, ◌≤◌, ◌+◌, ℕ, Some, IsTrue, IsSome, IfSome};
 ghost use Rattle.lfs_model.specs.Device.{cell_at};
 ghost use Rattle.lfs_salvage.specs.Readings.{readers_of};
+ghost use Rattle.lfs_salvage.specs.Telling.{TellsNothing};
 
 use lfs_device::SectorDevice;
+use lfs_model::limits::{CHECKPOINT_SLOTS, SEGMENT_SECTORS};
 use std::alloc::{AllocError, Global};
-
-/// The slots of the checkpoint come before the segments.
-pub const CHECKPOINT_SLOTS: u32 = 2;
-
-/// The sectors of a segment.
-pub const SEGMENT_SECTORS: u32 = 64;
 
 /// How many readers a sector may have. In a whole volume each block has one: damage in one sector
 /// adds another.
 const MOST_READERS: u8 = 4;
 
+/// The first sector of a segment, and so how many sectors are in front of it.
+pub fn first_sector(segment: u32) -> u32 {
+    SEGMENT_SECTORS
+        .saturating_mul(segment)
+        .saturating_add(CHECKPOINT_SLOTS)
+}
+
 /// The bytes of a sector. None where the device has no such sector, or can't read it.
 pub fn read_sector<D: SectorDevice>(device: &mut D, sector: u32) -> Option<[u8; 512]>
     ensures value { IfSome result (λ bytes. (D.state device.new).keeps_model
         → cell_at (D.state device.old).content sector ≡ Some bytes) }
-    ensures told { (D.state device.new).told ≡ (D.state device.old).told }
+    ensures told { TellsNothing (D.state device.old) (D.state device.new) }
 {
     let mut bytes = [0; 512];
     if sector >= device.sectors() || device.read(sector, &mut bytes).is_err() {
@@ -51,9 +54,7 @@ impl Readings {
     ///
     /// Where memory runs out.
     pub fn new(alloc: Global, segments: u32) -> Result<Readings, AllocError> {
-        let sectors = SEGMENT_SECTORS
-            .saturating_mul(segments)
-            .saturating_add(CHECKPOINT_SLOTS);
+        let sectors = first_sector(segments);
         let nobody = Readers { last: 0, count: 0 };
         Ok(Readings {
             sectors: Vec::from_elem(alloc, nobody, sectors as usize)?,
@@ -112,7 +113,7 @@ impl Readings {
             → readers_of self.new sector ≡ readers_of self.old sector + 1 }
         ensures few { IsSome result → readers_of self.new sector ≤ MOST_READERS }
         ensures kept { (other : ℕ) → readers_of self.old other ≤ readers_of self.new other }
-        ensures told { (D.state device.new).told ≡ (D.state device.old).told }
+        ensures told { TellsNothing (D.state device.old) (D.state device.new) }
     {
         if !self.take(sector) {
             return None;

@@ -1,6 +1,7 @@
 //! The two slots of the checkpoint.
 ghost use Rattle.std.specs.Prelude.{◌≡◌, ◌<◌, ◌≤◌, ◌↔◌, ◌⊎◌, IsTrue, IsSome, IfSome};
 ghost use Rattle.lfs_salvage.specs.Slots.{number_in};
+ghost use Rattle.lfs_salvage.specs.Telling.{TellsNothing};
 
 use crate::readings::read_sector;
 use lfs_device::SectorDevice;
@@ -47,7 +48,7 @@ pub struct Slots {
 
 // A checkpoint stands in the slot that its number says.
 fn read_slot<D: SectorDevice>(device: &mut D, sector: u32) -> Slot
-    ensures { (D.state device.new).told ≡ (D.state device.old).told }
+    ensures { TellsNothing (D.state device.old) (D.state device.new) }
 {
     let Some(bytes) = read_sector(device, sector) else {
         return Slot::Other;
@@ -61,7 +62,7 @@ fn read_slot<D: SectorDevice>(device: &mut D, sector: u32) -> Slot
 
 /// Reads both slots.
 pub fn read_slots<D: SectorDevice>(device: &mut D) -> Slots
-    ensures { (D.state device.new).told ≡ (D.state device.old).told }
+    ensures { TellsNothing (D.state device.old) (D.state device.new) }
 {
     Slots {
         first: read_slot(device, 0),

@@ -1,9 +1,10 @@
 //! What the check of a volume has learned so far.
-ghost use Rattle.std.specs.Prelude.{◌≡◌};
+ghost use Rattle.lfs_salvage.specs.Telling.{TellsNothing};
 
-use crate::readings::{CHECKPOINT_SLOTS, SEGMENT_SECTORS, read_sector};
+use crate::readings::{first_sector, read_sector};
 use lfs_device::SectorDevice;
 use lfs_layout::{BlockName, Checkpoint, SegmentUsage};
+use lfs_model::limits::CHECKPOINT_SLOTS;
 use std::alloc::{AllocError, Global};
 
 /// A volume whose stages are gone through, one after another.
@@ -26,9 +27,7 @@ impl Survey {
     ///
     /// Where memory runs out.
     pub fn new(alloc: Global, checkpoint: &Checkpoint) -> Result<Survey, AllocError> {
-        let sectors = SEGMENT_SECTORS
-            .saturating_mul(checkpoint.segments)
-            .saturating_add(CHECKPOINT_SLOTS) as usize;
+        let sectors = first_sector(checkpoint.segments) as usize;
         Ok(Survey {
             checkpoint: *checkpoint,
             reached: Vec::from_elem(alloc, None, sectors)?,
@@ -56,7 +55,7 @@ impl Survey {
         sector: u32,
         name: BlockName,
     ) -> Option<[u8; 512]>
-        ensures { (D.state device.new).told ≡ (D.state device.old).told }
+        ensures { TellsNothing (D.state device.old) (D.state device.new) }
     {
         if sector < CHECKPOINT_SLOTS {
             return None;

@@ -1,19 +1,21 @@
 //! Directories that are to be gone through, and a mark for each number that was met.
-ghost use Rattle.std.specs.Prelude.{◌≡◌, ℕ, IsTrue};
+ghost use Rattle.std.specs.Prelude.{ℕ, IsTrue};
 ghost use Rattle.lfs_salvage.specs.Met.{HasMet};
+ghost use Rattle.lfs_salvage.specs.Telling.{TellsNothing};
 
 use crate::addresses::{Addresses, Object};
 use crate::directory::list;
 use crate::readings::Readings;
 use lfs_device::SectorDevice;
-use lfs_model::Kind;
+use lfs_model::limits::FILE_NUMBERS;
+use lfs_model::{FileNumber, Kind};
 use std::alloc::{AllocError, Global};
 
 /// Numbers are below this.
-pub const MOST_NUMBERS: u32 = 4_096;
+pub const NUMBERS: u32 = FILE_NUMBERS as u32;
 
 /// The number of the root.
-pub const ROOT: u32 = 1;
+pub const ROOT: u32 = FileNumber::ROOT.value as u32;
 
 /// A walk, which comes to each number once: so no way leads round.
 #[derive(Drop)]
@@ -31,10 +33,22 @@ impl Walk {
     /// Where memory runs out.
     pub fn new(alloc: Global) -> Result<Walk, AllocError> {
         Ok(Walk {
-            met: Vec::from_elem(alloc, false, MOST_NUMBERS as usize)?,
+            met: Vec::from_elem(alloc, false, NUMBERS as usize)?,
             directories: Vec::new(alloc),
             next: 0,
         })
+    }
+
+    /// The root was met, and is to be gone through.
+    ///
+    /// # Errors
+    ///
+    /// Where memory runs out.
+    pub fn from_root(alloc: Global) -> Result<Walk, AllocError> {
+        let mut walk = Walk::new(alloc)?;
+        walk.meet(ROOT);
+        walk.push(ROOT)?;
+        Ok(walk)
     }
 
     /// Whether a number was met.
@@ -87,7 +101,7 @@ fn mark_names<D: SectorDevice>(
     object: Object,
     named: &mut [bool],
 ) -> Result<(), AllocError>
-    ensures { (D.state device.new).told ≡ (D.state device.old).told }
+    ensures { TellsNothing (D.state device.old) (D.state device.new) }
 {
     let Object::There(inode) = object else {
         return Ok(());
@@ -118,10 +132,10 @@ pub fn named_by<D: SectorDevice>(
     addresses: &Addresses,
     walk: &Walk,
 ) -> Result<Vec<bool>, AllocError>
-    ensures { (D.state device.new).told ≡ (D.state device.old).told }
+    ensures { TellsNothing (D.state device.old) (D.state device.new) }
 {
-    let mut named = Vec::from_elem(alloc, false, MOST_NUMBERS as usize)?;
-    for number in 0..MOST_NUMBERS {
+    let mut named = Vec::from_elem(alloc, false, NUMBERS as usize)?;
+    for number in 0..NUMBERS {
         if !walk.has_met(number) {
             let object = addresses.object(device, number);
             mark_names(alloc, device, readings, object, &mut named)?;

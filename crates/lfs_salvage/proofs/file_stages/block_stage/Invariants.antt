@@ -1,6 +1,0 @@
-use Rattle.std.proofs.Common.{◌≡◌}
-use Rattle.lfs_salvage.proofs.file_stages.block_stage.Given as goal
-
-abbrev pub invariant-loop-inode : goal.invariant-loop-inode
-invariant-loop-inode g l =
-    (g.D.SectorDevice.state l.device).told ≡ (g.D.SectorDevice.state l.initial.device).told
