@@ -1,10 +1,11 @@
 -- A memory device as contracts see it.
-use Rattle.std.specs.Prelude.{List}
-use Rattle.lfs_model.specs.Device.{DeviceState}
+use Rattle.std.specs.Prelude.{◌≡◌, false, List, None}
+use Rattle.lfs_model.specs.Device.{DeviceState, Carries, Elapses, Only}
 use Rattle.lfs_device.specs.Memory.{memory_state}
-use Rattle.lfs_device.specs.Rows.{states_of}
+use Rattle.lfs_device.specs.Rows.{states_of, stopped}
 use Rattle.lfs_device.specs.Told.{orders_of}
 use Rattle.lfs_device.specs.declared.rows.Row.{Row}
+use Rattle.lfs_device.specs.declared.rows.Left.{Left}
 use Rattle.lfs_device.specs.declared.bench.Bench.{Bench}
 use Rattle.lfs_device.specs.declared.memory.MemDevice.{MemDevice}
 
@@ -22,3 +23,15 @@ bench_of d = d.bench
 -- the device with other calls that fail, and nothing else changed
 abbrev pub with_bench : Bench → MemDevice → MemDevice
 with_bench bench d = record d { bench = bench }
+
+-- The device stopped, and left what was chosen of each unsynced sector in order of number, and `rest` of those past the list. It goes on
+-- from there, and calls don't stop it any more.
+pub record IsStopped (choices : List Left) (rest : Left) (old new : MemDevice) : Type 0 where
+  pub rows : rows_of new ≡ stopped choices rest (rows_of old)
+  pub chosen : (device_state old).may_leave (device_state new).content
+  pub durable : Only (device_state new).content (device_state new)
+  pub same_failures : (device_state new).failures ≡ (device_state old).failures
+  pub carries : Carries (device_state old) (device_state new)
+  pub time : Elapses (device_state old) (device_state new)
+  pub bench : bench_of new ≡ record (bench_of old) { stop = None; stopped = false }
+  pub keeps : (device_state new).keeps_model

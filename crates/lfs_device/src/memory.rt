@@ -52,9 +52,8 @@ pub struct MemDevice {
 impl MemDevice {
     ghost use Rattle.lfs_model.specs.declared.limits.TheConstants.{SECTOR_LEN};
     ghost use Rattle.lfs_model.specs.Device.{lose};
-    ghost use Rattle.lfs_device.specs.Rows.{stopped};
     ghost use Rattle.lfs_device.specs.Bench.{no_faults, with_fault};
-    ghost use Rattle.lfs_device.specs.MemoryDevice.{device_state, rows_of, bench_of, with_bench};
+    ghost use Rattle.lfs_device.specs.MemoryDevice.{IsStopped, device_state, bench_of, with_bench};
 
     /// A device of this many sectors, all zeros and synced. The memory for every later call is
     /// taken here.
@@ -110,16 +109,7 @@ impl MemDevice {
     }
 
     fn stop(&mut self, choices: &[Left], rest: Left)
-        ensures rows { rows_of self.new ≡ stopped choices.now rest (rows_of self.old) }
-        ensures chosen { (device_state self.old).may_leave (device_state self.new).content }
-        ensures durable { Only (device_state self.new).content (device_state self.new) }
-        ensures same_failures { (device_state self.new).failures
-            ≡ (device_state self.old).failures }
-        ensures carries { Carries (device_state self.old) (device_state self.new) }
-        ensures time { Elapses (device_state self.old) (device_state self.new) }
-        ensures bench { bench_of self.new ≡ record (bench_of self.old)
-            { stop = None; stopped = false } }
-        ensures keeps { (device_state self.new).keeps_model }
+        ensures { IsStopped choices.now rest self.old self.new }
     {
         note(&self.rows, &mut self.past);
         stop_rows(&mut self.rows, choices, rest);
@@ -130,16 +120,7 @@ impl MemDevice {
 
     /// Stops the device, which leaves this of each unsynced sector. It goes on from what was left.
     pub fn crash(&mut self, left: Left)
-        ensures rows { rows_of self.new ≡ stopped [] left (rows_of self.old) }
-        ensures chosen { (device_state self.old).may_leave (device_state self.new).content }
-        ensures durable { Only (device_state self.new).content (device_state self.new) }
-        ensures same_failures { (device_state self.new).failures
-            ≡ (device_state self.old).failures }
-        ensures carries { Carries (device_state self.old) (device_state self.new) }
-        ensures time { Elapses (device_state self.old) (device_state self.new) }
-        ensures bench { bench_of self.new ≡ record (bench_of self.old)
-            { stop = None; stopped = false } }
-        ensures keeps { (device_state self.new).keeps_model }
+        ensures { IsStopped [] left self.old self.new }
     {
         self.stop(&[], left);
     }
@@ -147,16 +128,7 @@ impl MemDevice {
     /// As `crash`, with a choice for each unsynced sector in order of number. Those past the list
     /// are as at the last sync.
     pub fn crash_each(&mut self, left: &[Left])
-        ensures rows { rows_of self.new ≡ stopped left.now Left.Old (rows_of self.old) }
-        ensures chosen { (device_state self.old).may_leave (device_state self.new).content }
-        ensures durable { Only (device_state self.new).content (device_state self.new) }
-        ensures same_failures { (device_state self.new).failures
-            ≡ (device_state self.old).failures }
-        ensures carries { Carries (device_state self.old) (device_state self.new) }
-        ensures time { Elapses (device_state self.old) (device_state self.new) }
-        ensures bench { bench_of self.new ≡ record (bench_of self.old)
-            { stop = None; stopped = false } }
-        ensures keeps { (device_state self.new).keeps_model }
+        ensures { IsStopped left.now Left.Old self.old self.new }
     {
         self.stop(left, Left::Old);
     }

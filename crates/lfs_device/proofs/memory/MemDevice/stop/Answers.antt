@@ -1,4 +1,4 @@
-use Rattle.std.proofs.Common.{◌≡◌, List, length, sym, ◌∙◌, ap, arith}
+use Rattle.std.proofs.Common.{◌≡◌, List, length, refl, rules, sym, ◌∙◌, ap, arith}
 use Rattle.lfs_device.specs.declared.rows.Row.{Row}
 use Rattle.lfs_device.proofs.Stops.{length-stopped, chosen_by_stop, only_after_stop, were_whole}
 use Rattle.lfs_device.proofs.UnsyncedLists.{none_after_stop}
@@ -19,8 +19,14 @@ invariant_of-self c =
       room = (let kept = c.clear.ensures.capacity in let room = c.args.self.now.room in omega (arith, same, kept, room));
     }
 
-pub returns-clause-chosen : goal.returns-clause-chosen
-returns-clause-chosen c = chosen_by_stop _ _ _ _ _ c.stop_rows.ensures
-
-pub returns-clause-durable : goal.returns-clause-durable
-returns-clause-durable c = only_after_stop _ _ _ _ _ c.stop_rows.ensures
+pub returns : goal.returns
+returns c = record {
+  rows = c.stop_rows.ensures;
+  chosen = chosen_by_stop _ _ _ _ _ c.stop_rows.ensures;
+  durable = only_after_stop _ _ _ _ _ c.stop_rows.ensures;
+  same_failures = refl;
+  carries = search rules;
+  time = search rules;
+  bench = refl;
+  keeps = tt;
+}
