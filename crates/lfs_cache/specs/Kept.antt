@@ -1,9 +1,11 @@
 -- What is kept of a device, and what a look-up lends.
-use Rattle.std.specs.Prelude.{◌≡◌, ◌⊎◌, ◌<◌, ℕ, List, Option, Some, None, Result, IfOk, OnOk, IsErrOf, nat_eq}
+use Rattle.std.specs.Prelude.{◌≡◌, ◌∷◌, ◌⊎◌, ◌<◌, ℕ, List, Option, Some, None, Result, IfOk, OnOk, OnErr, IsErrOf, nat_eq}
 use Rattle.std.specs.Map.{lookup, remove_entry}
 use Rattle.lru.specs.LruCache.{LruCache, lru_cache, promoted, put_entries}
 use denote.Ref.{Bor}
-use Rattle.lfs_model.specs.Device.{DeviceState, cell_at, IsUntouched, Carries, Elapses}
+use Rattle.lfs_model.specs.Device.{DeviceState, cell_at, put, MayWrite, CrashWrites, MayTell, IsUntouched, Carries, Elapses}
+use Rattle.lfs_model.specs.declared.Order.TheVariants as order
+use Rattle.lfs_device.specs.declared.device.DeviceFault.{DeviceFault}
 use Rattle.lfs_device.specs.declared.device.ReadFault.{ReadFault}
 use Rattle.lfs_device.specs.declared.device.ReadFault.TheVariants as fault
 
@@ -53,3 +55,15 @@ pub record OnlyReads {A : Type 0} (d d' : DeviceState) (sector : ℕ) (result : 
 pub record Lends (d d' : DeviceState) (sector : ℕ) (result : Result (Bor (List ℕ)) ReadFault) : Type 0 where
   pub value : IfOk result (λ bytes. d'.keeps_model → cell_at d.content sector ≡ Some bytes.now)
   pub reads : OnlyReads d d' sector result
+
+-- A sector was written, or not: all that the trait says of a write.
+pub record PutsSector {A : Type 0} (d d' : DeviceState) (sector : ℕ) (bytes : List ℕ) (result : Result A DeviceFault) : Type 0 where
+  pub written : OnOk result (d'.keeps_model → d'.content ≡ put d.content sector bytes)
+  pub failed_write : OnErr result (d'.keeps_model → MayWrite sector bytes d.content d'.content)
+  pub crash : CrashWrites sector bytes d d'
+  pub failed : OnErr result (d.failures < d'.failures)
+  pub no_failure : OnOk result (d'.failures ≡ d.failures)
+  pub carries : Carries d d'
+  pub time : Elapses d d'
+  pub told : OnOk result (d'.told ≡ order.Write sector bytes ∷ d.told)
+  pub may_tell : OnErr result (MayTell (order.Write sector bytes) d.told d'.told)

@@ -1,9 +1,9 @@
 // A device beside those of its sectors that are kept.
 ghost use Rattle.std.specs.Prelude.{◌≡◌, ◌∷◌, ◌<◌, ◌≤◌, None, Some, [], OnOk, OnErr, IsOk, IsSome, MatchOption, MatchResult, IfOk};
 ghost use Rattle.lru.specs.LruCache.{lru_cache};
-ghost use Rattle.lfs_model.specs.Device.{cell_at, put, MayWrite, Only, Carries, Elapses, IsUntouched, CrashWrites, MayTell};
+ghost use Rattle.lfs_model.specs.Device.{cell_at, Only, Carries, Elapses, IsUntouched, MayTell};
 ghost use Rattle.lfs_model.specs.declared.Order.TheVariants as order;
-ghost use Rattle.lfs_cache.specs.Kept.{Agrees, KeepsAlso, OnlyReads, kept_at, promoted_at, without};
+ghost use Rattle.lfs_cache.specs.Kept.{Agrees, KeepsAlso, OnlyReads, PutsSector, kept_at, promoted_at, without};
 
 use crate::cache::MOST_SECTORS;
 use crate::kept::{Kept, forget, keep, last_used};
@@ -136,24 +136,8 @@ impl<D: SectorDevice> Sectors<D> {
         ensures agrees { Agrees self.new.kept (D.state self.new.device) }
         ensures kept { OnOk result (KeepsAlso sector bytes.now self.old.kept self.new.kept) }
         ensures unkept { OnErr result (self.new.kept ≡ without self.old.kept sector) }
-        ensures written { OnOk result ((D.state self.new.device).keeps_model
-            → (D.state self.new.device).content ≡ put
-            (D.state self.old.device).content sector bytes.now) }
-        ensures failed_write { OnErr result ((D.state self.new.device).keeps_model
-            → MayWrite sector bytes.now (D.state self.old.device).content
-            (D.state self.new.device).content) }
-        ensures crash { CrashWrites sector bytes.now (D.state self.old.device)
-            (D.state self.new.device) }
-        ensures failed { OnErr result
-            ((D.state self.old.device).failures < (D.state self.new.device).failures) }
-        ensures no_failure { OnOk result ((D.state self.new.device).failures
-            ≡ (D.state self.old.device).failures) }
-        ensures carries { Carries (D.state self.old.device) (D.state self.new.device) }
-        ensures time { Elapses (D.state self.old.device) (D.state self.new.device) }
-        ensures told { OnOk result ((D.state self.new.device).told
-            ≡ order.Write sector bytes.now ∷ (D.state self.old.device).told) }
-        ensures may_tell { OnErr result (MayTell (order.Write sector bytes.now)
-            (D.state self.old.device).told (D.state self.new.device).told) }
+        ensures puts { PutsSector (D.state self.old.device) (D.state self.new.device)
+            sector bytes.now result }
     {
         match self.device.write(sector, bytes) {
             Ok(()) => {
@@ -173,24 +157,8 @@ impl<D: SectorDevice> Sectors<D> {
         requires agrees { Agrees self.old.kept (D.state self.old.device) }
         ensures agrees { Agrees self.new.kept (D.state self.new.device) }
         ensures kept { self.new.kept ≡ without self.old.kept sector }
-        ensures written { OnOk result ((D.state self.new.device).keeps_model
-            → (D.state self.new.device).content ≡ put
-            (D.state self.old.device).content sector bytes.now) }
-        ensures failed_write { OnErr result ((D.state self.new.device).keeps_model
-            → MayWrite sector bytes.now (D.state self.old.device).content
-            (D.state self.new.device).content) }
-        ensures crash { CrashWrites sector bytes.now (D.state self.old.device)
-            (D.state self.new.device) }
-        ensures failed { OnErr result
-            ((D.state self.old.device).failures < (D.state self.new.device).failures) }
-        ensures no_failure { OnOk result ((D.state self.new.device).failures
-            ≡ (D.state self.old.device).failures) }
-        ensures carries { Carries (D.state self.old.device) (D.state self.new.device) }
-        ensures time { Elapses (D.state self.old.device) (D.state self.new.device) }
-        ensures told { OnOk result ((D.state self.new.device).told
-            ≡ order.Write sector bytes.now ∷ (D.state self.old.device).told) }
-        ensures may_tell { OnErr result (MayTell (order.Write sector bytes.now)
-            (D.state self.old.device).told (D.state self.new.device).told) }
+        ensures puts { PutsSector (D.state self.old.device) (D.state self.new.device)
+            sector bytes.now result }
     {
         forget(&mut self.kept, sector);
         self.device.write_around(sector, bytes)
