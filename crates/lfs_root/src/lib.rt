@@ -8,6 +8,7 @@ ghost use Rattle.lfs_model.specs.Slots.{SlotHolds, IsNewest, HasNoCheckpoint, Ne
 
 use lfs_device::{DeviceFault, ReadFault, SectorDevice};
 use lfs_layout::Checkpoint;
+use lfs_model::limits::CHECKPOINT_SLOTS;
 
 /// Why no checkpoint is given.
 #[derive(Clone, Copy, Debug, PartialEq, Eq)]
@@ -75,7 +76,7 @@ fn greater(first: Option<Checkpoint>, second: Option<Checkpoint>) -> Option<Chec
 ///
 /// `Missing` where neither slot holds a checkpoint, `Device` where a call of the device failed.
 pub fn newest<D: SectorDevice>(device: &mut D) -> Result<Checkpoint, RootFault>
-    requires { 2 ≤ (D.state device.old).size }
+    requires { CHECKPOINT_SLOTS ≤ (D.state device.old).size }
     ensures fits { IfOk result FitsCheckpoint }
     ensures found { IfOk result (λ c. (D.state device.new).keeps_model
         → IsNewest (D.state device.old).content c) }
@@ -145,7 +146,7 @@ fn write_durably<D: SectorDevice>(
 ///
 /// `DeviceFault` where the write or the sync failed.
 pub fn replace<D: SectorDevice>(device: &mut D, checkpoint: &Checkpoint) -> Result<(), DeviceFault>
-    requires size { 2 ≤ (D.state device.old).size }
+    requires size { CHECKPOINT_SLOTS ≤ (D.state device.old).size }
     requires fits { FitsCheckpoint checkpoint.now }
     ensures any_moment { LeavesOnly (D.state device.old) (D.state device.new)
         (ComesFrom (D.state device.old)
