@@ -1,6 +1,6 @@
 //! Names of blocks of files, in one word each.
-ghost use Rattle.std.specs.Prelude.{◌≡◌, ◌≢◌, true, ◌<◌, ◌≤◌, ◌/◌, ◌%◌, ℕ, IfSome, IfNone};
-ghost use Rattle.lfs_model.specs.Entry.{Data, Leaf, Double, Inode, entry_by, entry_of};
+ghost use Rattle.std.specs.Prelude.{◌≡◌, ◌≢◌, true, ◌<◌, ◌≤◌, ◌/◌, ◌%◌, IfSome, IfNone};
+ghost use Rattle.lfs_model.specs.Entry.{Data, Leaf, Double, Inode, entry_of};
 ghost use Rattle.lfs_model.specs.Cutting.{is_past};
 ghost use Rattle.lfs_model.specs.Memory.{parent, pointer, IsPointers};
 ghost use Rattle.lfs_model.specs.Summary.{IsFileNumber, IsPlaced};

@@ -1,5 +1,5 @@
 //! The inode map in memory.
-ghost use Rattle.std.specs.Prelude.{◌≡◌, ◌<◌, ◌≤◌, ◌+◌, ◌*◌, ℕ, List, length, get_or, slice_set, IfOk, IfSome, IfNone, IsTrue, IsFalse};
+ghost use Rattle.std.specs.Prelude.{◌≡◌, ◌<◌, ◌≤◌, ◌+◌, ◌*◌, ℕ, length, get_or, slice_set, IfOk, IfSome, IfNone, IsTrue, IsFalse};
 ghost use Rattle.lfs_model.specs.Stands.{LogMap};
 ghost use Rattle.lfs_model.specs.Running.{Tables, IsSet};
 ghost use Rattle.lfs_model.specs.Committing.{SpellsMap};

@@ -1,5 +1,5 @@
 //! The way from an inode to the blocks of its file.
-ghost use Rattle.std.specs.Prelude.{[], ◌≡◌, ◌<◌, ◌≤◌, ◌↔◌, IsTrue, IfOk, IsErrOf};
+ghost use Rattle.std.specs.Prelude.{[], ◌≡◌, ◌<◌, ◌↔◌, IsTrue, IfOk, IsErrOf};
 ghost use Rattle.lfs_model.specs.Content.{block};
 ghost use Rattle.lfs_model.specs.Entry.{word};
 ghost use Rattle.lfs_inodes.specs.Following.{FollowsPointers};

@@ -1,5 +1,5 @@
 //! The way from an inode to the blocks of its file, where some of them are in memory.
-ghost use Rattle.std.specs.Prelude.{◌≡◌, ◌<◌, ◌≤◌, ◌⊎◌, ◌==◌, ℕ, List, cond, IfOk, IsErrOf};
+ghost use Rattle.std.specs.Prelude.{◌≡◌, ◌<◌, ◌≤◌, ◌⊎◌, ◌==◌, ℕ, List, IfOk, IsErrOf};
 ghost use Rattle.lfs_model.specs.Entry.{Leaf, word};
 ghost use Rattle.lfs_model.specs.Summary.{IsFileNumber};
 ghost use Rattle.lfs_inodes.specs.Following.{FollowsPointers};

@@ -1,18 +1,17 @@
 //! The blocks of files that are in memory.
-ghost use Rattle.std.specs.Prelude.{◌≡◌, ◌≢◌, true, ◌<◌, ◌≤◌, ◌+◌, ◌^◌, cond, ℕ, T, List, [], length, is_some, Some, None, IfOk, IfErr, IfSome, IfNone, IsSome, IsTrue, IsFalse, MatchOption, vec_len, vec_capacity};
+ghost use Rattle.std.specs.Prelude.{◌≡◌, ◌≢◌, true, ◌<◌, ◌≤◌, ◌+◌, ◌^◌, cond, ℕ, T, List, [], length, is_some, Some, None, IfOk, IfErr, IfSome, IfNone, IsTrue, IsFalse, MatchOption, vec_len, vec_capacity};
 ghost use Rattle.std.specs.Ordering.{nat_cmp};
-ghost use Rattle.std.specs.Option.{option_map};
 ghost use Rattle.std.specs.List.{remove};
 ghost use Rattle.std.specs.FinMap.{find, put, is_sorted};
 ghost use Rattle.lfs_model.specs.Entry.{Entry, word};
 ghost use Rattle.lfs_model.specs.Tree.{without};
-ghost use Rattle.lfs_model.specs.Memory.{patched, parent, pointer, file_of, IsOfFile, IsPointers, HasPointer};
+ghost use Rattle.lfs_model.specs.Memory.{patched, parent, pointer, IsOfFile, IsPointers, HasPointer};
 ghost use Rattle.lfs_model.specs.Cutting.{is_past};
 ghost use Rattle.lfs_model.specs.Running.{IsLowest, IsTight};
 ghost use Rattle.lfs_model.specs.Staging.{ChangesTo};
 ghost use Rattle.lfs_inodes.specs.Key.{entry_of};
 ghost use Rattle.lfs_inodes.specs.Empty.{IsEmptyBlock};
-ghost use Rattle.lfs_inodes.specs.Blocks.{blocks_of, altered, number_at, HasNumberAt, IsGapFor};
+ghost use Rattle.lfs_inodes.specs.Blocks.{blocks_of, number_at, HasNumberAt, IsGapFor};
 ghost use Rattle.lfs_inodes.specs.Code.{IsCode, entry_at};
 ghost use Rattle.lfs_inodes.specs.Table.{ClearsWords, Forgets, ForgetsPast, GivesOut, IsLimited, Patches, TakesIn};
 ghost use Rattle.lfs_inodes.specs.Held.{times, Stores};

@@ -1,5 +1,5 @@
 //! Which of two segments comes first in an order.
-ghost use Rattle.std.specs.Prelude.{◌<◌, ◌≤◌, IsTrue, IsFalse};
+ghost use Rattle.std.specs.Prelude.{◌<◌, IsTrue, IsFalse};
 ghost use Rattle.lfs_segments.specs.Choosing.{IsCandidate, Precedes, IsLighterAs, IsPreferredAs};
 ghost use Rattle.lfs_segments.specs.Table.{UsageTable};
 

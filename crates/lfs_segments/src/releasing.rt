@@ -1,6 +1,6 @@
 //! What becomes of the numbers of a segment as a checkpoint is acknowledged, and the segments to
 //! which something happens then, so that a commit looks at these alone.
-ghost use Rattle.std.specs.Prelude.{◌≡◌, ◌<◌, ◌≤◌, ℕ, List, length, get_or, slice_set, IsTrue, IsFalse};
+ghost use Rattle.std.specs.Prelude.{◌≡◌, ◌<◌, ◌≤◌, List, length, get_or, slice_set, IsTrue, IsFalse};
 ghost use Rattle.lfs_segments.specs.Table.{SegmentNumbers, FitsSegment, no_segment};
 ghost use Rattle.lfs_segments.specs.Steps as steps;
 ghost use Rattle.lfs_segments.specs.Settled.{ListsUnsettled, is_settled};

@@ -1,9 +1,9 @@
 //! What is known of each segment, after the segment usage table of the Sprite LFS paper (1992,
 //! section 3.6).
-ghost use Rattle.std.specs.Prelude.{◌≡◌, ◌≢◌, ◌<◌, ◌≤◌, ◌+◌, ◌-◌, ◌*◌, ◌/◌, ◌^◌, ◌==◌, ℕ, suc, Bool, true, false, cond, not, length, get_or, replicate, slice_set, IfOk, IfSome, IfNone, IsTrue, IsFalse, None, Some};
+ghost use Rattle.std.specs.Prelude.{◌≡◌, ◌≢◌, ◌<◌, ◌≤◌, ◌+◌, ◌-◌, ◌*◌, ◌/◌, ◌^◌, ◌==◌, ℕ, suc, true, false, cond, not, length, get_or, replicate, slice_set, IfOk, IfSome, IfNone, IsTrue, IsFalse, None, Some};
 ghost use Rattle.lfs_segments.specs.Steps.{Notes, Lifts, TakesAway, HidesBlocks, TakesSegment, GoesOn, PutsPlace, Releases, SpellsBlock, changed, loaded, staled};
 ghost use Rattle.lfs_model.specs.Usage.{IsUse};
-ghost use Rattle.lfs_segments.specs.Table.{SegmentNumbers, PlaceInSegment, no_segment, no_place, used_of, live_of, held_of, age_of, kept_of, address_of, stale_of, clean_in, FitsSegment, FitsTable};
+ghost use Rattle.lfs_segments.specs.Table.{no_segment, no_place, used_of, live_of, held_of, clean_in, FitsSegment, FitsTable};
 ghost use Rattle.lfs_segments.specs.Chunk.{TakesChunk};
 ghost use Rattle.lfs_segments.specs.Early.{AreUntaken, early_of, taken_of, early_in, taken_in};
 ghost use Rattle.lfs_segments.specs.Settled.{ListsUnsettled};

@@ -1,7 +1,7 @@
 //! Which segments a pass of the cleaner empties: those that are worth most by benefit and cost, or
 //! those with the least blocks.
-ghost use Rattle.std.specs.Prelude.{◌≡◌, ◌<◌, ◌≤◌, ◌+◌, ◌-◌, ◌*◌, ◌/◌, ℕ, List, Some, None, length, take, max, suc, IfSome, IfNone, IsTrue, IsFalse, IsSome};
-ghost use Rattle.lfs_segments.specs.Table.{FitsTable, UsageTable, clean_in};
+ghost use Rattle.std.specs.Prelude.{◌≡◌, ◌<◌, ◌≤◌, ◌+◌, ◌-◌, ◌/◌, ℕ, List, Some, None, length, take, max, suc, IfSome, IfNone, IsTrue, IsFalse, IsSome};
+ghost use Rattle.lfs_segments.specs.Table.{FitsTable, UsageTable};
 ghost use Rattle.lfs_segments.specs.Victims.{AreVictims, IsChosen, MayBeVictim, IsPressed, pass_limit, wanted_gain};
 ghost use Rattle.lfs_segments.specs.Choosing.{Exhausts, IsAhead, IsBehind, IsCandidate, IsChoiceBy, IsKnown, Leads};
 
