@@ -12,3 +12,4 @@ pub mod ReachStages
 pub mod TreeStages
 pub mod CheckSteps
 pub mod VolumeEnds
+pub mod Exits

@@ -3,6 +3,7 @@
 use Rattle.std.specs.Prelude.{◌≡◌, ◌<◌, ◌≤◌, ℕ, List, Option}
 use Rattle.lfs_model.specs.Checkpoint.{CheckpointValue}
 use Rattle.lfs_model.specs.Content.{Content}
+use Rattle.lfs_model.specs.declared.limits.TheConstants.{FILE_NUMBERS}
 use Rattle.lfs_model.specs.Decodes.{IsSized}
 use Rattle.lfs_model.specs.Device.{DeviceState}
 use Rattle.lfs_model.specs.Stands.{HoldsAt, LogMap}
@@ -48,8 +49,8 @@ pub record IsGathered (c : Content) (k : CheckpointValue) (m : LogMap) (headers 
     (t : Tables) : Type 0 where
   pub holds : HoldsAt c k m
   pub sized : IsSized c
-  pub told : TellsHeaders m headers 4096
-  pub named : AreNamed m headers names 4096
+  pub told : TellsHeaders m headers FILE_NUMBERS
+  pub named : AreNamed m headers names FILE_NUMBERS
   pub slots : AreSlots m
   pub texts : AreTexts m
   pub of_log : IsOfLog c k m t

@@ -11,6 +11,7 @@ use Rattle.std.specs.List.{AllByRecursion}
 use Rattle.std.specs.Ordering.{nat_cmp}
 use Rattle.lfs_model.specs.declared.Kind.{Kind}
 use Rattle.lfs_model.specs.declared.Kind.TheVariants as kind
+use Rattle.lfs_model.specs.declared.limits.TheConstants.{FILE_NUMBERS}
 use Rattle.lfs_model.specs.Slot.{SlotValue, slot_in}
 use Rattle.lfs_model.specs.Tree.{Names, byte_cmp}
 use Rattle.lfs_model.specs.TreeOf.{map_of}
@@ -57,10 +58,10 @@ pub record NamesValue : Type 0 where
 
 -- each has 4,096 numbers, and those of directories are among them
 pub record AreTables (t : NamesValue) : Type 0 where
-  pub counts : length t.counts ≡ 4096
-  pub up : length t.up ≡ 4096
-  pub below : length t.below ≡ 4096
-  pub inside : (n : ℕ) → slice_index t.up n < 4096
+  pub counts : length t.counts ≡ FILE_NUMBERS
+  pub up : length t.up ≡ FILE_NUMBERS
+  pub below : length t.below ≡ FILE_NUMBERS
+  pub inside : (n : ℕ) → slice_index t.up n < FILE_NUMBERS
 
 -- tables of no entries
 pub record AreEmpty (t : NamesValue) : Type 0 where
@@ -81,9 +82,9 @@ pub record Base : Type 0 where
 
 -- The tables tell these names of directory d too.
 pub record IsNoted (headers : List (Option Header)) (d : ℕ) (base : Base) (names : Names) (t : NamesValue) : Type 0 where
-  pub counts : (n : ℕ) → n < 4096 → slice_index t.counts n ≡ capped (base.counts n + giving names n)
-  pub given : (n : ℕ) → n < 4096 → 0 < giving names n → slice_index t.up n ≡ d
-  pub kept : (n : ℕ) → n < 4096 → giving names n ≡ 0 → slice_index t.up n ≡ base.up n
+  pub counts : (n : ℕ) → n < FILE_NUMBERS → slice_index t.counts n ≡ capped (base.counts n + giving names n)
+  pub given : (n : ℕ) → n < FILE_NUMBERS → 0 < giving names n → slice_index t.up n ≡ d
+  pub kept : (n : ℕ) → n < FILE_NUMBERS → giving names n ≡ 0 → slice_index t.up n ≡ base.up n
   pub own : slice_index t.below d ≡ capped (base.below d + count_by (λ x. leads headers x.1) names)
   pub others : (e : ℕ) → e ≢ d → slice_index t.below e ≡ base.below e
 

@@ -2,6 +2,7 @@
 -- All of it is an own choice.
 use Rattle.std.specs.Prelude.{◌≡◌, ◌<◌, ◌≤◌, ◌+◌, ℕ, zero, suc, Bool, List, slice_index, count_by, unwrap_or, [], Option, Some, MatchBool}
 use Rattle.lfs_model.specs.declared.Kind.TheVariants as kind
+use Rattle.lfs_model.specs.declared.limits.TheConstants.{FILE_NUMBERS}
 use Rattle.lfs_model.specs.Entry as entry
 use Rattle.lfs_model.specs.Stands.{LogMap}
 use Rattle.lfs_model.specs.Tree.{Names, File, names_of}
@@ -28,8 +29,8 @@ given_below m upto n = sum_below (λ d. giving (names_at m d) n) upto
 
 -- The tables tell the names of the objects below a number, which are good.
 pub record AreNamed (m : LogMap) (headers : List (Option Header)) (t : NamesValue) (upto : ℕ) : Type 0 where
-  pub counts : (n : ℕ) → n < 4096 → slice_index t.counts n ≡ capped (given_below m upto n)
-  pub up : (n : ℕ) → n < 4096 → 0 < given_below m upto n → 0 < giving (names_at m (slice_index t.up n)) n
+  pub counts : (n : ℕ) → n < FILE_NUMBERS → slice_index t.counts n ≡ capped (given_below m upto n)
+  pub up : (n : ℕ) → n < FILE_NUMBERS → 0 < given_below m upto n → 0 < giving (names_at m (slice_index t.up n)) n
   pub below : (d : ℕ) → d < upto → slice_index t.below d ≡ capped (count_by (λ x. leads headers x.1) (names_at m d))
   pub none : (d : ℕ) → upto ≤ d → slice_index t.below d ≡ 0
   pub good : (n : ℕ) → n < upto → IsGoodObject m headers n
@@ -41,4 +42,4 @@ TakesObject m headers n base t taken =
 
 -- The stage holds and the tables tell all names, or it fails.
 abbrev pub SlotStage : LogMap → List (Option Header) → NamesValue → Bool → Type 0
-SlotStage m headers t holds = MatchBool holds (AreSlots m × AreNamed m headers t 4096) (AreSlots m → ⊥)
+SlotStage m headers t holds = MatchBool holds (AreSlots m × AreNamed m headers t FILE_NUMBERS) (AreSlots m → ⊥)

@@ -1,6 +1,7 @@
 -- Numbers that are named, and directories that are reached, by tables.
 -- All of it is an own choice.
 use Rattle.std.specs.Prelude.{◌≡◌, ◌≢◌, ◌<◌, ◌≤◌, ◌+◌, ℕ, Bool, true, List, get_or, slice_index, Option, Some, None, MatchBool}
+use Rattle.lfs_model.specs.declared.limits.TheConstants.{FILE_NUMBERS}
 use Rattle.lfs_files.specs.declared.header.Header.{Header}
 use Rattle.lfs_tree.specs.Naming.{NamesValue, is_directory_kind, leads}
 
@@ -10,7 +11,7 @@ FitsNames None n count = Unit {0}
 FitsNames (Some h) n count = (n ≡ 1 → count ≡ 0) × (n ≢ 1 → 0 < count) × (n ≢ 1 → is_directory_kind h.kind ≡ true → count ≡ 1)
 
 abbrev pub AreNamesFit : List (Option Header) → NamesValue → Type 0
-AreNamesFit headers t = (n : ℕ) → n < 4096 → FitsNames (get_or headers n None) n (slice_index t.counts n)
+AreNamesFit headers t = (n : ℕ) → n < FILE_NUMBERS → FitsNames (get_or headers n None) n (slice_index t.counts n)
 
 -- from number n one comes to the root, by going up
 pub data Climbs (up : ℕ → ℕ) : ℕ → Type 0 where
@@ -19,7 +20,7 @@ pub data Climbs (up : ℕ → ℕ) : ℕ → Type 0 where
 
 -- from each directory one does
 abbrev pub AllClimb : List (Option Header) → List ℕ → Type 0
-AllClimb headers up = (n : ℕ) → 1 ≤ n → n < 4096 → leads headers n ≡ true → Climbs (slice_index up) n
+AllClimb headers up = (n : ℕ) → 1 ≤ n → n < FILE_NUMBERS → leads headers n ≡ true → Climbs (slice_index up) n
 
 -- Each number with a mark comes to the root; marks are below this one.
 pub record Marked (up : List ℕ) (marks : List ℕ) (limit : ℕ) : Type 0 where

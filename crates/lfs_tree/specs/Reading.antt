@@ -4,6 +4,7 @@ use Rattle.std.specs.Prelude.{◌≡◌, ◌<◌, ℕ, Bool, true, false, List, 
 use Rattle.std.specs.Option.{option_map}
 use Rattle.lfs_model.specs.Checkpoint.{CheckpointValue}
 use Rattle.lfs_model.specs.Content.{Content, block}
+use Rattle.lfs_model.specs.declared.limits.TheConstants.{FILE_NUMBERS}
 use Rattle.lfs_model.specs.Decodes.{IsSized}
 use Rattle.lfs_model.specs.Device.{DeviceState}
 use Rattle.lfs_model.specs.Entry.{Inode, header}
@@ -21,7 +22,7 @@ pub record Sees (old new : DeviceState) (k : CheckpointValue) (m : LogMap) : Typ
 
 -- the inode map in memory leads to the inodes of all files
 pub record Leads (c : Content) (k : CheckpointValue) (map : MapValue) : Type 0 where
-  pub each : (n : ℕ) → n < 4096 → address_in map n ≡ address c k (Inode n)
+  pub each : (n : ℕ) → n < FILE_NUMBERS → address_in map n ≡ address c k (Inode n)
 
 -- these bytes are the inode of file n
 pub record IsInodeOf (c : Content) (k : CheckpointValue) (m : LogMap) (n : ℕ) (bytes : List ℕ) : Type 0 where
@@ -50,7 +51,7 @@ OfLog old new map P = (k : CheckpointValue) (m : LogMap) → Sees old new k m �
 -- The same where these are its headers.
 abbrev pub OfHeaders : DeviceState → DeviceState → MapValue → List (Option Header) → (CheckpointValue → LogMap → Type 0) → Type 0
 OfHeaders old new map headers P = (k : CheckpointValue) (m : LogMap) → Sees old new k m → Leads old.content k map
-    → TellsHeaders m headers 4096 → P k m
+    → TellsHeaders m headers FILE_NUMBERS → P k m
 
 -- Of each log map that the device holds, and a file of it that has this inode, this is so.
 abbrev pub OfInode : DeviceState → DeviceState → List ℕ → (LogMap → ℕ → Type 0) → Type 0

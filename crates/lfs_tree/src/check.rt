@@ -10,6 +10,7 @@ ghost use Rattle.lfs_tree.specs.Checking.{IsFaultOf, IsGathered, IsRefusedTree, 
 ghost use Rattle.lfs_tree.specs.Naming.{AreEmpty};
 ghost use Rattle.lfs_tree.specs.Objects.{AreNamed};
 ghost use Rattle.lfs_tree.specs.Reading.{FailsToRead, OfHeaders};
+ghost use Rattle.lfs_verify.specs.Keeping.{OnlyLooks};
 
 use crate::fault::CheckFault;
 use crate::headers::{Headers, read_headers};
@@ -21,6 +22,7 @@ use crate::texts::stage_texts;
 use lfs_cache::CachedDevice;
 use lfs_device::SectorDevice;
 use lfs_inodes::InodeMap;
+use lfs_model::limits::FILE_NUMBERS;
 use lfs_verify::{MountFault, Tables};
 use std::alloc::Global;
 
@@ -51,15 +53,13 @@ fn check_objects<D: SectorDevice>(
     ensures done { OnOk result (OfHeaders (D.state device.old) (D.state device.new)
         map.now headers.now
         (λ k m. AreEmpty names.old
-        → AreSlots m × AreTexts m × AreNamed m headers.now names.new 4096)) }
+        → AreSlots m × AreTexts m × AreNamed m headers.now names.new FILE_NUMBERS)) }
     ensures reason { IfErr result (λ e. OfHeaders (D.state device.old) (D.state device.new)
         map.now headers.now
         (λ k m. AreEmpty names.old
         → IsFaultOf (FailsToRead (D.state device.old) (D.state device.new))
         (IsTreeDamage k.segments m) e)) }
-    ensures no_failure { OnOk result
-        ((D.state device.new).failures ≡ (D.state device.old).failures) }
-    ensures looks { Looks (D.state device.old) (D.state device.new) }
+    ensures keeps { OnlyLooks (D.state device.old) (D.state device.new) result }
 {
     match stage_slots(alloc, device, map, headers, names) {
         Ok(true) => {}
@@ -124,22 +124,14 @@ fn check_stages<D: SectorDevice>(
         tables.now names.old
         (λ k m. IsFaultOf (FailsToRead (D.state device.old) (D.state device.new))
         (IsTreeDamage k.segments m) e)) }
-    ensures no_failure { OnOk result
-        ((D.state device.new).failures ≡ (D.state device.old).failures) }
-    ensures looks { Looks (D.state device.old) (D.state device.new) }
+    ensures keeps { OnlyLooks (D.state device.old) (D.state device.new) result }
 {
     match read_headers(device, &tables.map, headers) {
         Ok(()) => {}
         Err(_) => return Err(MountFault::Device),
     }
-    match check_objects(alloc, device, &tables.map, headers, names) {
-        Ok(()) => {}
-        Err(fault) => return Err(fault),
-    }
-    match check_names(alloc, tables, headers, names) {
-        Ok(()) => Ok(()),
-        Err(fault) => Err(fault),
-    }
+    check_objects(alloc, device, &tables.map, headers, names)?;
+    check_names(alloc, tables, headers, names)
 }
 
 /// Checks the tree of the log map to which the tables of a volume lead: its stages in order, each
@@ -172,8 +164,5 @@ pub fn check_tree<D: SectorDevice>(
     let Ok(mut names) = NameTables::new(alloc) else {
         return Err(MountFault::NoMemory);
     };
-    match check_stages(alloc, device, tables, &mut headers, &mut names) {
-        Ok(()) => Ok(()),
-        Err(fault) => Err(fault),
-    }
+    check_stages(alloc, device, tables, &mut headers, &mut names)
 }

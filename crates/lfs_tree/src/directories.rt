@@ -1,11 +1,11 @@
 //! The directories of a log map, gone through one by one.
-ghost use Rattle.std.specs.Prelude.{◌≡◌, ◌/◌, [], Some, IfOk, IsErrOf, OnOk};
+ghost use Rattle.std.specs.Prelude.{◌≡◌, [], Some, IfOk, IsErrOf};
 ghost use Rattle.lfs_model.specs.Content.{block};
 ghost use Rattle.lfs_dirs.specs.Directory.{slots_at};
 ghost use Rattle.lfs_files.specs.Headers.{as_header};
-ghost use Rattle.lfs_verify.specs.Take.{Looks};
 ghost use Rattle.lfs_tree.specs.Naming.{Base, IsNoted, IsTaken, TakesNames};
 ghost use Rattle.lfs_tree.specs.Reading.{FailsToRead, OfInodeAt, OfLog};
+ghost use Rattle.lfs_verify.specs.Keeping.{OnlyLooks};
 
 use crate::fault::CheckFault;
 use crate::headers::Headers;
@@ -44,9 +44,7 @@ fn take_blocks<D: SectorDevice>(
     ensures failed { IsErrOf result CheckFault.Device
         → OfInodeAt (D.state device.old) (D.state device.new) inode.now directory.value
         (λ m. FailsToRead (D.state device.old) (D.state device.new)) }
-    ensures no_failure { OnOk result
-        ((D.state device.new).failures ≡ (D.state device.old).failures) }
-    ensures looks { Looks (D.state device.old) (D.state device.new) }
+    ensures keeps { OnlyLooks (D.state device.old) (D.state device.new) result }
 {
     let slots = slots_of(header);
     let whole = slots_in_block(header.form);
@@ -100,9 +98,7 @@ pub(crate) fn take_directory<D: SectorDevice>(
         → OfLog (D.state device.old) (D.state device.new) map.now
         (λ k m. m.header directory.value ≡ Some (as_header header)
         → FailsToRead (D.state device.old) (D.state device.new)) }
-    ensures no_failure { OnOk result
-        ((D.state device.new).failures ≡ (D.state device.old).failures) }
-    ensures looks { Looks (D.state device.old) (D.state device.new) }
+    ensures keeps { OnlyLooks (D.state device.old) (D.state device.new) result }
 {
     let mut inode = [0; 512];
     match read_inode(device, map, directory.value, &mut inode) {
@@ -111,10 +107,7 @@ pub(crate) fn take_directory<D: SectorDevice>(
         Err(_) => return Err(CheckFault::Device),
     }
     let mut names = BTreeSet::new(alloc);
-    match take_blocks(
+    take_blocks(
         alloc, device, &inode, header, headers, directory, &mut names, tables,
-    ) {
-        Ok(taken) => Ok(taken),
-        Err(fault) => Err(fault),
-    }
+    )
 }

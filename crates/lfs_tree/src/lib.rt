@@ -17,5 +17,5 @@ mod volume;
 
 pub use check::check_tree;
 pub use fault::CheckFault;
-pub use lfs_verify::verify::LEAST_SECTORS;
+pub use lfs_model::limits::LEAST_SECTORS;
 pub use volume::verify_tree;

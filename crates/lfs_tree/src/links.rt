@@ -3,18 +3,11 @@
 ghost use Rattle.std.specs.Prelude.{◌↔◌, IsTrue};
 ghost use Rattle.lfs_tree.specs.Linking.{AreLinksFit, FitsLinks, FitsRoom};
 
-use crate::headers::{Headers, NUMBERS};
+use crate::headers::Headers;
 use crate::slots::is_directory;
 use crate::tables::NameTables;
 use lfs_files::Header;
-
-/// The need of a tree without nodes, what a block other than of data adds to it, and how much need
-/// a segment has room for.
-const LEAST_NEED: u64 = 720;
-
-const NEED_OF_OTHER: u64 = 7;
-
-const NEED_OF_SEGMENT: u64 = 47;
+use lfs_model::limits::{FILE_NUMBERS, LEAST_NEED, NEED_OF_META, NEED_OF_SEGMENT};
 
 /// Whether an inode has as many links as names, or, of a directory, 2 and one for each directory in
 /// it.
@@ -34,7 +27,7 @@ fn has_links(found: Option<Header>, count: u16, below: u16) -> bool
 pub fn stage_links(headers: &Headers, tables: &NameTables) -> bool
     ensures { IsTrue result ↔ AreLinksFit headers.now tables.now }
 {
-    for number in 0..NUMBERS {
+    for number in 0..FILE_NUMBERS {
         if !has_links(
             headers.get(number),
             tables.count(number),
@@ -51,6 +44,6 @@ pub fn stage_links(headers: &Headers, tables: &NameTables) -> bool
 pub fn stage_room(data_blocks: u32, meta_blocks: u32, segments: u32) -> bool
     ensures { IsTrue result ↔ FitsRoom data_blocks meta_blocks segments }
 {
-    let need = u64::from(data_blocks) + NEED_OF_OTHER * u64::from(meta_blocks) + LEAST_NEED;
+    let need = u64::from(data_blocks) + NEED_OF_META * u64::from(meta_blocks) + LEAST_NEED;
     need <= NEED_OF_SEGMENT * u64::from(segments)
 }

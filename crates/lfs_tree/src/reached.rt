@@ -4,16 +4,14 @@ ghost use Rattle.std.specs.Prelude.{◌≡◌, ◌≤◌, ◌↔◌, IfOk, IsTru
 ghost use Rattle.lfs_tree.specs.Naming.{leads};
 ghost use Rattle.lfs_tree.specs.Reaching.{AllClimb, AreNamesFit, FitsNames, Marked, MarksDirectory, MarksUp};
 
-use crate::headers::{Headers, NUMBERS};
+use crate::headers::Headers;
 use crate::marks::Marks;
 use crate::slots::is_directory;
 use crate::tables::NameTables;
 use lfs_files::Header;
 use lfs_model::FileNumber;
+use lfs_model::limits::FILE_NUMBERS;
 use std::alloc::{AllocError, Global};
-
-/// The root's number.
-const ROOT: u16 = 1;
 
 /// Whether what stands at a number is named as often as it may be.
 fn is_named(found: Option<Header>, number: u16, count: u16) -> bool
@@ -22,7 +20,7 @@ fn is_named(found: Option<Header>, number: u16, count: u16) -> bool
     let Some(header) = found else {
         return true;
     };
-    if number == ROOT {
+    if number == FileNumber::ROOT.value {
         return count == 0;
     }
     if is_directory(header) {
@@ -35,7 +33,7 @@ fn is_named(found: Option<Header>, number: u16, count: u16) -> bool
 fn are_named(headers: &Headers, tables: &NameTables) -> bool
     ensures { IsTrue result ↔ AreNamesFit headers.now tables.now }
 {
-    for number in 0..NUMBERS {
+    for number in 0..FILE_NUMBERS {
         if !is_named(headers.get(number), number, tables.count(number)) {
             return false;
         }
@@ -85,7 +83,7 @@ fn all_climb(alloc: Global, headers: &Headers, tables: &NameTables) -> Result<bo
     ensures { IfOk result (λ all. IsTrue all ↔ AllClimb headers.now tables.now.up) }
 {
     let mut marks = Marks::new(alloc)?;
-    for number in 2..NUMBERS {
+    for number in 2..FILE_NUMBERS {
         let number = FileNumber { value: number };
         if !climb_directory(headers, tables, &mut marks, number) {
             return Ok(false);

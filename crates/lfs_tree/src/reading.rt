@@ -3,12 +3,14 @@ ghost use Rattle.std.specs.Prelude.{◌≡◌, ◌<◌, length, IfOk, OnOk, OnEr
 ghost use Rattle.lfs_model.specs.Content.{Content, block};
 ghost use Rattle.lfs_model.specs.Reach.{address};
 ghost use Rattle.lfs_files.specs.Files.{HoldsBlock};
-ghost use Rattle.lfs_verify.specs.Take.{Looks, ReadsContent};
+ghost use Rattle.lfs_verify.specs.Take.{ReadsContent};
 ghost use Rattle.lfs_tree.specs.Reading.{FailsToRead, InodeAnswer, OfInode, OfLog};
+ghost use Rattle.lfs_verify.specs.Keeping.{OnlyLooks};
 
 use lfs_cache::CachedDevice;
 use lfs_device::{DeviceFault, ReadFault, SectorDevice};
 use lfs_inodes::{InodeMap, locate};
+use lfs_model::limits::FILE_NUMBERS;
 
 /// Reads the block at an address.
 ///
@@ -27,9 +29,7 @@ fn read_sector<D: SectorDevice>(
         → ReadsContent (D.state device.old) (D.state device.new) c
         → address < length c → 0 < length (block c address)
         → (D.state device.old).failures < (D.state device.new).failures) }
-    ensures no_failure { OnOk result
-        ((D.state device.new).failures ≡ (D.state device.old).failures) }
-    ensures looks { Looks (D.state device.old) (D.state device.new) }
+    ensures keeps { OnlyLooks (D.state device.old) (D.state device.new) result }
 {
     if address >= device.sectors() {
         return Err(DeviceFault);
@@ -52,23 +52,19 @@ pub fn read_inode<D: SectorDevice>(
     number: u16,
     out: &mut [u8; 512],
 ) -> Result<bool, DeviceFault>
-    requires { number < 4096 }
+    requires { number < FILE_NUMBERS }
     ensures answer { IfOk result (λ found. OfLog (D.state device.old) (D.state device.new) map.now
         (λ k m. InodeAnswer (D.state device.old).content k m number out.new found)) }
     ensures failed { OnErr result (OfLog (D.state device.old) (D.state device.new) map.now
         (λ k m. FailsToRead (D.state device.old) (D.state device.new))) }
-    ensures no_failure { OnOk result
-        ((D.state device.new).failures ≡ (D.state device.old).failures) }
-    ensures looks { Looks (D.state device.old) (D.state device.new) }
+    ensures keeps { OnlyLooks (D.state device.old) (D.state device.new) result }
 {
     let address = map.address(number);
     if address == 0 {
         return Ok(false);
     }
-    match read_sector(device, address, out) {
-        Ok(()) => Ok(true),
-        Err(fault) => Err(fault),
-    }
+    read_sector(device, address, out)?;
+    Ok(true)
 }
 
 /// Reads a block of the file of an inode; one that isn't stored reads as zeros.
@@ -86,9 +82,7 @@ pub fn read_block<D: SectorDevice>(
         (λ m n. HoldsBlock m n index out.new)) }
     ensures failed { OnErr result (OfInode (D.state device.old) (D.state device.new) inode.now
         (λ m n. FailsToRead (D.state device.old) (D.state device.new))) }
-    ensures no_failure { OnOk result
-        ((D.state device.new).failures ≡ (D.state device.old).failures) }
-    ensures looks { Looks (D.state device.old) (D.state device.new) }
+    ensures keeps { OnlyLooks (D.state device.old) (D.state device.new) result }
 {
     let address = match locate(device, inode, index) {
         Ok(address) => address,
@@ -99,8 +93,5 @@ pub fn read_block<D: SectorDevice>(
         *out = [0; 512];
         return Ok(());
     }
-    match read_sector(device, address, out) {
-        Ok(()) => Ok(()),
-        Err(fault) => Err(fault),
-    }
+    read_sector(device, address, out)
 }

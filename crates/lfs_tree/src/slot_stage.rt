@@ -1,19 +1,20 @@
 //! Stage 10: each directory's slots are well-formed, its names differ, and its numbers are there.
-ghost use Rattle.std.specs.Prelude.{◌≡◌, [], IfOk, IsErrOf, OnOk};
-ghost use Rattle.lfs_verify.specs.Take.{Looks};
+ghost use Rattle.std.specs.Prelude.{[], IfOk, IsErrOf};
 ghost use Rattle.lfs_tree.specs.Naming.{AreEmpty, Base, IsNoted};
 ghost use Rattle.lfs_tree.specs.Objects.{SlotStage, TakesObject};
 ghost use Rattle.lfs_tree.specs.Reading.{FailsToRead, OfHeaders};
+ghost use Rattle.lfs_verify.specs.Keeping.{OnlyLooks};
 
 use crate::directories::take_directory;
 use crate::fault::CheckFault;
-use crate::headers::{Headers, NUMBERS};
+use crate::headers::Headers;
 use crate::slots::is_directory;
 use crate::tables::NameTables;
 use lfs_cache::CachedDevice;
 use lfs_device::SectorDevice;
 use lfs_inodes::InodeMap;
 use lfs_model::FileNumber;
+use lfs_model::limits::FILE_NUMBERS;
 use std::alloc::Global;
 
 /// Goes through the object at a number, if it is a directory.
@@ -36,9 +37,7 @@ fn take_object<D: SectorDevice>(
     ensures failed { IsErrOf result CheckFault.Device
         → OfHeaders (D.state device.old) (D.state device.new) map.now headers.now
         (λ k m. FailsToRead (D.state device.old) (D.state device.new)) }
-    ensures no_failure { OnOk result
-        ((D.state device.new).failures ≡ (D.state device.old).failures) }
-    ensures looks { Looks (D.state device.old) (D.state device.new) }
+    ensures keeps { OnlyLooks (D.state device.old) (D.state device.new) result }
 {
     let Some(header) = headers.get(number.value) else {
         return Ok(true);
@@ -46,10 +45,7 @@ fn take_object<D: SectorDevice>(
     if !is_directory(header) {
         return Ok(true);
     }
-    match take_directory(alloc, device, map, headers, number, header, tables) {
-        Ok(taken) => Ok(taken),
-        Err(fault) => Err(fault),
-    }
+    take_directory(alloc, device, map, headers, number, header, tables)
 }
 
 /// Goes through all directories, and takes what their entries say of numbers to empty tables. False
@@ -71,16 +67,12 @@ pub fn stage_slots<D: SectorDevice>(
     ensures failed { IsErrOf result CheckFault.Device
         → OfHeaders (D.state device.old) (D.state device.new) map.now headers.now
         (λ k m. FailsToRead (D.state device.old) (D.state device.new)) }
-    ensures no_failure { OnOk result
-        ((D.state device.new).failures ≡ (D.state device.old).failures) }
-    ensures looks { Looks (D.state device.old) (D.state device.new) }
+    ensures keeps { OnlyLooks (D.state device.old) (D.state device.new) result }
 {
-    for number in 1..NUMBERS {
+    for number in 1..FILE_NUMBERS {
         let number = FileNumber { value: number };
-        match take_object(alloc, device, map, headers, number, tables) {
-            Ok(true) => {}
-            Ok(false) => return Ok(false),
-            Err(fault) => return Err(fault),
+        if !take_object(alloc, device, map, headers, number, tables)? {
+            return Ok(false);
         }
     }
     Ok(true)

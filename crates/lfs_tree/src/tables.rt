@@ -2,8 +2,8 @@
 ghost use Rattle.std.specs.Prelude.{◌≡◌, ◌<◌, ℕ, length, slice_index, IfOk};
 ghost use Rattle.lfs_tree.specs.Naming.{AreEmpty, AreTables, NamesValue, Notes};
 
-use crate::headers::NUMBERS;
 use lfs_model::FileNumber;
+use lfs_model::limits::FILE_NUMBERS;
 use std::alloc::{AllocError, Global};
 use std::marker::Model;
 
@@ -31,10 +31,10 @@ impl Model for NameTables {
 
 /// A table of 4,096 numbers, all 0.
 pub(crate) fn zeros(alloc: Global) -> Result<Vec<u16>, AllocError>
-    ensures len { IfOk result (λ v. length v.items ≡ 4096) }
+    ensures len { IfOk result (λ v. length v.items ≡ FILE_NUMBERS) }
     ensures empty { IfOk result (λ v. (n : ℕ) → slice_index v.items n ≡ 0) }
 {
-    let numbers = Vec::from_elem(alloc, 0, NUMBERS as usize)?;
+    let numbers = Vec::from_elem(alloc, 0, FILE_NUMBERS as usize)?;
     Ok(numbers)
 }
 
@@ -56,7 +56,7 @@ impl NameTables {
 
     /// How many entries give a number.
     pub(crate) fn count(&self, number: u16) -> u16
-        requires { number < 4096 }
+        requires { number < FILE_NUMBERS }
         ensures { result ≡ slice_index self.now.counts number }
     {
         self.counts[number as usize]
@@ -64,16 +64,16 @@ impl NameTables {
 
     /// A directory with an entry that gives a number, if there is one.
     pub(crate) fn up(&self, number: u16) -> u16
-        requires { number < 4096 }
+        requires { number < FILE_NUMBERS }
         ensures value { result ≡ slice_index self.now.up number }
-        ensures inside { result < 4096 }
+        ensures inside { result < FILE_NUMBERS }
     {
         self.up[number as usize]
     }
 
     /// How many entries of a directory give directories.
     pub(crate) fn below(&self, directory: u16) -> u16
-        requires { directory < 4096 }
+        requires { directory < FILE_NUMBERS }
         ensures { result ≡ slice_index self.now.below directory }
     {
         self.below[directory as usize]

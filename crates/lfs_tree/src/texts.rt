@@ -1,26 +1,27 @@
 //! Stage 11: no link's text has a zero byte.
-ghost use Rattle.std.specs.Prelude.{◌≡◌, ◌≢◌, ◌<◌, ◌≤◌, ◌↔◌, ℕ, slice_index, Some, IfOk, OnErr, IsTrue, OnOk};
+ghost use Rattle.std.specs.Prelude.{◌≡◌, ◌≢◌, ◌<◌, ◌≤◌, ◌↔◌, ℕ, slice_index, Some, IfOk, OnErr, IsTrue};
 ghost use Rattle.lfs_model.specs.Content.{block};
 ghost use Rattle.lfs_model.specs.TreeOf.{AreTexts};
 ghost use Rattle.lfs_files.specs.Headers.{as_header};
-ghost use Rattle.lfs_verify.specs.Take.{Looks};
 ghost use Rattle.lfs_tree.specs.Reading.{FailsToRead, OfHeaders, OfInode, OfLog};
 ghost use Rattle.lfs_tree.specs.Texts.{Decides, HasNoZero, IsGoodText};
+ghost use Rattle.lfs_verify.specs.Keeping.{OnlyLooks};
 
-use crate::headers::{Headers, NUMBERS};
+use crate::headers::Headers;
 use crate::reading::{read_block, read_inode};
 use lfs_cache::CachedDevice;
 use lfs_device::{DeviceFault, SectorDevice};
 use lfs_files::Header;
 use lfs_inodes::InodeMap;
+use lfs_model::limits::{FILE_NUMBERS, SECTOR_LEN};
 use lfs_model::{FileNumber, Kind};
 
 /// The bytes of a block.
-const BLOCK: u32 = 512;
+const BLOCK: u32 = SECTOR_LEN as u32;
 
 /// Whether none of the first bytes of a block is zero.
 fn is_nonzero(block: &[u8; 512], count: usize) -> bool
-    requires { count ≤ 512 }
+    requires { count ≤ SECTOR_LEN }
     ensures { IsTrue result ↔ ((i : ℕ) → i < count → slice_index block.now i ≢ 0) }
 {
     for place in 0..count {
@@ -46,16 +47,11 @@ fn check_bytes<D: SectorDevice>(
         (λ m n. Decides (HasNoZero m n size) holds)) }
     ensures failed { OnErr result (OfInode (D.state device.old) (D.state device.new) inode.now
         (λ m n. FailsToRead (D.state device.old) (D.state device.new))) }
-    ensures no_failure { OnOk result
-        ((D.state device.new).failures ≡ (D.state device.old).failures) }
-    ensures looks { Looks (D.state device.old) (D.state device.new) }
+    ensures keeps { OnlyLooks (D.state device.old) (D.state device.new) result }
 {
     let mut block = [0; 512];
     for index in 0..size.div_ceil(BLOCK) {
-        match read_block(device, inode, index, &mut block) {
-            Ok(()) => {}
-            Err(fault) => return Err(fault),
-        }
+        read_block(device, inode, index, &mut block)?;
         let count = (size - BLOCK * index).min(BLOCK) as usize;
         if !is_nonzero(&block, count) {
             return Ok(false);
@@ -80,20 +76,13 @@ fn check_text<D: SectorDevice>(
     ensures failed { OnErr result (OfLog (D.state device.old) (D.state device.new) map.now
         (λ k m. m.header number.value ≡ Some (as_header header)
         → FailsToRead (D.state device.old) (D.state device.new))) }
-    ensures no_failure { OnOk result
-        ((D.state device.new).failures ≡ (D.state device.old).failures) }
-    ensures looks { Looks (D.state device.old) (D.state device.new) }
+    ensures keeps { OnlyLooks (D.state device.old) (D.state device.new) result }
 {
     let mut inode = [0; 512];
-    match read_inode(device, map, number.value, &mut inode) {
-        Ok(true) => {}
-        Ok(false) => return Err(DeviceFault),
-        Err(fault) => return Err(fault),
+    if !read_inode(device, map, number.value, &mut inode)? {
+        return Err(DeviceFault);
     }
-    match check_bytes(device, &inode, header.size) {
-        Ok(holds) => Ok(holds),
-        Err(fault) => Err(fault),
-    }
+    check_bytes(device, &inode, header.size)
 }
 
 /// Whether it is the header of a link.
@@ -124,9 +113,7 @@ fn check_object<D: SectorDevice>(
     ensures failed { OnErr result (OfHeaders (D.state device.old) (D.state device.new)
         map.now headers.now
         (λ k m. FailsToRead (D.state device.old) (D.state device.new))) }
-    ensures no_failure { OnOk result
-        ((D.state device.new).failures ≡ (D.state device.old).failures) }
-    ensures looks { Looks (D.state device.old) (D.state device.new) }
+    ensures keeps { OnlyLooks (D.state device.old) (D.state device.new) result }
 {
     let Some(header) = headers.get(number.value) else {
         return Ok(true);
@@ -134,10 +121,7 @@ fn check_object<D: SectorDevice>(
     if !is_link(header) {
         return Ok(true);
     }
-    match check_text(device, map, number, header) {
-        Ok(holds) => Ok(holds),
-        Err(fault) => Err(fault),
-    }
+    check_text(device, map, number, header)
 }
 
 /// Whether no link's text has a zero byte: false where the stage fails.
@@ -156,16 +140,12 @@ pub fn stage_texts<D: SectorDevice>(
     ensures failed { OnErr result (OfHeaders (D.state device.old) (D.state device.new)
         map.now headers.now
         (λ k m. FailsToRead (D.state device.old) (D.state device.new))) }
-    ensures no_failure { OnOk result
-        ((D.state device.new).failures ≡ (D.state device.old).failures) }
-    ensures looks { Looks (D.state device.old) (D.state device.new) }
+    ensures keeps { OnlyLooks (D.state device.old) (D.state device.new) result }
 {
-    for number in 1..NUMBERS {
+    for number in 1..FILE_NUMBERS {
         let number = FileNumber { value: number };
-        match check_object(device, map, headers, number) {
-            Ok(true) => {}
-            Ok(false) => return Ok(false),
-            Err(fault) => return Err(fault),
+        if !check_object(device, map, headers, number)? {
+            return Ok(false);
         }
     }
     Ok(true)

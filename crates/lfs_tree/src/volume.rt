@@ -41,14 +41,8 @@ pub fn verify_tree<D: SectorDevice>(
         ((D.state device.new).failures ≡ (D.state device.old).failures) }
     ensures looks { Looks (D.state device.old) (D.state device.new) }
 {
-    let found = match verify_log(alloc, device) {
-        Ok(found) => found,
-        Err(fault) => return Err(fault),
-    };
-    match check_tree(alloc, device, &found.tables) {
-        Ok(()) => {}
-        Err(fault) => return Err(fault),
-    }
+    let found = verify_log(alloc, device)?;
+    check_tree(alloc, device, &found.tables)?;
     if !found.enough_clean {
         return Err(MountFault::Damaged(FEW_CLEAN));
     }

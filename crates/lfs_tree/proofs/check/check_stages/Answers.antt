@@ -1,4 +1,6 @@
 use Rattle.std.proofs.Common.{◌<◌}
+use Rattle.std.proofs.lemmas.Result.{IfErr-weaker, on_ok_weaker}
+use Rattle.lfs_model.proofs.Exits.{same_error}
 use Rattle.lfs_tree.specs.Checking.{IsTreeDamage}
 use Rattle.lfs_tree.proofs.CheckSteps.{fault_after, gathered, no_failure}
 use Rattle.lfs_tree.proofs.Seeing.{leads_then, sees_first, sees_then}
@@ -7,40 +9,43 @@ use Rattle.lfs_tree.proofs.check.check_stages.Goals as goal
 pub returns-in-Err-clause-reason : goal.returns-in-Err-clause-reason
 returns-in-Err-clause-reason g c k m sees of_log empty = c.in-Err.ensures.failed k m sees of_log.leads
 
-pub returns-in-Err-check_objects-clause-reason : goal.returns-in-Err-check_objects-clause-reason
-returns-in-Err-check_objects-clause-reason g c k m sees of_log empty =
+pub returns-in_err-check_objects-clause-reason : goal.returns-in_err-check_objects-clause-reason
+returns-in_err-check_objects-clause-reason g c =
+    same_error c.from_residual.result c.in_err-check_objects.field-0.0 _ c.from_residual.ensures (λ k m sees of_log empty.
     let old = g.D.SectorDevice.state c.args.device.now in
     let mid = g.D.SectorDevice.state c.read_headers.new.device in
     let new = g.D.SectorDevice.state c.check_objects.new.device in
-    let looks = c.read_headers.ensures.looks in
-    let told = c.in-Ok.ensures.told k m (sees_first old mid new k m sees c.check_objects.ensures.looks) of_log.leads in
-    fault_after old mid new looks (IsTreeDamage k.segments m) c.in-Err-check_objects.fault
-    (c.in-Err-check_objects.ensures.reason k m (sees_then old mid new k m sees looks)
-    (leads_then old mid k c.args.tables.now.map of_log.leads looks) told empty)
+    let looks = c.read_headers.ensures.keeps.looks in
+    let told = c.in-Ok.ensures.told k m (sees_first old mid new k m sees c.check_objects.ensures.keeps.looks) of_log.leads in
+    fault_after old mid new looks (IsTreeDamage k.segments m) c.in_err-check_objects.field-0.0
+    (c.in_err-check_objects.ensures.reason k m (sees_then old mid new k m sees looks)
+    (leads_then old mid k c.args.tables.now.map of_log.leads looks) told empty))
 
-pub returns-in-Ok-check_names-clause-done : goal.returns-in-Ok-check_names-clause-done
-returns-in-Ok-check_names-clause-done g c k m sees of_log empty =
+pub returns-clause-done : goal.returns-clause-done
+returns-clause-done g c = on_ok_weaker c.check_names.result (λ whole k m sees of_log empty.
     let old = g.D.SectorDevice.state c.args.device.now in
     let mid = g.D.SectorDevice.state c.read_headers.new.device in
     let new = g.D.SectorDevice.state c.check_objects.new.device in
-    let looks = c.read_headers.ensures.looks in
-    let told = c.in-Ok.ensures.told k m (sees_first old mid new k m sees c.check_objects.ensures.looks) of_log.leads in
-    let done = c.in-Ok-check_objects.ensures.done k m (sees_then old mid new k m sees looks)
+    let looks = c.read_headers.ensures.keeps.looks in
+    let told = c.in-Ok.ensures.told k m (sees_first old mid new k m sees c.check_objects.ensures.keeps.looks) of_log.leads in
+    let done = c.in_ok-check_objects.ensures.done k m (sees_then old mid new k m sees looks)
     (leads_then old mid k c.args.tables.now.map of_log.leads looks) told empty in
-    c.in-Ok-check_names.ensures.done old.content k m
-    (gathered old.content k m c.read_headers.new.headers c.check_objects.new.names c.args.tables.now sees.holds sees.sized told done.0
-    done.1 done.2 of_log)
-
-pub returns-in-Err-check_names-clause-reason : goal.returns-in-Err-check_names-clause-reason
-returns-in-Err-check_names-clause-reason g c k m sees of_log empty =
-    let old = g.D.SectorDevice.state c.args.device.now in
-    let mid = g.D.SectorDevice.state c.read_headers.new.device in
-    let new = g.D.SectorDevice.state c.check_objects.new.device in
-    let looks = c.read_headers.ensures.looks in
-    let told = c.in-Ok.ensures.told k m (sees_first old mid new k m sees c.check_objects.ensures.looks) of_log.leads in
-    let done = c.in-Ok-check_objects.ensures.done k m (sees_then old mid new k m sees looks)
-    (leads_then old mid k c.args.tables.now.map of_log.leads looks) told empty in
-    no_failure (old.failures < new.failures) (IsTreeDamage k.segments m) c.in-Err-check_names.fault
-    (c.in-Err-check_names.ensures.reason old.content k m
+    whole old.content k m
     (gathered old.content k m c.read_headers.new.headers c.check_objects.new.names c.args.tables.now sees.holds sees.sized told done.0
     done.1 done.2 of_log))
+    c.check_names.ensures.done
+
+pub returns-clause-reason : goal.returns-clause-reason
+returns-clause-reason g c = IfErr-weaker c.check_names.result _ _ (λ fault reason k m sees of_log empty.
+    let old = g.D.SectorDevice.state c.args.device.now in
+    let mid = g.D.SectorDevice.state c.read_headers.new.device in
+    let new = g.D.SectorDevice.state c.check_objects.new.device in
+    let looks = c.read_headers.ensures.keeps.looks in
+    let told = c.in-Ok.ensures.told k m (sees_first old mid new k m sees c.check_objects.ensures.keeps.looks) of_log.leads in
+    let done = c.in_ok-check_objects.ensures.done k m (sees_then old mid new k m sees looks)
+    (leads_then old mid k c.args.tables.now.map of_log.leads looks) told empty in
+    no_failure (old.failures < new.failures) (IsTreeDamage k.segments m) fault
+    (reason old.content k m
+    (gathered old.content k m c.read_headers.new.headers c.check_objects.new.names c.args.tables.now sees.holds sees.sized told done.0
+    done.1 done.2 of_log)))
+    c.check_names.ensures.reason

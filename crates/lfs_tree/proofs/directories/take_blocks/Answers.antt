@@ -56,15 +56,15 @@ loop-index-preserved g c =
     omega (arith, e, first, whole, slots) in
     record {
       low = omega (arith, low);
-      looks = looks_then old mid new here.looks c.in-Ok.ensures.looks;
-      no_failure = c.in-Ok.ensures.no_failure ∙ here.no_failure;
+      looks = looks_then old mid new here.looks c.in-Ok.ensures.keeps.looks;
+      no_failure = c.in-Ok.ensures.keeps.no_failure ∙ here.no_failure;
       taken = λ k m sees own base was.
           blocks_go_on c.args.headers.now c.args.directory.value base m c.args.header c.loop-index.index
           (c.loop-index.index - 1) c.min-count.result c.read_block.new.out
           (c.in-Ok.ensures.answer k m c.args.directory.value (sees_then old mid new k m sees here.looks)
           (inode_then old mid k c.args.directory.value c.args.inode.now own here.looks))
           is low (omega (arith, t)) c.loop-index.names c.take_slots.new.names c.loop-index.tables c.take_slots.new.tables
-          (here.taken k m (sees_first old mid new k m sees c.in-Ok.ensures.looks) own base was)
+          (here.taken k m (sees_first old mid new k m sees c.in-Ok.ensures.keeps.looks) own base was)
           (subst (TakesSlots c.args.header.form c.args.headers.now c.args.directory.value
           (first_slots c.args.header.form c.read_block.new.out c.min-count.result) c.loop-index.names c.take_slots.new.names
           c.loop-index.tables c.take_slots.new.tables) c.in-Ok-true.field-0-test c.in-Ok-true.ensures);
@@ -92,7 +92,7 @@ returns-in-Ok-false-clause-takes g c k m sees own base was =
     (c.in-Ok.ensures.answer k m c.args.directory.value (sees_then old mid new k m sees here.looks)
     (inode_then old mid k c.args.directory.value c.args.inode.now own here.looks))
     is low (omega (arith, t)) c.loop-index.names c.take_slots.new.names c.loop-index.tables c.take_slots.new.tables
-    (here.taken k m (sees_first old mid new k m sees c.in-Ok.ensures.looks) own base was)
+    (here.taken k m (sees_first old mid new k m sees c.in-Ok.ensures.keeps.looks) own base was)
     (subst (TakesSlots c.args.header.form c.args.headers.now c.args.directory.value
     (first_slots c.args.header.form c.read_block.new.out c.min-count.result) c.loop-index.names c.take_slots.new.names
     c.loop-index.tables c.take_slots.new.tables) c.in-Ok-false.field-0-test c.in-Ok-false.ensures)

@@ -1,4 +1,5 @@
 use Rattle.std.proofs.Common.{◌≡◌, ◌∙◌, Bool, Some, None, sym, subst, arith}
+use Rattle.std.proofs.lemmas.Result.{IfOk-weaker}
 use Rattle.lfs_files.specs.Headers.{as_header}
 use Rattle.lfs_tree.specs.Reading.{InodeAnswer}
 use Rattle.lfs_tree.proofs.GoodBlocks.{names_none, nothing_taken}
@@ -16,28 +17,29 @@ returns-in-Ok-false-clause-failed g c same k m sees leads there =
 pub returns-in-Err-clause-failed : goal.returns-in-Err-clause-failed
 returns-in-Err-clause-failed g c same k m sees leads there = c.in-Err.ensures.failed k m sees leads
 
-pub returns-in-Ok-clause-takes : goal.returns-in-Ok-clause-takes
-returns-in-Ok-clause-takes g c k m sees leads base was =
+pub returns-clause-takes : goal.returns-clause-takes
+returns-clause-takes g c = IfOk-weaker c.take_blocks.result _ _ (λ taken takes k m sees leads base was.
     let old = g.D.SectorDevice.state c.args.device.now in
     let mid = g.D.SectorDevice.state c.read_inode.new.device in
     let new = g.D.SectorDevice.state c.take_blocks.new.device in
-    let looks = c.read_inode.ensures.looks in
+    let looks = c.read_inode.ensures.keeps.looks in
     let own = subst (λ (b : Bool). InodeAnswer old.content k m c.args.directory.value c.read_inode.new.out b) c.in-Ok-true.field-0-test
-    (c.in-Ok-true.ensures.answer k m (sees_first old mid new k m sees c.take_blocks.ensures.looks) leads) in
-    c.in-Ok.ensures.takes k m (sees_then old mid new k m sees looks)
+    (c.in-Ok-true.ensures.answer k m (sees_first old mid new k m sees c.take_blocks.ensures.keeps.looks) leads) in
+    takes k m (sees_then old mid new k m sees looks)
     (inode_then old mid k c.args.directory.value c.read_inode.new.out own.block looks) base
     (nothing_taken c.args.header.form c.args.headers.now c.args.directory.value base c.new-names.result c.args.tables.now
-    (names_none c.new-names.result c.new-names.ensures.empty) was)
+    (names_none c.new-names.result c.new-names.ensures.empty) was))
+    c.take_blocks.ensures.takes
 
 pub returns-clause-failed : goal.returns-clause-failed
 returns-clause-failed g c same k m sees leads there =
     let old = g.D.SectorDevice.state c.args.device.now in
     let mid = g.D.SectorDevice.state c.read_inode.new.device in
     let new = g.D.SectorDevice.state c.take_blocks.new.device in
-    let looks = c.read_inode.ensures.looks in
+    let looks = c.read_inode.ensures.keeps.looks in
     let own = subst (λ (b : Bool). InodeAnswer old.content k m c.args.directory.value c.read_inode.new.out b) c.in-Ok-true.field-0-test
-    (c.in-Ok-true.ensures.answer k m (sees_first old mid new k m sees c.take_blocks.ensures.looks) leads) in
-    let rose = c.in-Err-take_blocks.ensures.failed same k m (sees_then old mid new k m sees looks)
+    (c.in-Ok-true.ensures.answer k m (sees_first old mid new k m sees c.take_blocks.ensures.keeps.looks) leads) in
+    let rose = c.take_blocks.ensures.failed same k m (sees_then old mid new k m sees looks)
     (inode_then old mid k c.args.directory.value c.read_inode.new.out own.block looks) in
     let earlier = looks.carries.failures in
     omega (arith, rose, earlier)

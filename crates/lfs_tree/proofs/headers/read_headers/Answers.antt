@@ -1,19 +1,20 @@
 use Rattle.std.proofs.Common.{◌+◌, List, Option, arith, subst, sym, ◌∙◌, refl}
+use Rattle.lfs_model.proofs.Exits.{any_error}
 use Rattle.lfs_files.specs.declared.header.Header.{Header}
 use Rattle.lfs_verify.proofs.Takes.{looks_then}
 use Rattle.lfs_tree.specs.Reading.{TellsHeaders}
 use Rattle.lfs_tree.proofs.Seeing.{leads_then, sees_first, sees_then, told_next}
 use Rattle.lfs_tree.proofs.headers.read_headers.Goals as goal
 
-pub returns-in-Err-clause-failed : goal.returns-in-Err-clause-failed
-returns-in-Err-clause-failed g c k m sees leads =
+pub returns-in_err-found-clause-failed : goal.returns-in_err-found-clause-failed
+returns-in_err-found-clause-failed g c = any_error c.from_residual.result _ (λ k m sees leads.
     let old = g.D.SectorDevice.state c.args.device.now in
     let mid = g.D.SectorDevice.state c.loop-number.device in
     let new = g.D.SectorDevice.state c.read_header.new.device in
     let looks = c.loop-number.invariant.looks in
-    let rose = c.in-Err.ensures.failed k m (sees_then old mid new k m sees looks) (leads_then old mid k c.args.map.now leads looks) in
+    let rose = c.in_err-found.ensures.failed k m (sees_then old mid new k m sees looks) (leads_then old mid k c.args.map.now leads looks) in
     let earlier = looks.carries.failures in
-    omega (arith, rose, earlier)
+    omega (arith, rose, earlier))
 
 pub loop-number-preserved : goal.loop-number-preserved
 loop-number-preserved g c =
@@ -21,16 +22,16 @@ loop-number-preserved g c =
     let mid = g.D.SectorDevice.state c.loop-number.device in
     let new = g.D.SectorDevice.state c.read_header.new.device in
     let here = c.loop-number.invariant in
-    let step = c.in-Ok.ensures in
+    let step = c.in_ok-found.ensures in
     let whole = c.set.ensures.whole in
     let below = c.loop-number-test.true in
     record {
-      looks = looks_then old mid new here.looks step.looks;
-      no_failure = step.no_failure ∙ here.no_failure;
+      looks = looks_then old mid new here.looks step.keeps.looks;
+      no_failure = step.keeps.no_failure ∙ here.no_failure;
       told = λ k m sees leads.
           subst (λ (hs : List (Option Header)). TellsHeaders m hs (c.loop-number.number + 1)) (sym c.set.ensures.set)
-          (told_next m c.loop-number.headers c.loop-number.number c.in-Ok.found (omega (arith, whole, below))
-          (here.told k m (sees_first old mid new k m sees step.looks) leads)
+          (told_next m c.loop-number.headers c.loop-number.number c.in_ok-found.found (omega (arith, whole, below))
+          (here.told k m (sees_first old mid new k m sees step.keeps.looks) leads)
           (step.answer k m (sees_then old mid new k m sees here.looks) (leads_then old mid k c.args.map.now leads here.looks)));
     }
 

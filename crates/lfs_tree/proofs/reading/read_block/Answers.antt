@@ -1,4 +1,5 @@
 use Rattle.std.proofs.Common.{◌∙◌, ap, refl, arith}
+use Rattle.std.proofs.lemmas.Result.{on_ok_weaker, on_err_weaker}
 use Rattle.std.specs.Prelude.{Err}
 use Rattle.lfs_model.specs.Entry.{Data}
 use Rattle.lfs_verify.proofs.Takes.{reads_then}
@@ -18,33 +19,35 @@ returns-then-address-eq0-clause-answer g c k m n sees is =
     (c.in-Ok.ensures.value sees.keeps ∙ data_is old.content k m sees.sized sees.holds n c.args.index c.args.inode.now is)
     c.if-address-eq0.true refl
 
-pub returns-in-Ok-read_sector-clause-answer : goal.returns-in-Ok-read_sector-clause-answer
-returns-in-Ok-read_sector-clause-answer g c k m n sees is =
+pub returns-clause-answer : goal.returns-clause-answer
+returns-clause-answer g c = on_ok_weaker c.read_sector.result (λ read k m n sees is.
     let old = g.D.SectorDevice.state c.args.device.now in
     let mid = g.D.SectorDevice.state c.locate.new.device in
     let new = g.D.SectorDevice.state c.read_sector.new.device in
     let looks = looks_call old mid (g.met.D.SectorDevice.lawful c.args.device.now) c.locate.ensures.carries c.locate.ensures.untouched
     c.locate.ensures.time in
-    let before = sees_first old mid new k m sees c.in-Ok-read_sector.ensures.looks in
+    let before = sees_first old mid new k m sees c.read_sector.ensures.keeps.looks in
     let some = c.if-address-eq0.false in
     block_there old.content k m sees.sized sees.holds n c.args.index c.in-Ok.address c.read_sector.new.out
     (c.in-Ok.ensures.value before.keeps ∙ data_is old.content k m sees.sized sees.holds n c.args.index c.args.inode.now is)
     (omega (arith, some))
-    (c.in-Ok-read_sector.ensures.block old.content (reads_then old mid new old.content (reads_of old new k m sees) looks))
+    (read old.content (reads_then old mid new old.content (reads_of old new k m sees) looks)))
+    c.read_sector.ensures.block
 
-pub returns-in-Err-clause-failed : goal.returns-in-Err-clause-failed
-returns-in-Err-clause-failed g c k m n sees is =
+pub returns-clause-failed : goal.returns-clause-failed
+returns-clause-failed g c = on_err_weaker c.read_sector.result (λ fails k m n sees is.
     let old = g.D.SectorDevice.state c.args.device.now in
     let mid = g.D.SectorDevice.state c.locate.new.device in
     let new = g.D.SectorDevice.state c.read_sector.new.device in
     let looks = looks_call old mid (g.met.D.SectorDevice.lawful c.args.device.now) c.locate.ensures.carries c.locate.ensures.untouched
     c.locate.ensures.time in
-    let before = sees_first old mid new k m sees c.in-Err.ensures.looks in
+    let before = sees_first old mid new k m sees c.read_sector.ensures.keeps.looks in
     let some = c.if-address-eq0.false in
     let at = c.in-Ok.ensures.value before.keeps ∙ data_is old.content k m sees.sized sees.holds n c.args.index c.args.inode.now is in
-    let rose = c.in-Err.ensures.failed old.content (reads_then old mid new old.content (reads_of old new k m sees) looks)
+    let rose = fails old.content (reads_then old mid new old.content (reads_of old new k m sees) looks)
     (is_inside old.content k m sees.sized sees.holds (Data n c.args.index) c.in-Ok.address at (omega (arith, some)))
     (is_long old.content k m sees.sized sees.holds (Data n c.args.index) c.in-Ok.address at (omega (arith, some)))
     in
     let earlier = looks.carries.failures in
-    omega (arith, rose, earlier)
+    omega (arith, rose, earlier))
+    c.read_sector.ensures.failed

@@ -1,23 +1,24 @@
 use Rattle.std.proofs.Common.{◌∙◌, arith}
 use Rattle.lfs_tree.proofs.Seeing.{inode_there, is_inside, is_long, reads_of}
+use Rattle.lfs_model.proofs.Exits.{any_error}
 use Rattle.lfs_model.specs.Entry.{Inode}
 use Rattle.lfs_tree.proofs.reading.read_inode.Goals as goal
 
-pub returns-in-Ok-clause-answer : goal.returns-in-Ok-clause-answer
-returns-in-Ok-clause-answer g c k m sees leads =
+pub returns-clause-answer : goal.returns-clause-answer
+returns-clause-answer g c k m sees leads =
     let old = g.D.SectorDevice.state c.args.device.now in
     let new = g.D.SectorDevice.state c.read_sector.new.device in
     let some = c.if-address-eq0.false in
     inode_there old.content k m sees.sized sees.holds c.args.number c.address-address.result c.read_sector.new.out
     (c.address-address.ensures ∙ leads.each c.args.number c.requires) (omega (arith, some))
-    (c.in-Ok.ensures.block old.content (reads_of old new k m sees))
+    (c.in_ok-read_sector.ensures.block old.content (reads_of old new k m sees))
 
-pub returns-in-Err-clause-failed : goal.returns-in-Err-clause-failed
-returns-in-Err-clause-failed g c k m sees leads =
+pub returns-in_err-read_sector-clause-failed : goal.returns-in_err-read_sector-clause-failed
+returns-in_err-read_sector-clause-failed g c = any_error c.from_residual.result _ (λ k m sees leads.
     let old = g.D.SectorDevice.state c.args.device.now in
     let new = g.D.SectorDevice.state c.read_sector.new.device in
     let some = c.if-address-eq0.false in
     let is = c.address-address.ensures ∙ leads.each c.args.number c.requires in
-    c.in-Err.ensures.failed old.content (reads_of old new k m sees)
+    c.in_err-read_sector.ensures.failed old.content (reads_of old new k m sees)
     (is_inside old.content k m sees.sized sees.holds (Inode c.args.number) c.address-address.result is (omega (arith, some)))
-    (is_long old.content k m sees.sized sees.holds (Inode c.args.number) c.address-address.result is (omega (arith, some)))
+    (is_long old.content k m sees.sized sees.holds (Inode c.args.number) c.address-address.result is (omega (arith, some))))

@@ -1,4 +1,6 @@
-use Rattle.std.proofs.Common.{◌≡◌, ◌∙◌, Some, None, subst, sym, arith, refl}
+use Rattle.std.specs.Prelude.{Err}
+use Rattle.lfs_tree.proofs.Exits.{passed_on}
+use Rattle.std.proofs.Common.{ap, ◌≡◌, ◌∙◌, Some, None, subst, sym, arith, refl}
 use Rattle.lfs_verify.proofs.Takes.{looks_none, looks_then}
 use Rattle.lfs_tree.specs.Objects.{AreNamed, TakesObject}
 use Rattle.lfs_tree.proofs.Named.{base_at, named_first, named_more, noted_begin}
@@ -26,40 +28,41 @@ loop-number-preserved g c =
     let number = c.loop-number.number in
     let headers = c.args.headers.now in
     record {
-      looks = looks_then old mid new here.looks c.in-Ok-true.ensures.looks;
-      no_failure = c.in-Ok-true.ensures.no_failure ∙ here.no_failure;
+      looks = looks_then old mid new here.looks c.in_ok-take_object.ensures.keeps.looks;
+      no_failure = c.in_ok-take_object.ensures.keeps.no_failure ∙ here.no_failure;
       named = λ k m sees leads told empty.
-          let was = here.named k m (sees_first old mid new k m sees c.in-Ok-true.ensures.looks) leads told empty in
+          let was = here.named k m (sees_first old mid new k m sees c.in_ok-take_object.ensures.keeps.looks) leads told empty in
           let base = base_at m headers c.loop-number.tables number in
-          let taken = c.in-Ok-true.ensures.takes k m (sees_then old mid new k m sees here.looks)
+          let taken = c.in_ok-take_object.ensures.takes k m (sees_then old mid new k m sees here.looks)
           (leads_then old mid k c.args.map.now leads here.looks) told base (noted_begin m headers c.loop-number.tables number was) in
-          let both = subst (TakesObject m headers number base c.take_object.new.tables) c.in-Ok-true.field-0-test taken in
+          let both = subst (TakesObject m headers number base c.take_object.new.tables) c.if-not-branch.false taken in
           named_more m headers c.loop-number.tables number was c.take_object.new.tables both.0 both.1;
     }
 
-pub returns-in-Ok-false-clause-holds : goal.returns-in-Ok-false-clause-holds
-returns-in-Ok-false-clause-holds g c k m sees leads told empty =
+pub returns-then-not-branch-clause-holds : goal.returns-then-not-branch-clause-holds
+returns-then-not-branch-clause-holds g c k m sees leads told empty =
     let old = g.D.SectorDevice.state c.args.device.now in
     let mid = g.D.SectorDevice.state c.loop-number.device in
     let new = g.D.SectorDevice.state c.take_object.new.device in
     let here = c.loop-number.invariant in
     let number = c.loop-number.number in
     let headers = c.args.headers.now in
-    let was = here.named k m (sees_first old mid new k m sees c.in-Ok-false.ensures.looks) leads told empty in
+    let was = here.named k m (sees_first old mid new k m sees c.in_ok-take_object.ensures.keeps.looks) leads told empty in
     let base = base_at m headers c.loop-number.tables number in
-    let taken = c.in-Ok-false.ensures.takes k m (sees_then old mid new k m sees here.looks)
+    let taken = c.in_ok-take_object.ensures.takes k m (sees_then old mid new k m sees here.looks)
     (leads_then old mid k c.args.map.now leads here.looks) told base (noted_begin m headers c.loop-number.tables number was) in
-    let bad = subst (TakesObject m headers number base c.take_object.new.tables) c.in-Ok-false.field-0-test taken in
+    let bad = subst (TakesObject m headers number base c.take_object.new.tables) c.if-not-branch.true taken in
     λ stage. bad (good_if_stage m (held_headers old.content k m sees.holds) headers told stage number)
 
-pub returns-in-Err-clause-failed : goal.returns-in-Err-clause-failed
-returns-in-Err-clause-failed g c same k m sees leads told =
+pub returns-in_err-take_object-clause-failed : goal.returns-in_err-take_object-clause-failed
+returns-in_err-take_object-clause-failed g c same k m sees leads told =
     let old = g.D.SectorDevice.state c.args.device.now in
     let mid = g.D.SectorDevice.state c.loop-number.device in
     let new = g.D.SectorDevice.state c.take_object.new.device in
     let looks = c.loop-number.invariant.looks in
-    let rose =
-    c.in-Err.ensures.failed same k m (sees_then old mid new k m sees looks) (leads_then old mid k c.args.map.now leads looks) told in
+    let rose = c.in_err-take_object.ensures.failed
+    (ap Err (passed_on c.from_residual.result c.in_err-take_object.field-0.0 _ c.from_residual.ensures same)) k m
+    (sees_then old mid new k m sees looks) (leads_then old mid k c.args.map.now leads looks) told in
     let earlier = looks.carries.failures in
     omega (arith, rose, earlier)
 

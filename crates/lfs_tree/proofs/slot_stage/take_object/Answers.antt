@@ -1,4 +1,5 @@
 use Rattle.std.proofs.Common.{sym, ◌∙◌, arith}
+use Rattle.std.proofs.lemmas.Result.{IfOk-weaker}
 use Rattle.lfs_tree.proofs.ObjectNames.{head_told, held_headers, object_directory, object_other}
 use Rattle.lfs_tree.proofs.slot_stage.take_object.Goals as goal
 
@@ -10,16 +11,17 @@ returns-then-not-is_directory-clause-takes g c k m sees leads told base was =
     (omega (arith, few)) base c.args.tables.now c.in-Some.header (sym c.get.ensures ∙ c.in-Some.is)
     (sym c.is_directory.ensures ∙ c.if-not-is_directory.true) was
 
-pub returns-in-Ok-clause-takes : goal.returns-in-Ok-clause-takes
-returns-in-Ok-clause-takes g c k m sees leads told base was =
+pub returns-clause-takes : goal.returns-clause-takes
+returns-clause-takes g c = IfOk-weaker c.take_directory.result _ _ (λ taken takes k m sees leads told base was.
     let old = g.D.SectorDevice.state c.args.device.now in
     let few = c.args.number.few in
     object_directory m (held_headers old.content k m sees.holds) c.args.headers.now told c.args.number.value
-    (omega (arith, few)) base c.take_directory.new.tables c.in-Some.header (sym c.get.ensures ∙ c.in-Some.is) c.in-Ok.taken
-    (sym c.is_directory.ensures ∙ c.if-not-is_directory.false) (c.in-Ok.ensures.takes k m sees leads base was)
+    (omega (arith, few)) base c.take_directory.new.tables c.in-Some.header (sym c.get.ensures ∙ c.in-Some.is) taken
+    (sym c.is_directory.ensures ∙ c.if-not-is_directory.false) (takes k m sees leads base was))
+    c.take_directory.ensures.takes
 
-pub returns-in-Err-clause-failed : goal.returns-in-Err-clause-failed
-returns-in-Err-clause-failed g c same k m sees leads told =
+pub returns-clause-failed : goal.returns-clause-failed
+returns-clause-failed g c same k m sees leads told =
     let few = c.args.number.few in
-    c.in-Err.ensures.failed same k m sees leads
+    c.take_directory.ensures.failed same k m sees leads
     (head_told m c.args.headers.now told c.args.number.value (omega (arith, few)) c.in-Some.header (sym c.get.ensures ∙ c.in-Some.is))

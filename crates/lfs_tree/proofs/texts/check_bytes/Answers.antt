@@ -1,5 +1,6 @@
 use Rattle.std.specs.Prelude.{min}
 use Rattle.std.proofs.Common.{◌≡◌, ◌<◌, ◌-◌, ◌*◌, arith, ◌∙◌, refl}
+use Rattle.lfs_model.proofs.Exits.{any_error}
 use Rattle.lfs_verify.proofs.Takes.{looks_none, looks_then}
 use Rattle.lfs_tree.proofs.LinkTexts.{texts_fail, texts_go_on}
 use Rattle.lfs_tree.proofs.Seeing.{inode_then, sees_first, sees_then}
@@ -12,15 +13,16 @@ loop-index-init g c = record {
   none = λ k m n sees is p low none. omega (arith, low);
 }
 
-pub returns-in-Err-clause-failed : goal.returns-in-Err-clause-failed
-returns-in-Err-clause-failed g c k m n sees is =
+pub returns-in_err-read_block-clause-failed : goal.returns-in_err-read_block-clause-failed
+returns-in_err-read_block-clause-failed g c = any_error c.from_residual.result _ (λ k m n sees is.
     let old = g.D.SectorDevice.state c.args.device.now in
     let mid = g.D.SectorDevice.state c.loop-index.device in
     let new = g.D.SectorDevice.state c.read_block.new.device in
     let looks = c.loop-index.invariant.looks in
-    let rose = c.in-Err.ensures.failed k m n (sees_then old mid new k m sees looks) (inode_then old mid k n c.args.inode.now is looks) in
+    let rose = c.in_err-read_block.ensures.failed k m n (sees_then old mid new k m sees looks)
+    (inode_then old mid k n c.args.inode.now is looks) in
     let earlier = looks.carries.failures in
-    omega (arith, rose, earlier)
+    omega (arith, rose, earlier))
 
 pub loop-index-preserved : goal.loop-index-preserved
 loop-index-preserved g c =
@@ -34,13 +36,13 @@ loop-index-preserved g c =
     let low : 512 * c.loop-index.index < c.args.size = omega (arith, t, d) in
     let is : c.min-count.result ≡ min (c.args.size - 512 * c.loop-index.index) 512 = omega (arith, e) in
     record {
-      looks = looks_then old mid new here.looks c.in-Ok.ensures.looks;
-      no_failure = c.in-Ok.ensures.no_failure ∙ here.no_failure;
+      looks = looks_then old mid new here.looks c.in_ok-read_block.ensures.keeps.looks;
+      no_failure = c.in_ok-read_block.ensures.keeps.no_failure ∙ here.no_failure;
       none = λ k m n sees own.
           texts_go_on m n c.loop-index.index c.args.size c.min-count.result c.read_block.new.out
-          (c.in-Ok.ensures.answer k m n (sees_then old mid new k m sees here.looks)
+          (c.in_ok-read_block.ensures.answer k m n (sees_then old mid new k m sees here.looks)
           (inode_then old mid k n c.args.inode.now own here.looks))
-          low is (here.none k m n (sees_first old mid new k m sees c.in-Ok.ensures.looks) own)
+          low is (here.none k m n (sees_first old mid new k m sees c.in_ok-read_block.ensures.keeps.looks) own)
           (c.is_nonzero.ensures.0 c.if-not-is_nonzero.false);
     }
 
@@ -56,7 +58,8 @@ returns-then-not-is_nonzero-clause-holds g c k m n sees own =
     let low : 512 * c.loop-index.index < c.args.size = omega (arith, t, d) in
     let is : c.min-count.result ≡ min (c.args.size - 512 * c.loop-index.index) 512 = omega (arith, e) in
     texts_fail m n c.loop-index.index c.args.size c.min-count.result c.read_block.new.out
-    (c.in-Ok.ensures.answer k m n (sees_then old mid new k m sees here.looks) (inode_then old mid k n c.args.inode.now own here.looks))
+    (c.in_ok-read_block.ensures.answer k m n (sees_then old mid new k m sees here.looks)
+    (inode_then old mid k n c.args.inode.now own here.looks))
     low is (λ all. let yes = c.is_nonzero.ensures.1 all in let no_ = c.if-not-is_nonzero.true in absurd (cc))
 
 pub returns-clause-holds : goal.returns-clause-holds

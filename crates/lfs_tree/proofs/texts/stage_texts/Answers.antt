@@ -1,4 +1,5 @@
 use Rattle.std.proofs.Common.{below_more, arith, ◌∙◌, refl}
+use Rattle.lfs_model.proofs.Exits.{any_error}
 use Rattle.lfs_verify.proofs.Takes.{looks_none, looks_then}
 use Rattle.lfs_tree.specs.Texts.{IsGoodText}
 use Rattle.lfs_tree.proofs.ObjectNames.{held_headers}
@@ -24,34 +25,36 @@ loop-number-preserved g c =
     let here = c.loop-number.invariant in
     let number = c.loop-number.number in
     record {
-      looks = looks_then old mid new here.looks c.in-Ok-true.ensures.looks;
-      no_failure = c.in-Ok-true.ensures.no_failure ∙ here.no_failure;
+      looks = looks_then old mid new here.looks c.in_ok-check_object.ensures.keeps.looks;
+      no_failure = c.in_ok-check_object.ensures.keeps.no_failure ∙ here.no_failure;
       good = λ k m sees leads told.
-          below_more (IsGoodText m) number (here.good k m (sees_first old mid new k m sees c.in-Ok-true.ensures.looks) leads told)
-          (decided_true (IsGoodText m number) c.in-Ok-true.field-0 c.in-Ok-true.field-0-test (c.in-Ok-true.ensures.holds k m
+          below_more (IsGoodText m) number
+          (here.good k m (sees_first old mid new k m sees c.in_ok-check_object.ensures.keeps.looks) leads told)
+          (decided_true (IsGoodText m number) _ c.if-not-branch.false (c.in_ok-check_object.ensures.holds k m
           (sees_then old mid new k m sees here.looks) (leads_then old mid k c.args.map.now leads here.looks) told));
     }
 
-pub returns-in-Ok-false-clause-holds : goal.returns-in-Ok-false-clause-holds
-returns-in-Ok-false-clause-holds g c k m sees leads told stage =
+pub returns-then-not-branch-clause-holds : goal.returns-then-not-branch-clause-holds
+returns-then-not-branch-clause-holds g c k m sees leads told stage =
     let old = g.D.SectorDevice.state c.args.device.now in
     let mid = g.D.SectorDevice.state c.loop-number.device in
     let new = g.D.SectorDevice.state c.check_object.new.device in
     let here = c.loop-number.invariant in
     let number = c.loop-number.number in
-    decided_false (IsGoodText m number) c.in-Ok-false.field-0 c.in-Ok-false.field-0-test (c.in-Ok-false.ensures.holds k m
+    decided_false (IsGoodText m number) _ c.if-not-branch.true (c.in_ok-check_object.ensures.holds k m
     (sees_then old mid new k m sees here.looks) (leads_then old mid k c.args.map.now leads here.looks) told)
     (text_if_stage m (held_headers old.content k m sees.holds) stage number)
 
-pub returns-in-Err-clause-failed : goal.returns-in-Err-clause-failed
-returns-in-Err-clause-failed g c k m sees leads told =
+pub returns-in_err-check_object-clause-failed : goal.returns-in_err-check_object-clause-failed
+returns-in_err-check_object-clause-failed g c = any_error c.from_residual.result _ (λ k m sees leads told.
     let old = g.D.SectorDevice.state c.args.device.now in
     let mid = g.D.SectorDevice.state c.loop-number.device in
     let new = g.D.SectorDevice.state c.check_object.new.device in
     let looks = c.loop-number.invariant.looks in
-    let rose = c.in-Err.ensures.failed k m (sees_then old mid new k m sees looks) (leads_then old mid k c.args.map.now leads looks) told in
+    let rose = c.in_err-check_object.ensures.failed k m (sees_then old mid new k m sees looks)
+    (leads_then old mid k c.args.map.now leads looks) told in
     let earlier = looks.carries.failures in
-    omega (arith, rose, earlier)
+    omega (arith, rose, earlier))
 
 pub returns-clause-holds : goal.returns-clause-holds
 returns-clause-holds g c k m sees leads told =
