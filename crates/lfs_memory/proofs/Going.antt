@@ -1,6 +1,6 @@
 -- Parts of a commit, one after the other.
-use Rattle.std.proofs.Common.{◌≤◌, ◌+◌, ℕ, refl, ◌∙◌, arith}
-use Rattle.std.specs.Prelude.{Result, Ok, Err, OnOk, OnErr, Option, Some, None, IfSome, IfNone}
+use Rattle.std.proofs.Common.{◌≡◌, ◌≤◌, ◌+◌, ℕ, refl, ◌∙◌, arith}
+use Rattle.std.specs.Prelude.{Result, Ok, Err, IsErr, IsErrAnd, OnOk, OnErr, Option, Some, None, IfOk, IfSome, IfNone}
 use Rattle.lfs_model.specs.Content.{Content}
 use Rattle.lfs_model.specs.Crash.{StandsOn}
 use Rattle.lfs_model.specs.Device.{DeviceState, IsLawful}
@@ -65,6 +65,10 @@ pub on_err : {T E : Type 0} (r : Result T E) (P : Type 0) → P → OnErr r P
 on_err (Ok x) P p = tt
 on_err (Err e) P p = p
 
+pub err_ok : {T E : Type 0} (r : Result T E) (e : E) (P : Type 0) → IsErr r × IsErrAnd r (λ y. y ≡ e) → OnOk r P
+err_ok (Ok x) e P gives = absurd gives.1
+err_ok (Err e') e P gives = tt
+
 pub has_room_still : (p : ℕ) (d d' : DeviceState) (v v' : LogMemory) (n : ℕ) → GoesUpTo p d d' v v' n → HasRoom d v → HasRoom d' v'
 has_room_still p d d' v v' n goes room = let size = goes.carries.size in let same = goes.segments in omega (arith, room, size, same)
 
@@ -75,6 +79,14 @@ ok_then (Err e) P Q go p = tt
 pub err_then : {T E : Type 0} (r : Result T E) (P Q : Type 0) → (P → Q) → OnErr r P → OnErr r Q
 err_then (Ok x) P Q go p = tt
 err_then (Err e) P Q go p = go p
+
+pub if_ok_then : {T E : Type 0} (r : Result T E) (P Q : T → Type 0) → ((x : T) → P x → Q x) → IfOk r P → IfOk r Q
+if_ok_then (Ok x) P Q go p = go x p
+if_ok_then (Err e) P Q go p = tt
+
+pub if_ok_any : {T E : Type 0} (r : Result T E) (P : T → Type 0) → ((x : T) → P x) → IfOk r P
+if_ok_any (Ok x) P all = all x
+if_ok_any (Err e) P all = tt
 
 pub some_then : {T : Type 0} (o : Option T) (P Q : T → Type 0) → ((x : T) → P x → Q x) → IfSome o P → IfSome o Q
 some_then None P Q go p = p

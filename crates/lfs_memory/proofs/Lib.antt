@@ -5,7 +5,7 @@ pub mod Going
 pub mod Begun
 pub mod FileSteps
 pub mod Presents
-pub mod LeafPresents
+pub mod Located
 pub mod Lifted
 pub mod Lent
 pub mod LiftedKeys

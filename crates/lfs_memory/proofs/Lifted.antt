@@ -1,7 +1,7 @@
 -- A block that comes into memory, or an inode map block that will be written: the log map stays.
 use Rattle.std.proofs.Common.{◌≡◌, ◌<◌, ◌≤◌, ◌⊎◌, ⊎_elim, ◌+◌, ◌*◌, ◌/◌, ◌%◌, ◌==◌, cond, not, ℕ, zero, suc, Bool, true, false, List}
 use Rattle.std.proofs.Common.{length, Some, None, refl, sym, ◌∙◌, ap, ap₂, subst, arith, inl, inr}
-use Rattle.std.specs.Prelude.{get_or, Option, option_map}
+use Rattle.std.specs.Prelude.{get_or, Option, option_map, Result}
 use Rattle.std.proofs.lemmas.Bool.{cases_eq, cond-false}
 use Rattle.std.proofs.lemmas.Bool.Decides.{nat_tests}
 use Rattle.lfs_model.specs.Changing.{IsWithBlock}
@@ -30,8 +30,11 @@ use Rattle.lfs_inodes.specs.Present.{present}
 use Rattle.lfs_memory.specs.declared.memory.LogMemory.{LogMemory}
 use Rattle.lfs_memory.specs.Memory.{IsMemory, IsLoose, AreHidden, tables_of, segment_in, chunk_in, room_of}
 use Rattle.lfs_memory.specs.Present.{Looks, IsMissing, FailsFromDevice}
-use Rattle.lfs_memory.specs.Lifting.{IsInMemory, Prepares, IsCountedAbove, Brings, MapLifts, IsMapLost}
+use Rattle.lfs_memory.specs.Changing.{IsPointedIn}
+use Rattle.lfs_memory.specs.declared.lifting.LiftFault.{LiftFault}
+use Rattle.lfs_memory.specs.Lifting.{EndsLifting, IsInMemory, Prepares, IsCountedAbove, Brings, MapLifts, IsMapLost}
 use Rattle.lfs_memory.proofs.Presents.{looks_none, looks_then, still_log, not_missing}
+use Rattle.lfs_memory.proofs.Going.{ok_then}
 use Rattle.lfs_memory.proofs.Stales.{stays_stale}
 
 -- ---- a block that came stays in memory, and so does what was there
@@ -498,11 +501,20 @@ pub prepares_none : (d : DeviceState) (v v' : LogMemory) (most : ℕ) → v' ≡
 prepares_none d v v' most same lawful memory = subst (λ (w : LogMemory). Prepares d d v w most) (sym same)
     (prepares_at_most d d v v 0 most (omega arith) (prepares_looks d d v lawful memory (looks_none d)))
 
+-- how one call after another ends
+pub ends_then : {T : Type 0} (a b c : DeviceState) (v v' v'' : LogMemory) (n : ℕ) → Prepares a b v v' n → b.failures ≡ a.failures
+    → Looks b c
+    → (r : Result T LiftFault) → EndsLifting b c v' v'' r → EndsLifting a c v v'' r
+ends_then a b c v v' v'' n one same looks r two = record {
+  full = two.full;
+  failed = λ is. prepares_excused a b c v v' n one looks (two.failed is);
+  no_failure = ok_then r _ _ (λ still. still ∙ same) two.no_failure;
+}
+
 -- a block below the one above it
-pub below_stands : (v : LogMemory) (x : Entry) (b : List ℕ) (a : ℕ) → (parent x ≡ x → ⊥) → ((n q : ℕ) → x ≡ Leaf n q → q ≤ 128)
-    → blocks_of v.dirty (parent x) ≡ Some b → word b (pointer x) ≡ a
-    → IsAtAddress (blocks_of v.dirty) (tables_of v) x a
-below_stands v x b a below low held at = record { top = λ top. absurd (below top); pointed = λ ne. (b, held, at); low = low }
+pub pointed_stands : (v : LogMemory) (x : Entry) (a : ℕ) → (parent x ≡ x → ⊥) → ((n q : ℕ) → x ≡ Leaf n q → q ≤ 128)
+    → IsPointedIn (blocks_of v.dirty) x a → IsAtAddress (blocks_of v.dirty) (tables_of v) x a
+pointed_stands v x a below low pointed = record { top = λ top. absurd (below top); pointed = λ ne. pointed; low = low }
 
 pub word_read : (b : List ℕ) (at place r : ℕ) → place ≡ at → r ≡ read32 (4 * place) b → word b at ≡ r
 unfolding word

@@ -1,7 +1,8 @@
 -- What changes of files in memory do, one block or header at a time.
-use Rattle.std.specs.Prelude.{◌≡◌, ◌<◌, ◌≤◌, ◌+◌, ◌==◌, ◌&&◌, cond, not, ℕ, Bool, true, false, List, [], ◌∷◌, length, Option, Some, ◌++◌}
+use Rattle.std.specs.Prelude.{◌≡◌, ◌<◌, ◌≤◌, ◌+◌, ◌/◌, ◌%◌, ◌==◌, ◌&&◌, cond, not, ℕ, Bool, true, false, List, [], ◌∷◌, length, Option}
+use Rattle.std.specs.Prelude.{Some, ◌++◌}
 use Rattle.std.specs.Prelude.{drop}
-use Rattle.lfs_model.specs.declared.limits.TheConstants.{LAST_LEAF, SECTOR_LEN}
+use Rattle.lfs_model.specs.declared.limits.TheConstants.{FILE_NUMBERS, LAST_LEAF, SECTOR_LEN}
 use Rattle.lfs_model.specs.declared.Kind.{Kind}
 use Rattle.lfs_model.specs.Counting.{segment_of}
 use Rattle.lfs_model.specs.Entry.{Entry, Data, Leaf, Inode, Header, word}
@@ -14,6 +15,7 @@ use Rattle.lfs_model.specs.Stands.{LogMap}
 pub use Rattle.lfs_files.specs.Headers.{FitsHeader}
 use Rattle.lfs_segments.specs.Table.{UsageTable, live_of, held_of, clean_in}
 use Rattle.lfs_segments.specs.Steps.{Lifts}
+use Rattle.lfs_inodes.specs.declared.key.BlockKey.{BlockKey}
 use Rattle.lfs_inodes.specs.Blocks.{TableValue, blocks_of}
 use Rattle.lfs_inodes.specs.Empty.{IsEmptyBlock}
 use Rattle.lfs_inodes.specs.MapValue.{address_in, is_hidden_in}
@@ -38,6 +40,10 @@ abbrev pub with_header : LogMap → ℕ → Option Header → LogMap
 with_header m n h = record { header = λ k. cond (k == n) h (m.header k); block = m.block; version = m.version }
 
 -- ---- steps
+
+-- the file of a key
+abbrev pub file_in : BlockKey → ℕ
+file_in key = key.code / 32768 % FILE_NUMBERS
 
 -- what stays, where so many blocks may come into memory
 pub record Stays (more : ℕ) (v v' : LogMemory) : Type 0 where

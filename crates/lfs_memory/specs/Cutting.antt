@@ -66,6 +66,11 @@ pub record IsFormed (x : Entry) (bytes : List ℕ) : Type 0 where
   pub long : length bytes ≡ SECTOR_LEN
   pub inode : (n : ℕ) → x ≡ Inode n → HoldsInode n bytes
 
+-- as many blocks stay, with as much room
+pub record KeepsCount (old new : TableValue) : Type 0 where
+  pub count : length new.blocks ≡ length old.blocks
+  pub capacity : new.capacity ≡ old.capacity
+
 -- the leaf of file n that is cut in part has no pointer to what goes, if it is in memory
 pub record ClearsLeaf (old new : Dirty) (n first : ℕ) : Type 0 where
   pub cleared : (q : ℕ) (b : List ℕ) → IsCutLeaf first q → old (Leaf n q) ≡ Some b → length b ≡ SECTOR_LEN

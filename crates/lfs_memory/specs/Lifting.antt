@@ -1,5 +1,5 @@
 -- Blocks come into memory so that they may change; what memory and device hold stays the same log map.
-use Rattle.std.specs.Prelude.{◌≡◌, ◌<◌, ◌≤◌, ◌+◌, ℕ, Bool, true, false, List, length, Some, None}
+use Rattle.std.specs.Prelude.{◌≡◌, ◌<◌, ◌≤◌, ◌+◌, ℕ, Bool, true, false, List, length, Some, None, Result, OnOk, IsErrOf}
 use Rattle.lfs_model.specs.Checkpoint.{CheckpointValue}
 use Rattle.lfs_model.specs.Counting.{segment_of}
 use Rattle.lfs_model.specs.Device.{DeviceState}
@@ -13,8 +13,10 @@ use Rattle.lfs_segments.specs.Steps.{Lifts}
 use Rattle.lfs_inodes.specs.Blocks.{blocks_of}
 use Rattle.lfs_inodes.specs.MapValue.{address_in, block_in}
 use Rattle.lfs_memory.specs.declared.memory.LogMemory.{LogMemory}
+use Rattle.lfs_memory.specs.declared.lifting.LiftFault.{LiftFault}
+use Rattle.lfs_memory.specs.declared.lifting.LiftFault.TheVariants as fault
 use Rattle.lfs_memory.specs.Memory.{IsMemory, IsLoose}
-use Rattle.lfs_memory.specs.Present.{Looks}
+use Rattle.lfs_memory.specs.Present.{Looks, FailsFromDevice}
 
 abbrev pub IsInMemory : LogMemory → Entry → Type 0
 IsInMemory v x = (b : List ℕ) × (blocks_of v.dirty x ≡ Some b)
@@ -35,6 +37,12 @@ pub record Prepares (d d' : DeviceState) (v v' : LogMemory) (most : ℕ) : Type 
   pub mapped : (j : ℕ) → block_in v.map j ≡ 1 → block_in v'.map j ≡ 1
   pub absent : (l : ℕ) → address_in v.map l ≡ 0 → address_in v'.map l ≡ 0
   pub log : (k : CheckpointValue) (m0 m : LogMap) → d'.keeps_model → IsLoose d v k m0 m → IsLoose d' v' k m0 m
+
+-- How such a call ends: it counts no failure where it is done; else memory is full, or a call of the device failed.
+pub record EndsLifting {T : Type 0} (d d' : DeviceState) (v v' : LogMemory) (result : Result T LiftFault) : Type 0 where
+  pub full : IsErrOf result fault.Full → v'.dirty.capacity.limit ≤ length v'.dirty.blocks
+  pub failed : IsErrOf result fault.Device → FailsFromDevice d d' v
+  pub no_failure : OnOk result (d'.failures ≡ d.failures)
 
 -- no block has an address that it hadn't before
 abbrev pub HasTraces : Memory → Memory → Type 0

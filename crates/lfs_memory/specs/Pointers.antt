@@ -12,6 +12,7 @@ use Rattle.lfs_inodes.specs.MapValue.{address_in}
 use Rattle.lfs_inodes.specs.Present.{present, data_now}
 use Rattle.lfs_memory.specs.declared.memory.LogMemory.{LogMemory}
 use Rattle.lfs_memory.specs.declared.pointers.PointerRun.{PointerRun}
+use Rattle.lfs_memory.specs.Numbers.{IsFileNumber}
 use Rattle.lfs_memory.specs.Memory.{IsLoose}
 
 -- a run has the pointer to block i of file n
@@ -27,6 +28,12 @@ pointer_in r i = get_or r.pointers (r.place + (i - r.first)) 0
 -- how many pointers from one to another lead to a block
 abbrev pub blocks_in : (ℕ → ℕ) → ℕ → ℕ → ℕ
 blocks_in pointer from to = length (filter (λ i. not (pointer i == 0)) (range_with_len from (to - from)))
+
+-- file n is there, and its inode is at this address
+pub record IsInodeAt (v : LogMemory) (n address : ℕ) : Type 0 where
+  pub number : IsFileNumber n
+  pub is : address ≡ address_in v.map n
+  pub there : 0 < address
 
 -- The pointer to block i of file n, which is there: what its way leads to, in memory and on the device.
 pub record IsPointer (d : DeviceState) (v : LogMemory) (n i pointer : ℕ) : Type 0 where

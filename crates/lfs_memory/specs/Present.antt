@@ -1,5 +1,5 @@
 -- What the log answers to reads, and what a call that only reads leaves.
-use Rattle.std.specs.Prelude.{◌≡◌, ◌<◌, ℕ, Bool, true, false, List, [], Option, Some, None}
+use Rattle.std.specs.Prelude.{◌≡◌, ◌<◌, ◌⊎◌, ℕ, Bool, true, false, List, [], Option, Some, None, Result, OnOk, OnErr}
 use Rattle.lfs_model.specs.Checkpoint.{CheckpointValue}
 use Rattle.lfs_model.specs.Content.{Content}
 use Rattle.lfs_model.specs.Device.{DeviceState, cell_at}
@@ -19,12 +19,26 @@ use Rattle.lfs_memory.specs.Memory.{IsLoose}
 abbrev pub FailsFromDevice : DeviceState → DeviceState → LogMemory → Type 0
 FailsFromDevice d d' v = (k : CheckpointValue) (m0 m : LogMap) → d'.keeps_model → IsLoose d v k m0 m → d.failures < d'.failures
 
+-- A call that only reads: one that is done counts no failure, and one that isn't is excused by one.
+pub record OnlyLooks {T E : Type 0} (d d' : DeviceState) (v : LogMemory) (result : Result T E) : Type 0 where
+  pub failed : OnErr result (FailsFromDevice d d' v)
+  pub no_failure : OnOk result (d'.failures ≡ d.failures)
+  pub looks : Looks d d'
+
 -- neither memory nor the device has the block of this pointer
 pub record IsMissing (content : Content) (dirty : Dirty) (x : Entry) (address : ℕ) : Type 0 where
   pub inside : address ≡ 1 → dirty x ≡ None
   pub outside : (address ≡ 1 → ⊥) → cell_at content address ≡ None
 
--- of the block of a pointer, in memory or on the device: the number at a place
+-- one that isn't read: a call failed, or neither has it
+abbrev pub FailsToRead : DeviceState → DeviceState → LogMemory → Entry → ℕ → Type 0
+FailsToRead d d' v x address = d'.keeps_model → (d.failures < d'.failures) ⊎ IsMissing d.content (blocks_of v.dirty) x address
+
+-- one that is: its bytes, in memory or on the device
+abbrev pub ShowsBlock : DeviceState → DeviceState → LogMemory → Entry → ℕ → List ℕ → Type 0
+ShowsBlock d d' v x address out = d'.keeps_model → out ≡ present d.content (blocks_of v.dirty) x address
+
+-- the number at a place of it
 pub record ShowsWord (d d' : DeviceState) (v : LogMemory) (x : Entry) (address place found : ℕ) : Type 0 where
   pub shown : List ℕ
   pub value : d'.keeps_model → shown ≡ present d.content (blocks_of v.dirty) x address

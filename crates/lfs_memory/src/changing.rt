@@ -1,5 +1,5 @@
 //! How files change in memory, one block at a time. Nothing here calls the device.
-ghost use Rattle.std.specs.Prelude.{◌≡◌, ◌≢◌, ◌<◌, ◌≤◌, ◌+◌, ◌/◌, ◌%◌, not, ℕ, List, Bool, Some, None, length, OnOk, OnErr, IfSome, IfNone};
+ghost use Rattle.std.specs.Prelude.{◌≡◌, ◌≢◌, ◌<◌, ◌≤◌, ◌+◌, not, ℕ, List, Bool, Some, None, length, OnOk, OnErr, IfSome, IfNone};
 ghost use Rattle.lfs_model.specs.Entry.{Data, Inode, word};
 ghost use Rattle.lfs_model.specs.Fields.{zeros};
 ghost use Rattle.lfs_model.specs.Memory.{parent};
@@ -7,14 +7,14 @@ ghost use Rattle.lfs_inodes.specs.Blocks.{blocks_of};
 ghost use Rattle.lfs_inodes.specs.Key.{entry_of};
 ghost use Rattle.lfs_inodes.specs.MapValue.{is_hidden_in};
 ghost use Rattle.lfs_memory.specs.Numbers.{IsFileNumber};
-ghost use Rattle.lfs_memory.specs.Changing.{ChangesBlock, ChangesHeader, Creates, Departs, Drops, Grows, HasAbove, IsBlockMiscounted, IsMiscounted, IsPointedIn, MakesBlock, Stores, Tightens};
+ghost use Rattle.lfs_memory.specs.Changing.{ChangesBlock, ChangesHeader, Creates, Departs, Drops, Grows, HasAbove, IsBlockMiscounted, IsMiscounted, IsPointedIn, MakesBlock, Stores, Tightens, file_in};
 
 use crate::memory::LogMemory;
 use lfs_device::DeviceFault;
 use lfs_inodes::{BlockKey, DirtyTable, IN_MEMORY};
 use lfs_layout::{is_zero, segment_of, set_header, word};
 use lfs_model::Kind;
-use lfs_model::limits::{CHECKPOINT_SLOTS, FILE_NUMBERS, LAST_BLOCK, SECTOR_LEN};
+use lfs_model::limits::{CHECKPOINT_SLOTS, LAST_BLOCK, SECTOR_LEN};
 use lfs_segments::Usage;
 
 /// The pointer to a block, by the block above it in memory: 0 for no block, `IN_MEMORY` for one in
@@ -62,10 +62,10 @@ fn store_block(
     bytes: &[u8; 512],
 ) -> Result<(), DeviceFault>
     requires room { length memory.old.dirty.blocks < memory.old.dirty.capacity.limit }
-    ensures done { OnOk result (Stores memory.old memory.new (key.code / 32768 % FILE_NUMBERS)
-        (entry_of key) address bytes.now) }
+    ensures done { OnOk result (Stores memory.old memory.new (file_in key) (entry_of key)
+        address bytes.now) }
     ensures miscounted { OnErr result (IsMiscounted memory.old.usage address
-        (not (is_hidden_in memory.old.map (key.code / 32768 % FILE_NUMBERS)))) }
+        (not (is_hidden_in memory.old.map (file_in key)))) }
     ensures same { OnErr result (memory.new ≡ memory.old) }
 {
     let lives = !memory.map.is_hidden(key.file());
@@ -80,10 +80,9 @@ fn store_block(
 
 /// A data block that this pointer leads to is there no more.
 fn drop_block(memory: &mut LogMemory, key: BlockKey, address: u32) -> Result<(), DeviceFault>
-    ensures done { OnOk result (Drops memory.old memory.new (key.code / 32768 % FILE_NUMBERS) (entry_of key)
-        address) }
+    ensures done { OnOk result (Drops memory.old memory.new (file_in key) (entry_of key) address) }
     ensures miscounted { OnErr result (IsMiscounted memory.old.usage address
-        (not (is_hidden_in memory.old.map (key.code / 32768 % FILE_NUMBERS)))) }
+        (not (is_hidden_in memory.old.map (file_in key)))) }
     ensures same { OnErr result (memory.new ≡ memory.old) }
 {
     if address == 0 {

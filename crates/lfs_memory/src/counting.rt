@@ -176,15 +176,13 @@ fn count_leaf<D: SectorDevice>(
     }
     let mut leaf = [0; 512];
     let key = BlockKey::leaf(number, index);
-    match read_present(device, memory, key, address, &mut leaf) {
-        Ok(()) => count_words(
-            counts,
-            &leaf,
-            start as usize,
-            (BLOCK_POINTERS - start) as usize,
-        ),
-        Err(fault) => Err(fault),
-    }
+    read_present(device, memory, key, address, false, &mut leaf)?;
+    count_words(
+        counts,
+        &leaf,
+        start as usize,
+        (BLOCK_POINTERS - start) as usize,
+    )
 }
 
 /// Counts the leaves below a double root, and the blocks below them, from block `first` of the file
@@ -236,10 +234,8 @@ fn count_double<D: SectorDevice>(
     }
     let mut root = [0; 512];
     let key = BlockKey::double(number);
-    match read_present(device, memory, key, address, &mut root) {
-        Ok(()) => count_leaves(device, memory, number, &root, first, counts),
-        Err(fault) => Err(fault),
-    }
+    read_present(device, memory, key, address, false, &mut root)?;
+    count_leaves(device, memory, number, &root, first, counts)
 }
 
 /// Counts the blocks below an inode, from block `first` of the file on.

@@ -7,10 +7,10 @@ ghost use Rattle.lfs_inodes.specs.MapValue.{is_hidden_in};
 ghost use Rattle.lfs_memory.specs.Numbers.{IsFileNumber};
 ghost use Rattle.lfs_memory.specs.Memory.{IsMemory};
 ghost use Rattle.lfs_memory.specs.Present.{Looks, FailsFromDevice};
-ghost use Rattle.lfs_memory.specs.Lifting.{IsInMemory, Prepares};
+ghost use Rattle.lfs_memory.specs.Lifting.{EndsLifting, IsInMemory, Prepares};
 ghost use Rattle.lfs_memory.specs.Removing.{AreCovered};
 ghost use Rattle.lfs_memory.specs.Counting.{CountsPast};
-ghost use Rattle.lfs_memory.specs.Cutting.{IsCutLeaf, IsLiftedIfStored, HasEdge, KeepsOfInode, KeepsOfRoot, ClearsLeaf, ClearsPointers, DropsPast, Cuts};
+ghost use Rattle.lfs_memory.specs.Cutting.{IsCutLeaf, IsLiftedIfStored, HasEdge, KeepsOfInode, KeepsOfRoot, KeepsCount, ClearsLeaf, ClearsPointers, DropsPast, Cuts};
 
 use crate::counting::{SegmentCounts, count_past};
 use crate::lifting::{LiftFault, lift_child, lift_inode};
@@ -44,12 +44,8 @@ fn lift_part<D: SectorDevice>(
     ensures prepares { Prepares (D.state device.old) (D.state device.new) memory.old memory.new 1 }
     ensures leaf { OnOk result ((q : ℕ) → IsCutLeaf first q
         → IsLiftedIfStored memory.new (Leaf number q)) }
-    ensures full { IsErrOf result LiftFault.Full
-        → memory.new.dirty.capacity.limit ≤ length memory.new.dirty.blocks }
-    ensures failed { IsErrOf result LiftFault.Device
-        → FailsFromDevice (D.state device.old) (D.state device.new) memory.old }
-    ensures no_failure { OnOk result ((D.state device.new).failures
-        ≡ (D.state device.old).failures) }
+    ensures ends { EndsLifting (D.state device.old) (D.state device.new) memory.old memory.new
+        result }
 {
     if first <= DIRECT_BLOCKS {
         return Ok(());
@@ -82,12 +78,8 @@ fn lift_edge<D: SectorDevice>(
     requires above { IsInMemory memory.old (Inode number) }
     ensures prepares { Prepares (D.state device.old) (D.state device.new) memory.old memory.new 2 }
     ensures edge { OnOk result (HasEdge memory.new number first) }
-    ensures full { IsErrOf result LiftFault.Full
-        → memory.new.dirty.capacity.limit ≤ length memory.new.dirty.blocks }
-    ensures failed { IsErrOf result LiftFault.Device
-        → FailsFromDevice (D.state device.old) (D.state device.new) memory.old }
-    ensures no_failure { OnOk result ((D.state device.new).failures
-        ≡ (D.state device.old).failures) }
+    ensures ends { EndsLifting (D.state device.old) (D.state device.new) memory.old memory.new
+        result }
 {
     if first <= DIRECT_BLOCKS + BLOCK_POINTERS {
         return lift_part(device, memory, number, first);
@@ -125,8 +117,7 @@ fn clear_leaf(dirty: &mut DirtyTable, number: u16, first: u32)
     requires number { IsFileNumber number }
     requires first { first ≤ FILE_BLOCKS }
     ensures clears { ClearsLeaf (blocks_of dirty.old) (blocks_of dirty.new) number first }
-    ensures length { length dirty.new.blocks ≡ length dirty.old.blocks }
-    ensures capacity { dirty.new.capacity ≡ dirty.old.capacity }
+    ensures stays { KeepsCount dirty.old dirty.new }
 {
     if first <= DIRECT_BLOCKS {
         return;
@@ -144,8 +135,7 @@ fn clear_pointers(dirty: &mut DirtyTable, number: u16, first: u32)
     requires number { IsFileNumber number }
     requires first { first ≤ FILE_BLOCKS }
     ensures clears { ClearsPointers (blocks_of dirty.old) (blocks_of dirty.new) number first }
-    ensures length { length dirty.new.blocks ≡ length dirty.old.blocks }
-    ensures capacity { dirty.new.capacity ≡ dirty.old.capacity }
+    ensures stays { KeepsCount dirty.old dirty.new }
 {
     let kept = kept_of_inode(first);
     dirty.clear_words(
@@ -199,10 +189,7 @@ fn drop_counted<D: SectorDevice>(
     ensures no_failure { OnOk result ((D.state device.new).failures
         ≡ (D.state device.old).failures) }
 {
-    match count_past(device, memory, number, first, counts) {
-        Ok(()) => {}
-        Err(fault) => return Err(fault),
-    }
+    count_past(device, memory, number, first, counts)?;
     let lives = !memory.map.is_hidden(number);
     if !are_covered(&memory.usage, counts, lives) {
         return Err(DeviceFault);

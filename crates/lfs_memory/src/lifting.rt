@@ -12,11 +12,13 @@ ghost use Rattle.lfs_memory.specs.Memory.{IsMemory, tables_of};
 ghost use Rattle.lfs_memory.specs.Present.{FailsFromDevice};
 ghost use Rattle.lfs_memory.specs.Lifting.{IsInMemory, Prepares, Gathers, IsCountedAbove, Brings, MapLifts, IsMapLost, IsAbsent};
 
+use crate::changing::pointer_to;
 use crate::memory::LogMemory;
+use crate::present::inode_pointer;
 use lfs_cache::CachedDevice;
 use lfs_device::{DeviceFault, SectorDevice};
 use lfs_inodes::{BlockKey, IN_MEMORY, InodeMap};
-use lfs_layout::{segment_of, word};
+use lfs_layout::segment_of;
 use lfs_model::BlockKind;
 use lfs_model::limits::{CHECKPOINT_SLOTS, FILE_NUMBERS, MAP_BLOCKS};
 use lfs_segments::Usage;
@@ -208,10 +210,7 @@ pub fn lift_inode<D: SectorDevice>(
     ensures no_failure { OnOk result ((D.state device.new).failures
         ≡ (D.state device.old).failures) }
 {
-    if number == 0 {
-        return Ok(false);
-    }
-    let address = memory.map.address(number);
+    let address = inode_pointer(memory, number);
     if address == 0 {
         return Ok(false);
     }
@@ -232,16 +231,14 @@ pub fn lift_inode<D: SectorDevice>(
     }
 }
 
-/// The pointer to a block of a file, as its parent's block in memory has it.
-pub fn pointer_to(memory: &LogMemory, key: BlockKey) -> u32
+/// The pointer to a block of a file whose parent is in memory.
+fn known_pointer(memory: &LogMemory, key: BlockKey) -> u32
     requires below { parent (entry_of key) ≡ entry_of key → ⊥ }
     requires above { IsInMemory memory.now (parent (entry_of key)) }
     ensures { IsAtAddress (blocks_of memory.now.dirty)
         (tables_of memory.now) (entry_of key) result }
 {
-    let above = key.parent().unwrap();
-    let block = memory.dirty.block(above).unwrap();
-    word(block, key.pointer())
+    pointer_to(&memory.dirty, key).unwrap()
 }
 
 /// Brings a block of a file into memory, if it is stored; its parent is there.
@@ -271,7 +268,7 @@ pub fn lift_child<D: SectorDevice>(
     ensures no_failure { OnOk result ((D.state device.new).failures
         ≡ (D.state device.old).failures) }
 {
-    let address = pointer_to(memory, key);
+    let address = known_pointer(memory, key);
     if address == 0 {
         return Ok(false);
     }

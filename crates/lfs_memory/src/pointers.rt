@@ -3,14 +3,12 @@ ghost use Rattle.std.specs.Prelude.{◌≡◌, ◌<◌, ◌≤◌, ◌+◌, ◌*
 ghost use Rattle.lfs_model.specs.Entry.{Data};
 ghost use Rattle.lfs_inodes.specs.Blocks.{blocks_of};
 ghost use Rattle.lfs_inodes.specs.Key.{entry_of};
-ghost use Rattle.lfs_inodes.specs.MapValue.{address_in};
 ghost use Rattle.lfs_model.specs.Fields.{zeros};
-ghost use Rattle.lfs_memory.specs.Numbers.{IsFileNumber};
-ghost use Rattle.lfs_memory.specs.Present.{Looks, FailsFromDevice, AnswersAddress, AnswersBlock};
-ghost use Rattle.lfs_memory.specs.Pointers.{IsInRun, IsRunOf, IsKeptFor, HasNoWay, KeepsRun, CountsRun, AnswersCount, pointer_in, blocks_in};
+ghost use Rattle.lfs_memory.specs.Present.{Looks, OnlyLooks, FailsFromDevice, AnswersAddress, AnswersBlock};
+ghost use Rattle.lfs_memory.specs.Pointers.{IsInodeAt, IsInRun, IsRunOf, IsKeptFor, HasNoWay, KeepsRun, CountsRun, AnswersCount, pointer_in, blocks_in};
 
 use crate::memory::LogMemory;
-use crate::present::{copy_present, inode_pointer, locate_block, present_word};
+use crate::present::{inode_pointer, locate_block, present_word, read_present};
 use lfs_cache::CachedDevice;
 use lfs_device::{DeviceFault, SectorDevice};
 use lfs_inodes::{BlockKey, IN_MEMORY, Pointers, first_of_leaf, leaf_pointers, present_pointers};
@@ -99,17 +97,11 @@ fn read_inode_run<D: SectorDevice>(
     number: u16,
     address: u32,
 ) -> Result<PointerRun, DeviceFault>
-    requires number { IsFileNumber number }
-    requires address { address ≡ address_in memory.now.map number }
-    requires there { 0 < address }
+    requires inode { IsInodeAt memory.now number address }
     ensures read { IfOk result (IsRunOf (D.state device.new) memory.now) }
     ensures from { IfOk result (λ run. (index : ℕ) → 0 ≤ index → index < DIRECT_BLOCKS
         → IsInRun run number index) }
-    ensures failed { OnErr result (FailsFromDevice (D.state device.old)
-        (D.state device.new) memory.now) }
-    ensures no_failure { OnOk result ((D.state device.new).failures
-        ≡ (D.state device.old).failures) }
-    ensures looks { Looks (D.state device.old) (D.state device.new) }
+    ensures looks { OnlyLooks (D.state device.old) (D.state device.new) memory.now result }
 {
     let inode = BlockKey::inode(number);
     if is_lacking(memory, inode, address) {
@@ -135,24 +127,15 @@ fn read_leaf_run<D: SectorDevice>(
     address: u32,
     leaf: u32,
 ) -> Result<PointerRun, DeviceFault>
-    requires number { IsFileNumber number }
-    requires address { address ≡ address_in memory.now.map number }
-    requires there { 0 < address }
+    requires inode { IsInodeAt memory.now number address }
     requires leaf { leaf ≤ LAST_LEAF }
     ensures read { IfOk result (IsRunOf (D.state device.new) memory.now) }
     ensures from { IfOk result (λ run. (index : ℕ) → DIRECT_BLOCKS + BLOCK_POINTERS * leaf ≤ index
         → index < FIRST_DOUBLE + BLOCK_POINTERS * leaf → IsInRun run number index) }
-    ensures failed { OnErr result (FailsFromDevice (D.state device.old)
-        (D.state device.new) memory.now) }
-    ensures no_failure { OnOk result ((D.state device.new).failures
-        ≡ (D.state device.old).failures) }
-    ensures looks { Looks (D.state device.old) (D.state device.new) }
+    ensures looks { OnlyLooks (D.state device.old) (D.state device.new) memory.now result }
 {
     let inode = BlockKey::inode(number);
-    let first = match present_word(device, memory, inode, address, first_of_leaf(leaf)) {
-        Ok(first) => first,
-        Err(fault) => return Err(fault),
-    };
+    let first = present_word(device, memory, inode, address, first_of_leaf(leaf))?;
     match leaf_pointers(device, &memory.dirty, number, first, leaf) {
         Ok(pointers) => Ok(PointerRun {
             number,
@@ -173,17 +156,11 @@ fn read_run<D: SectorDevice>(
     address: u32,
     index: u32,
 ) -> Result<PointerRun, DeviceFault>
-    requires number { IsFileNumber number }
-    requires address { address ≡ address_in memory.now.map number }
-    requires there { 0 < address }
+    requires inode { IsInodeAt memory.now number address }
     requires index { index < FILE_BLOCKS }
     ensures read { IfOk result (IsRunOf (D.state device.new) memory.now) }
     ensures from { IfOk result (λ run. IsInRun run number index) }
-    ensures failed { OnErr result (FailsFromDevice (D.state device.old)
-        (D.state device.new) memory.now) }
-    ensures no_failure { OnOk result ((D.state device.new).failures
-        ≡ (D.state device.old).failures) }
-    ensures looks { Looks (D.state device.old) (D.state device.new) }
+    ensures looks { OnlyLooks (D.state device.old) (D.state device.new) memory.now result }
 {
     if index < DIRECT_BLOCKS {
         return read_inode_run(device, memory, number, address);
@@ -204,11 +181,7 @@ fn find_run<D: SectorDevice>(
     ensures read { IfOk result (KeepsRun (D.state device.new) memory.now) }
     ensures from { IfOk result (λ found. IfSome found (λ run. IsInRun run number index)) }
     ensures none { IfOk result (λ found. IfNone found (HasNoWay memory.now number index)) }
-    ensures failed { OnErr result (FailsFromDevice (D.state device.old)
-        (D.state device.new) memory.now) }
-    ensures no_failure { OnOk result ((D.state device.new).failures
-        ≡ (D.state device.old).failures) }
-    ensures looks { Looks (D.state device.old) (D.state device.new) }
+    ensures looks { OnlyLooks (D.state device.old) (D.state device.new) memory.now result }
 {
     if index > LAST_BLOCK {
         return Ok(None);
@@ -217,10 +190,8 @@ fn find_run<D: SectorDevice>(
     if address == 0 {
         return Ok(None);
     }
-    match read_run(device, memory, number, address, index) {
-        Ok(run) => Ok(Some(run)),
-        Err(fault) => Err(fault),
-    }
+    let run = read_run(device, memory, number, address, index)?;
+    Ok(Some(run))
 }
 
 /// Whether the pointer to a data block of a file is in the run that is kept.
@@ -247,23 +218,17 @@ fn keep_run<D: SectorDevice>(
     ensures kept { KeepsRun (D.state device.new) memory.now kept.new }
     ensures from { IfOk result (λ found. IsTrue found → IsKeptFor kept.new number index) }
     ensures none { IfOk result (λ found. IsFalse found → HasNoWay memory.now number index) }
-    ensures failed { OnErr result (FailsFromDevice (D.state device.old)
-        (D.state device.new) memory.now) }
-    ensures no_failure { OnOk result ((D.state device.new).failures
-        ≡ (D.state device.old).failures) }
-    ensures looks { Looks (D.state device.old) (D.state device.new) }
+    ensures looks { OnlyLooks (D.state device.old) (D.state device.new) memory.now result }
 {
     if is_kept_for(kept, number, index) {
         return Ok(true);
     }
-    match find_run(device, memory, number, index) {
-        Ok(Some(run)) => {
-            *kept = Some(run);
-            Ok(true)
-        }
-        Ok(None) => Ok(false),
-        Err(fault) => Err(fault),
-    }
+    let found = find_run(device, memory, number, index)?;
+    let Some(run) = found else {
+        return Ok(false);
+    };
+    *kept = Some(run);
+    Ok(true)
 }
 
 /// The pointer to a data block in the run that is kept.
@@ -323,17 +288,12 @@ fn find_by_run<D: SectorDevice>(
     ensures answer { IfOk result (AnswersAddress (D.state device.old) (D.state device.new)
         memory.now (Data number index)) }
     ensures some { IfOk result (λ address. (1 ≤ address) → (1 ≤ number) × (index ≤ LAST_BLOCK)) }
-    ensures failed { OnErr result (FailsFromDevice (D.state device.old)
-        (D.state device.new) memory.now) }
-    ensures no_failure { OnOk result ((D.state device.new).failures
-        ≡ (D.state device.old).failures) }
-    ensures looks { Looks (D.state device.old) (D.state device.new) }
+    ensures looks { OnlyLooks (D.state device.old) (D.state device.new) memory.now result }
 {
-    match keep_run(device, memory, kept, number, index) {
-        Ok(true) => Ok(kept_pointer(kept, number, index)),
-        Ok(false) => Ok(0),
-        Err(fault) => Err(fault),
+    if !keep_run(device, memory, kept, number, index)? {
+        return Ok(0);
     }
+    Ok(kept_pointer(kept, number, index))
 }
 
 /// Whether a block of a file is stored, and its bytes; zeros where it isn't.
@@ -367,10 +327,8 @@ pub fn read_block<D: SectorDevice>(
         return Ok(false);
     }
     let key = BlockKey::data(number, index);
-    match copy_present(device, memory, key, address, out) {
-        Ok(()) => Ok(true),
-        Err(fault) => Err(fault),
-    }
+    read_present(device, memory, key, address, true, out)?;
+    Ok(true)
 }
 
 #[tactic(auto, unfolding(lfs_model::specs::Fields::zeros))]
@@ -416,17 +374,12 @@ fn count_part<D: SectorDevice>(
     ensures few { IfOk result (λ part. part.0 ≤ part.1 - from) }
     ensures answer { IfOk result (λ part. AnswersCount (D.state device.old) (D.state device.new)
         memory.now number from part.1 part.0) }
-    ensures failed { OnErr result (FailsFromDevice (D.state device.old)
-        (D.state device.new) memory.now) }
-    ensures no_failure { OnOk result ((D.state device.new).failures
-        ≡ (D.state device.old).failures) }
-    ensures looks { Looks (D.state device.old) (D.state device.new) }
+    ensures looks { OnlyLooks (D.state device.old) (D.state device.new) memory.now result }
 {
-    match keep_run(device, memory, kept, number, from) {
-        Ok(true) => Ok(count_kept(kept, number, from, to)),
-        Ok(false) => Ok((0, to)),
-        Err(fault) => Err(fault),
+    if !keep_run(device, memory, kept, number, from)? {
+        return Ok((0, to));
     }
+    Ok(count_kept(kept, number, from, to))
 }
 
 /// How many data blocks of a file are stored at the indices from one on to another. Each block of
@@ -459,13 +412,9 @@ pub fn count_blocks<D: SectorDevice>(
     let mut at = from;
     let mut count = 0;
     while at < to {
-        match count_part(device, memory, kept, number, at, to) {
-            Ok(part) => {
-                count += part.0;
-                at = part.1;
-            }
-            Err(fault) => return Err(fault),
-        }
+        let part = count_part(device, memory, kept, number, at, to)?;
+        count += part.0;
+        at = part.1;
     }
     Ok(count)
 }

@@ -7,7 +7,7 @@ ghost use Rattle.lfs_inodes.specs.MapValue.{block_in};
 ghost use Rattle.lfs_memory.specs.Numbers.{IsFileNumber};
 ghost use Rattle.lfs_memory.specs.Memory.{IsMemory};
 ghost use Rattle.lfs_memory.specs.Present.{FailsFromDevice};
-ghost use Rattle.lfs_memory.specs.Lifting.{IsInMemory, IsMapLost, MapLifts, Prepares};
+ghost use Rattle.lfs_memory.specs.Lifting.{EndsLifting, IsInMemory, IsMapLost, MapLifts, Prepares};
 ghost use Rattle.lfs_memory.specs.Preparing.{HasParent, AreBlocksReady, IsHeaderReady, AreHeadersReady, LacksRoom, IsExcusedWithin, AreExcusedWithin, ways};
 
 use crate::batch::{BlockEdit, HeaderEdit};
@@ -36,12 +36,8 @@ fn prepare_pointers<D: SectorDevice>(
     ensures prepares { Prepares (D.state device.old) (D.state device.new) memory.old memory.new 1 }
     ensures inside { OnOk result (IsInMemory memory.new (entry_of key)) }
     ensures same { OnErr result (memory.new ≡ memory.old) }
-    ensures full { IsErrOf result LiftFault.Full
-        → memory.new.dirty.capacity.limit ≤ length memory.new.dirty.blocks }
-    ensures failed { IsErrOf result LiftFault.Device
-        → FailsFromDevice (D.state device.old) (D.state device.new) memory.old }
-    ensures no_failure { OnOk result ((D.state device.new).failures
-        ≡ (D.state device.old).failures) }
+    ensures ends { EndsLifting (D.state device.old) (D.state device.new) memory.old memory.new
+        result }
 {
     match lift_child(device, memory, key) {
         Ok(true) => return Ok(()),
@@ -73,13 +69,9 @@ fn prepare_leaf<D: SectorDevice>(
     requires above { IsInMemory memory.old (Inode number) }
     ensures prepares { Prepares (D.state device.old) (D.state device.new) memory.old memory.new 2 }
     ensures inside { OnOk result (IsInMemory memory.new (Leaf number index)) }
-    ensures full { IsErrOf result LiftFault.Full
-        → memory.new.dirty.capacity.limit ≤ length memory.new.dirty.blocks }
     ensures short { IsErrOf result LiftFault.Full → LacksRoom memory.old 2 }
-    ensures failed { IsErrOf result LiftFault.Device
-        → FailsFromDevice (D.state device.old) (D.state device.new) memory.old }
-    ensures no_failure { OnOk result ((D.state device.new).failures
-        ≡ (D.state device.old).failures) }
+    ensures ends { EndsLifting (D.state device.old) (D.state device.new) memory.old memory.new
+        result }
 {
     let leaf = BlockKey::leaf(number, index);
     if index == 0 {

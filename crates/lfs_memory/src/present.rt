@@ -1,41 +1,40 @@
 //! What the log answers to reads.
-ghost use Rattle.std.specs.Prelude.{◌≡◌, ◌<◌, ◌≤◌, ◌⊎◌, OnOk, OnErr, IfOk, IfSome, IfNone, IsTrue, IsFalse};
+ghost use Rattle.std.specs.Prelude.{◌≡◌, ◌<◌, ◌≤◌, ◌⊎◌, OnOk, OnErr, IfOk, IsTrue, IsFalse};
 ghost use Rattle.lfs_model.specs.Entry.{Inode, Data, Leaf, Double};
 ghost use Rattle.lfs_inodes.specs.Key.{entry_of};
 ghost use Rattle.lfs_inodes.specs.Blocks.{blocks_of};
 ghost use Rattle.lfs_inodes.specs.MapValue.{address_in};
 ghost use Rattle.lfs_inodes.specs.Present.{present};
 ghost use Rattle.lfs_memory.specs.Memory.{IsMemory};
-ghost use Rattle.lfs_memory.specs.Present.{Looks, FailsFromDevice, IsMissing, AnswersInode, AnswersHeader, AnswersAddress, ShowsHeader, ShowsWord};
+ghost use Rattle.lfs_memory.specs.Present.{Looks, FailsFromDevice, FailsToRead, AnswersInode, AnswersHeader, AnswersAddress, ShowsBlock, ShowsHeader, ShowsWord};
 
 use crate::memory::LogMemory;
 use lfs_cache::CachedDevice;
 use lfs_device::{DeviceFault, SectorDevice};
 use lfs_files::Header;
-use lfs_inodes::{BlockKey, IN_MEMORY, first_pointer, header_of, locate_behind};
-use lfs_layout::{DOUBLE_POINTER, SINGLE_POINTER, word};
+use lfs_inodes::{BlockKey, IN_MEMORY, header_of};
+use lfs_layout::word;
 use lfs_model::limits::{BLOCK_POINTERS, FILE_NUMBERS, LAST_BLOCK, LAST_LEAF};
 
-/// The block of this key, whose pointer is known: in memory, or at its address on the device.
+/// The block of this key, whose pointer is known: in memory, or at its address on the device. What
+/// the device had is kept in front of it where the caller wants that.
 ///
 /// # Errors
 ///
 /// Where neither has it, or a call of the device failed.
-pub fn read_present<D: SectorDevice>(
+pub(crate) fn read_present<D: SectorDevice>(
     device: &mut CachedDevice<D>,
     memory: &LogMemory,
     key: BlockKey,
     address: u32,
+    keeps: bool,
     out: &mut [u8; 512],
 ) -> Result<(), DeviceFault>
     requires stored { 1 ≤ address }
-    ensures read { OnOk result ((D.state device.new).keeps_model
-        → out.new ≡ present (D.state device.old).content (blocks_of memory.now.dirty) (entry_of key)
-        address) }
-    ensures unread { OnErr result ((D.state device.new).keeps_model
-        → (D.state device.old).failures < (D.state device.new).failures
-        ⊎ IsMissing (D.state device.old).content (blocks_of memory.now.dirty) (entry_of key)
-        address) }
+    ensures read { OnOk result (ShowsBlock (D.state device.old) (D.state device.new) memory.now
+        (entry_of key) address out.new) }
+    ensures unread { OnErr result (FailsToRead (D.state device.old) (D.state device.new) memory.now
+        (entry_of key) address) }
     ensures no_failure { OnOk result ((D.state device.new).failures
         ≡ (D.state device.old).failures) }
     ensures looks { Looks (D.state device.old) (D.state device.new) }
@@ -50,8 +49,17 @@ pub fn read_present<D: SectorDevice>(
     if address >= device.sectors() {
         return Err(DeviceFault);
     }
-    match device.read(address, out) {
-        Ok(()) => Ok(()),
+    if !keeps {
+        return match device.read(address, out) {
+            Ok(()) => Ok(()),
+            Err(_) => Err(DeviceFault),
+        };
+    }
+    match device.read_ref(address) {
+        Ok(block) => {
+            *out = *block;
+            Ok(())
+        }
         Err(_) => Err(DeviceFault),
     }
 }
@@ -74,10 +82,8 @@ pub fn present_word<D: SectorDevice>(
     requires place { place < BLOCK_POINTERS }
     ensures read { IfOk result (ShowsWord (D.state device.old) (D.state device.new) memory.now
         (entry_of key) address place) }
-    ensures unread { OnErr result ((D.state device.new).keeps_model
-        → (D.state device.old).failures < (D.state device.new).failures
-        ⊎ IsMissing (D.state device.old).content (blocks_of memory.now.dirty) (entry_of key)
-        address) }
+    ensures unread { OnErr result (FailsToRead (D.state device.old) (D.state device.new) memory.now
+        (entry_of key) address) }
     ensures no_failure { OnOk result ((D.state device.new).failures
         ≡ (D.state device.old).failures) }
     ensures looks { Looks (D.state device.old) (D.state device.new) }
@@ -111,10 +117,8 @@ fn present_header<D: SectorDevice>(
     requires stored { 1 ≤ address }
     ensures read { IfOk result (ShowsHeader (D.state device.old) (D.state device.new) memory.now
         (entry_of key) address) }
-    ensures unread { OnErr result ((D.state device.new).keeps_model
-        → (D.state device.old).failures < (D.state device.new).failures
-        ⊎ IsMissing (D.state device.old).content (blocks_of memory.now.dirty) (entry_of key)
-        address) }
+    ensures unread { OnErr result (FailsToRead (D.state device.old) (D.state device.new) memory.now
+        (entry_of key) address) }
     ensures no_failure { OnOk result ((D.state device.new).failures
         ≡ (D.state device.old).failures) }
     ensures looks { Looks (D.state device.old) (D.state device.new) }
@@ -130,49 +134,6 @@ fn present_header<D: SectorDevice>(
     }
     match device.read_ref(address) {
         Ok(inode) => Ok(header_of(inode)),
-        Err(_) => Err(DeviceFault),
-    }
-}
-
-/// As `read_present`, but what the device had is kept.
-///
-/// # Errors
-///
-/// As those of `read_present`.
-pub(crate) fn copy_present<D: SectorDevice>(
-    device: &mut CachedDevice<D>,
-    memory: &LogMemory,
-    key: BlockKey,
-    address: u32,
-    out: &mut [u8; 512],
-) -> Result<(), DeviceFault>
-    requires stored { 1 ≤ address }
-    ensures read { OnOk result ((D.state device.new).keeps_model
-        → out.new ≡ present (D.state device.old).content (blocks_of memory.now.dirty) (entry_of key)
-        address) }
-    ensures unread { OnErr result ((D.state device.new).keeps_model
-        → (D.state device.old).failures < (D.state device.new).failures
-        ⊎ IsMissing (D.state device.old).content (blocks_of memory.now.dirty) (entry_of key)
-        address) }
-    ensures no_failure { OnOk result ((D.state device.new).failures
-        ≡ (D.state device.old).failures) }
-    ensures looks { Looks (D.state device.old) (D.state device.new) }
-{
-    if address == IN_MEMORY {
-        let Some(block) = memory.dirty.block(key) else {
-            return Err(DeviceFault);
-        };
-        *out = *block;
-        return Ok(());
-    }
-    if address >= device.sectors() {
-        return Err(DeviceFault);
-    }
-    match device.read_ref(address) {
-        Ok(block) => {
-            *out = *block;
-            Ok(())
-        }
         Err(_) => Err(DeviceFault),
     }
 }
@@ -204,18 +165,12 @@ pub fn read_inode<D: SectorDevice>(
         ≡ (D.state device.old).failures) }
     ensures looks { Looks (D.state device.old) (D.state device.new) }
 {
-    if number == 0 {
-        return Ok(false);
-    }
-    let address = memory.map.address(number);
+    let address = inode_pointer(memory, number);
     if address == 0 {
         return Ok(false);
     }
-    let key = BlockKey::inode(number);
-    match read_present(device, memory, key, address, out) {
-        Ok(()) => Ok(true),
-        Err(fault) => Err(fault),
-    }
+    read_present(device, memory, BlockKey::inode(number), address, false, out)?;
+    Ok(true)
 }
 
 /// What the inode of a file says of it, if the file is there.
@@ -241,10 +196,8 @@ pub fn read_header<D: SectorDevice>(
     if address == 0 {
         return Ok(None);
     }
-    match present_header(device, memory, BlockKey::inode(number), address) {
-        Ok(header) => Ok(Some(header)),
-        Err(fault) => Err(fault),
-    }
+    let header = present_header(device, memory, BlockKey::inode(number), address)?;
+    Ok(Some(header))
 }
 
 /// The pointer to the inode of a file, or 0 where the file isn't there.
@@ -259,47 +212,40 @@ pub(crate) fn inode_pointer(memory: &LogMemory, number: u16) -> u32
     memory.map.address(number)
 }
 
-/// Whether a file is there, and the number at a place of 4 bytes of its inode then.
+/// The pointer to a block of a file: 0 where none is stored, `IN_MEMORY` for one in memory, else
+/// its address.
 ///
 /// # Errors
 ///
-/// As those of `read_present`.
-fn inode_word<D: SectorDevice>(
+/// Where a block above it can't be read.
+pub fn locate<D: SectorDevice>(
     device: &mut CachedDevice<D>,
     memory: &LogMemory,
-    number: u16,
-    place: usize,
-) -> Result<Option<u32>, DeviceFault>
-    requires number { number < FILE_NUMBERS }
-    requires place { place < BLOCK_POINTERS }
-    ensures some { IfOk result (λ found. IfSome found (λ n.
-        (1 ≤ number) × (1 ≤ address_in memory.now.map number))) }
-    ensures none { IfOk result (λ found. IfNone found
-        ((number ≡ 0) ⊎ (address_in memory.now.map number ≡ 0))) }
-    ensures read { IfOk result (λ found. IfSome found (ShowsWord (D.state device.old)
-        (D.state device.new) memory.now (Inode number) (address_in memory.now.map number) place)) }
+    key: BlockKey,
+) -> Result<u32, DeviceFault>
+    ensures answer { IfOk result (AnswersAddress (D.state device.old) (D.state device.new)
+        memory.now (entry_of key)) }
     ensures failed { OnErr result (FailsFromDevice (D.state device.old)
         (D.state device.new) memory.now) }
     ensures no_failure { OnOk result ((D.state device.new).failures
         ≡ (D.state device.old).failures) }
     ensures looks { Looks (D.state device.old) (D.state device.new) }
 {
-    let address = inode_pointer(memory, number);
+    let Some(above) = key.parent() else {
+        return Ok(memory.map.address(key.file()));
+    };
+    let address = locate(device, memory, above)?;
     if address == 0 {
-        return Ok(None);
+        return Ok(0);
     }
-    match present_word(device, memory, BlockKey::inode(number), address, place) {
-        Ok(word) => Ok(Some(word)),
-        Err(fault) => Err(fault),
-    }
+    present_word(device, memory, above, address, key.pointer())
 }
 
-/// The pointer to a block of a file: 0 where none is stored, `IN_MEMORY` for one in memory, else
-/// its address.
+/// The pointer to a data block, as `locate` gives it; 0 where no file has that block.
 ///
 /// # Errors
 ///
-/// Where a block on the way can't be read.
+/// As those of `locate`.
 pub(crate) fn locate_block<D: SectorDevice>(
     device: &mut CachedDevice<D>,
     memory: &LogMemory,
@@ -319,15 +265,10 @@ pub(crate) fn locate_block<D: SectorDevice>(
     if index > LAST_BLOCK {
         return Ok(0);
     }
-    let first = match inode_word(device, memory, number, first_pointer(index)) {
-        Ok(Some(first)) => first,
-        Ok(None) => return Ok(0),
-        Err(fault) => return Err(fault),
-    };
-    match locate_behind(device, &memory.dirty, number, first, index) {
-        Ok(address) => Ok(address),
-        Err(_) => Err(DeviceFault),
+    if number == 0 {
+        return Ok(0);
     }
+    locate(device, memory, BlockKey::data(number, index))
 }
 
 /// The pointer to the double root of a file: 0 where none is stored, `IN_MEMORY` for one in memory,
@@ -350,11 +291,10 @@ pub fn locate_double<D: SectorDevice>(
         ≡ (D.state device.old).failures) }
     ensures looks { Looks (D.state device.old) (D.state device.new) }
 {
-    match inode_word(device, memory, number, DOUBLE_POINTER) {
-        Ok(Some(pointer)) => Ok(pointer),
-        Ok(None) => Ok(0),
-        Err(fault) => Err(fault),
+    if number == 0 {
+        return Ok(0);
     }
+    locate(device, memory, BlockKey::double(number))
 }
 
 /// The pointer to a leaf of pointers of a file, the single one at 0, those below the double root
@@ -379,22 +319,8 @@ pub fn locate_leaf<D: SectorDevice>(
         ≡ (D.state device.old).failures) }
     ensures looks { Looks (D.state device.old) (D.state device.new) }
 {
-    let place = if leaf == 0 {
-        SINGLE_POINTER
-    } else {
-        DOUBLE_POINTER
-    };
-    let first = match inode_word(device, memory, number, place) {
-        Ok(Some(first)) => first,
-        Ok(None) => return Ok(0),
-        Err(fault) => return Err(fault),
-    };
-    if leaf == 0 || first == 0 {
-        return Ok(first);
+    if number == 0 {
+        return Ok(0);
     }
-    let root = BlockKey::double(number);
-    match present_word(device, memory, root, first, leaf as usize - 1) {
-        Ok(pointer) => Ok(pointer),
-        Err(fault) => Err(fault),
-    }
+    locate(device, memory, BlockKey::leaf(number, leaf))
 }

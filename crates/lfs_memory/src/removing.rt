@@ -86,14 +86,8 @@ pub fn remove_file<D: SectorDevice>(
     ensures no_failure { OnOk result ((D.state device.new).failures
         ≡ (D.state device.old).failures) }
 {
-    match lift_map_of(memory, number) {
-        Ok(()) => {}
-        Err(_) => return Err(DeviceFault),
-    }
-    match count_file(device, memory, number, counts) {
-        Ok(()) => {}
-        Err(fault) => return Err(fault),
-    }
+    lift_map_of(memory, number)?;
+    count_file(device, memory, number, counts)?;
     let lives = !memory.map.is_hidden(number);
     if !are_covered(&memory.usage, counts, lives) {
         return Err(DeviceFault);

@@ -88,7 +88,7 @@ fn lose<D: SectorDevice>(
 /// # Errors
 ///
 /// Where a block can't be read, or isn't counted at its address.
-fn stage_edits<D: SectorDevice>(
+fn bring_and_apply<D: SectorDevice>(
     device: &mut CachedDevice<D>,
     memory: &mut LogMemory,
     loss: Loss,
@@ -126,7 +126,7 @@ fn stage_edits<D: SectorDevice>(
 /// # Errors
 ///
 /// `Full` where memory has no room for the batch, `Device` where a block can't be read.
-fn stage_batch<D: SectorDevice>(
+fn stage_loose<D: SectorDevice>(
     device: &mut CachedDevice<D>,
     memory: &mut LogMemory,
     changes: &Changes,
@@ -151,17 +151,17 @@ fn stage_batch<D: SectorDevice>(
     }
     let headers = changes.headers.as_slice();
     let blocks = changes.blocks.as_slice();
-    match stage_edits(device, memory, changes.loss, headers, blocks, counts) {
+    match bring_and_apply(device, memory, changes.loss, headers, blocks, counts) {
         Ok(()) => Ok(()),
         Err(_) => Err(LogFault::Device),
     }
 }
 
-/// As `stage_batch`, and then the blocks of pointers in memory that lead nowhere leave it.
+/// As `stage_loose`, and then the blocks of pointers in memory that lead nowhere leave it.
 ///
 /// # Errors
 ///
-/// As those of `stage_batch`.
+/// As those of `stage_loose`.
 pub fn stage_tight<D: SectorDevice>(
     device: &mut CachedDevice<D>,
     memory: &mut LogMemory,
@@ -182,7 +182,7 @@ pub fn stage_tight<D: SectorDevice>(
     ensures no_failure { OnOk result ((D.state device.new).failures
         ≡ (D.state device.old).failures) }
 {
-    let staged = stage_batch(device, memory, changes, counts);
+    let staged = stage_loose(device, memory, changes, counts);
     tighten(memory);
     let _few = memory.dirty.len();
     staged

@@ -1,5 +1,5 @@
 use Rattle.std.proofs.Common.{rules, refl}
-use Rattle.lfs_memory.proofs.Going.{ok_then}
+use Rattle.lfs_memory.proofs.Going.{ok_then, on_err}
 use Rattle.lfs_memory.proofs.CountedFiles.{leaf_before, leaf_skipped, leaf_over, leaf_counted, leaf_no_words, leaf_unread, on_err_then}
 use Rattle.lfs_memory.proofs.counting.count_leaf.Goals as goal
 
@@ -21,26 +21,27 @@ returns-then-not-count_one-clause-failed g c =
     (g.D.SectorDevice.state c.args.device.now) (c.if-not-count_one.ensures.wanted (search rules))
     (c.if-not-count_one.ensures.over (search rules))
 
-pub returns-in-Ok-clause-done : goal.returns-in-Ok-clause-done
-returns-in-Ok-clause-done g c =
+pub returns-clause-done : goal.returns-clause-done
+returns-clause-done g c =
     ok_then c.count_words.result _ _
     (leaf_counted (g.D.SectorDevice.state c.args.device.now) c.args.memory.now c.args.number c.args.index c.args.address c.args.first
     c.pointers_before-start.result c.pointers_before-start.ensures c.if-start-eq-BLOCK_POINTERS.false _ refl c.args.counts.now
     (g.D.SectorDevice.state c.read_present.new.device) _ c.leaf-key.ensures c.if-address-eq0.false c.count_one.new.counts
     (c.if-not-count_one.ensures.done (search rules))
-    c.read_present.new.out c.count_words.new.counts c.in-Ok.ensures.read) c.count_words.ensures.done
+    c.read_present.new.out c.count_words.new.counts c.in_ok-read_present.ensures.read) c.count_words.ensures.done
 
-pub returns-in-Ok-clause-failed : goal.returns-in-Ok-clause-failed
-returns-in-Ok-clause-failed g c =
+pub returns-clause-failed : goal.returns-clause-failed
+returns-clause-failed g c =
     on_err_then c.count_words.result _ _
     (leaf_no_words (g.D.SectorDevice.state c.args.device.now) c.args.memory.now c.args.number c.args.index c.args.address c.args.first
     c.pointers_before-start.result c.pointers_before-start.ensures c.if-start-eq-BLOCK_POINTERS.false _ refl c.args.counts.now
     (g.D.SectorDevice.state c.read_present.new.device) _ c.leaf-key.ensures c.if-address-eq0.false c.count_one.new.counts
     (c.if-not-count_one.ensures.done (search rules))
-    c.read_present.new.out c.in-Ok.ensures.read) c.count_words.ensures.failed
+    c.read_present.new.out c.in_ok-read_present.ensures.read) c.count_words.ensures.failed
 
-pub returns-in-Err-clause-failed : goal.returns-in-Err-clause-failed
-returns-in-Err-clause-failed g c =
-    leaf_unread (g.D.SectorDevice.state c.args.device.now) (g.D.SectorDevice.state c.read_present.new.device) c.args.memory.now
+pub returns-in_err-read_present-clause-failed : goal.returns-in_err-read_present-clause-failed
+returns-in_err-read_present-clause-failed g c =
+    on_err c.from_residual.result _
+    (leaf_unread (g.D.SectorDevice.state c.args.device.now) (g.D.SectorDevice.state c.read_present.new.device) c.args.memory.now
     c.args.number c.args.index c.args.address c.args.first _ c.args.counts.now c.leaf-key.ensures
-    c.if-address-eq0.false c.in-Err.ensures.unread
+    c.if-address-eq0.false c.in_err-read_present.ensures.unread)

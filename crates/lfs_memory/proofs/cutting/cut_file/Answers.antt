@@ -30,7 +30,7 @@ returns-in-Err-lift_edge-clause-failed g c is =
     let one = g.D.SectorDevice.state c.lift_inode.new.device in
     let two = g.D.SectorDevice.state c.lift_edge.new.device in
     prepares_excused old one two c.args.memory.now c.lift_inode.new.memory 1 c.in-Ok-true.ensures.prepares
-    c.lift_edge.ensures.prepares.looks (c.in-Err-lift_edge.ensures.failed is)
+    c.lift_edge.ensures.prepares.looks (c.in-Err-lift_edge.ensures.ends.failed is)
 
 pub returns-in-Ok-drop_counted-clause-cuts : goal.returns-in-Ok-drop_counted-clause-cuts
 returns-in-Ok-drop_counted-clause-cuts g c =

@@ -7,5 +7,5 @@ returns-then-not-are_covered-clause-failed g c =
     let low = c.requires.number.few in
     uncovered_past (g.D.SectorDevice.state c.args.device.now) (g.D.SectorDevice.state c.count_past.new.device) c.args.memory.now
     c.args.number c.args.first (not c.is_hidden-lives.result) c.count_past.new.counts
-    (omega (arith, low)) (ap not c.is_hidden-lives.ensures) c.count_past.ensures.looks c.in-Ok.ensures.counted
+    (omega (arith, low)) (ap not c.is_hidden-lives.ensures) c.count_past.ensures.looks c.in_ok-count_past.ensures.counted
     (c.if-not-are_covered.ensures.no (search rules))

@@ -2,7 +2,7 @@ use Rattle.std.proofs.Common.{rules, subst}
 use Rattle.lfs_model.specs.Entry.{Double}
 use Rattle.lfs_memory.specs.Lifting.{IsInMemory}
 use Rattle.lfs_memory.proofs.Going.{ok_then}
-use Rattle.lfs_memory.proofs.Lifted.{prepares_then, prepares_excused}
+use Rattle.lfs_memory.proofs.Lifted.{ends_then, prepares_then}
 use Rattle.lfs_memory.proofs.CutEdges.{other_result, low_edge, high_edge}
 use Rattle.lfs_memory.proofs.cutting.lift_edge.Goals as goal
 
@@ -25,13 +25,18 @@ returns-in-Ok-true-clause-edge g c =
     (c.lift_part-in-Ok-true.ensures.prepares.stay (Double c.args.number) root))
     c.lift_part-in-Ok-true.ensures.leaf
 
-pub returns-in-Ok-true-clause-failed : goal.returns-in-Ok-true-clause-failed
-returns-in-Ok-true-clause-failed g c is =
+pub returns-in-Ok-true-clause-ends : goal.returns-in-Ok-true-clause-ends
+returns-in-Ok-true-clause-ends g c =
     let old = g.D.SectorDevice.state c.args.device.now in
     let mid = g.D.SectorDevice.state c.lift_child.new.device in
     let new = g.D.SectorDevice.state c.lift_part-in-Ok-true.new.device in
-    prepares_excused old mid new c.args.memory.now c.lift_child.new.memory 1 c.in-Ok-true.ensures.prepares
-    c.lift_part-in-Ok-true.ensures.prepares.looks (c.lift_part-in-Ok-true.ensures.failed is)
+    ends_then old mid new c.args.memory.now c.lift_child.new.memory c.lift_part-in-Ok-true.new.memory 1 c.in-Ok-true.ensures.prepares
+    c.in-Ok-true.ensures.no_failure c.lift_part-in-Ok-true.ensures.prepares.looks c.lift_part-in-Ok-true.result
+    c.lift_part-in-Ok-true.ensures.ends
 
-pub returns-in-Err-clause-failed : goal.returns-in-Err-clause-failed
-returns-in-Err-clause-failed g c is = c.in-Err.ensures.failed (other_result c.in-Err.fault _ is)
+pub returns-in-Err-clause-ends : goal.returns-in-Err-clause-ends
+returns-in-Err-clause-ends g c = record {
+  full = λ is. c.in-Err.ensures.full (other_result c.in-Err.fault _ is);
+  failed = λ is. c.in-Err.ensures.failed (other_result c.in-Err.fault _ is);
+  no_failure = tt;
+}

@@ -21,7 +21,7 @@ returns-then-address-eq-IN_MEMORY-clause-prepares g c = prepares_none (g.D.Secto
 pub returns-then-address-eq-IN_MEMORY-clause-failed : goal.returns-then-address-eq-IN_MEMORY-clause-failed
 returns-then-address-eq-IN_MEMORY-clause-failed g c is =
     not_inside (g.D.SectorDevice.state c.args.device.now) c.args.memory.now _ _ (file_is c.args.key.code _ refl)
-    (subst (IsAtAddress _ _ _) c.if-address-eq-IN_MEMORY.true c.pointer_to-address.ensures) (c.if-has_block.ensures.no (search rules))
+    (subst (IsAtAddress _ _ _) c.if-address-eq-IN_MEMORY.true c.known_pointer-address.ensures) (c.if-has_block.ensures.no (search rules))
 
 pub returns-in-Err-clause-failed : goal.returns-in-Err-clause-failed
 returns-in-Err-clause-failed g c is = c.in-Err.ensures.failed (search rules)

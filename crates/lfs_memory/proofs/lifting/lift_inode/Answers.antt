@@ -1,26 +1,19 @@
 use Rattle.std.proofs.Common.{rules, ◌/◌, ◌∙◌, sym, ap, refl}
-use Rattle.lfs_memory.proofs.Presents.{nobody, no_inode}
+use Rattle.lfs_memory.proofs.Presents.{header_absent}
 use Rattle.lfs_memory.proofs.Lifted.{prepares_none, prepares_then, prepares_excused, map_of_prepares, map_lost, inode_stands, not_inside}
 use Rattle.lfs_memory.proofs.LiftedKeys.{file_is}
 use Rattle.lfs_memory.proofs.Gathered.{gathers_looks, gathers_none, gathers_then, map_of_gathers}
 use Rattle.lfs_memory.proofs.Presents.{looks_none}
 use Rattle.lfs_memory.proofs.lifting.lift_inode.Goals as goal
 
-pub returns-then-number-eq0-clause-prepares : goal.returns-then-number-eq0-clause-prepares
-returns-then-number-eq0-clause-prepares g c = prepares_none (g.D.SectorDevice.state c.args.device.now) c.args.memory.now c.args.memory.now 1
-    refl (g.met.D.SectorDevice.lawful c.args.device.now) c.requires.memory
-
-pub returns-then-number-eq0-clause-absent : goal.returns-then-number-eq0-clause-absent
-returns-then-number-eq0-clause-absent g c _ k m0 m keeps is = ap m.header c.if-number-eq0.true
-    ∙ nobody (g.D.SectorDevice.state c.args.device.now) c.args.memory.now k m0 m is
-
 pub returns-then-address-eq0-clause-prepares : goal.returns-then-address-eq0-clause-prepares
 returns-then-address-eq0-clause-prepares g c = prepares_none (g.D.SectorDevice.state c.args.device.now) c.args.memory.now c.args.memory.now
     1 refl (g.met.D.SectorDevice.lawful c.args.device.now) c.requires.memory
 
 pub returns-then-address-eq0-clause-absent : goal.returns-then-address-eq0-clause-absent
-returns-then-address-eq0-clause-absent g c _ k m0 m keeps is = no_inode (g.D.SectorDevice.state c.args.device.now) c.args.memory.now k m0 m
-    is c.args.number (sym c.address-address.ensures ∙ c.if-address-eq0.true)
+returns-then-address-eq0-clause-absent g c _ =
+    header_absent (g.D.SectorDevice.state c.args.device.now) c.args.memory.now c.args.number
+    (c.inode_pointer-address.ensures.none c.if-address-eq0.true)
 
 pub returns-then-has_block-clause-prepares : goal.returns-then-has_block-clause-prepares
 returns-then-has_block-clause-prepares g c = prepares_none (g.D.SectorDevice.state c.args.device.now) c.args.memory.now c.args.memory.now 1
@@ -33,7 +26,8 @@ returns-then-address-eq-IN_MEMORY-clause-prepares g c = prepares_none (g.D.Secto
 pub returns-then-address-eq-IN_MEMORY-clause-failed : goal.returns-then-address-eq-IN_MEMORY-clause-failed
 returns-then-address-eq-IN_MEMORY-clause-failed g c is =
     not_inside (g.D.SectorDevice.state c.args.device.now) c.args.memory.now _ _ (file_is c.inode-key.result.code _ refl) (inode_stands
-    c.args.memory.now _ c.args.number 1 c.inode-key.ensures (sym c.address-address.ensures ∙ c.if-address-eq-IN_MEMORY.true))
+    c.args.memory.now _ c.args.number 1 c.inode-key.ensures
+    (sym (c.inode_pointer-address.ensures.some c.if-address-eq0.false).1 ∙ c.if-address-eq-IN_MEMORY.true))
     (c.if-has_block.ensures.no (search rules))
 
 pub returns-in-Err-clause-prepares : goal.returns-in-Err-clause-prepares
@@ -65,10 +59,6 @@ returns-in-Err-lift-clause-failed g c is =
     (map_of_prepares (g.D.SectorDevice.state c.args.device.now) c.args.memory.now c.lift_map_of.new.memory (c.args.number / 128)
     (g.met.D.SectorDevice.lawful c.args.device.now) c.requires.memory c.in-Ok.ensures.done) c.lift.ensures.prepares.looks
     (c.in-Err-lift.ensures.failed (search rules))
-
-pub returns-then-number-eq0-clause-gathers : goal.returns-then-number-eq0-clause-gathers
-returns-then-number-eq0-clause-gathers g c = gathers_looks (g.D.SectorDevice.state c.args.device.now)
-    (g.D.SectorDevice.state c.args.device.now) c.args.memory.now (looks_none (g.D.SectorDevice.state c.args.device.now))
 
 pub returns-then-address-eq0-clause-gathers : goal.returns-then-address-eq0-clause-gathers
 returns-then-address-eq0-clause-gathers g c = gathers_looks (g.D.SectorDevice.state c.args.device.now)

@@ -1,4 +1,5 @@
 use Rattle.std.proofs.Common.{◌≡◌, arith}
+use Rattle.lfs_memory.proofs.Going.{on_err}
 use Rattle.lfs_memory.proofs.PointerRuns.{counted_none, counted_more, counted_fault, counted_all}
 use Rattle.lfs_memory.proofs.pointers.count_blocks.Goals as goal
 
@@ -15,21 +16,24 @@ loop-at-preserved g c =
     let mid = g.D.SectorDevice.state c.loop-at.device in
     let new = g.D.SectorDevice.state c.count_part.new.device in
     let was = c.loop-at.invariant in
-    let part = c.in-Ok.ensures in
+    let part = c.in_ok-part.ensures in
     record {
       most = part.further.1;
       kept = c.count_part.ensures.kept;
       counted =
-          counted_more old mid new c.args.memory.now c.args.number c.args.from c.loop-at.at c.in-Ok.part.1 c.loop-at.count c.in-Ok.part.0
-          (g.met.D.SectorDevice.lawful c.args.device.now) was.counted c.count_part.ensures.looks part.no_failure part.further.0 part.few
+          counted_more old mid new c.args.memory.now c.args.number c.args.from c.loop-at.at c.in_ok-part.part.1 c.loop-at.count
+          c.in_ok-part.part.0
+          (g.met.D.SectorDevice.lawful c.args.device.now) was.counted c.count_part.ensures.looks.looks part.looks.no_failure part.further.0
+          part.few
           part.answer;
     }
 
-pub returns-in-Err-clause-failed : goal.returns-in-Err-clause-failed
-returns-in-Err-clause-failed g c =
-    counted_fault (g.D.SectorDevice.state c.args.device.now) (g.D.SectorDevice.state c.loop-at.device)
+pub returns-in_err-part-clause-failed : goal.returns-in_err-part-clause-failed
+returns-in_err-part-clause-failed g c =
+    on_err c.from_residual.result _
+    (counted_fault (g.D.SectorDevice.state c.args.device.now) (g.D.SectorDevice.state c.loop-at.device)
     (g.D.SectorDevice.state c.count_part.new.device) c.args.memory.now c.args.number
-    c.args.from c.loop-at.at c.loop-at.count c.loop-at.invariant.counted c.in-Err.ensures.failed
+    c.args.from c.loop-at.at c.loop-at.count c.loop-at.invariant.counted c.in_err-part.ensures.looks.failed)
 
 pub returns-clause-answer : goal.returns-clause-answer
 returns-clause-answer g c =

@@ -14,25 +14,41 @@ returns-in-Ok-clause-read g c =
       time = c.present_pointers.ensures.time;
       told = c.present_pointers.ensures.told;
     })
-    c.requires.number.some c.requires.address c.requires.there c.inode-inode.ensures c.in-Ok.pointers c.in-Ok.ensures.value
+    c.requires.inode.number.some c.requires.inode.is c.requires.inode.there c.inode-inode.ensures c.in-Ok.pointers c.in-Ok.ensures.value
 
-pub returns-in-Err-clause-failed : goal.returns-in-Err-clause-failed
-returns-in-Err-clause-failed g c =
-    inode_run_failed (g.D.SectorDevice.state c.args.device.now) (g.D.SectorDevice.state c.present_pointers.new.device) c.args.memory.now
-    c.args.number c.args.address _
-    (record {
-      untouched = c.present_pointers.ensures.untouched;
-      carries = c.present_pointers.ensures.carries;
-      time = c.present_pointers.ensures.time;
-      told = c.present_pointers.ensures.told;
-    })
-    c.requires.number.some c.requires.address c.requires.there c.inode-inode.ensures c.in-Err.field-0
-    (λ is. c.in-Err.ensures.unreadable (ap Err is)) (λ is. c.in-Err.ensures.failed (ap Err is))
+pub returns-in-Err-clause-looks : goal.returns-in-Err-clause-looks
+returns-in-Err-clause-looks g c =
+    record {
+      failed =
+          inode_run_failed (g.D.SectorDevice.state c.args.device.now) (g.D.SectorDevice.state c.present_pointers.new.device)
+          c.args.memory.now
+          c.args.number c.args.address _
+          (record {
+            untouched = c.present_pointers.ensures.untouched;
+            carries = c.present_pointers.ensures.carries;
+            time = c.present_pointers.ensures.time;
+            told = c.present_pointers.ensures.told;
+          })
+          c.requires.inode.number.some c.requires.inode.is c.requires.inode.there c.inode-inode.ensures c.in-Err.field-0
+          (λ is. c.in-Err.ensures.unreadable (ap Err is)) (λ is. c.in-Err.ensures.failed (ap Err is));
+      no_failure = tt;
+      looks = record {
+        untouched = c.present_pointers.ensures.untouched;
+        carries = c.present_pointers.ensures.carries;
+        time = c.present_pointers.ensures.time;
+        told = c.present_pointers.ensures.told;
+      };
+    }
 
-pub returns-then-is_lacking-clause-failed : goal.returns-then-is_lacking-clause-failed
-returns-then-is_lacking-clause-failed g c =
+pub returns-then-is_lacking-clause-looks : goal.returns-then-is_lacking-clause-looks
+returns-then-is_lacking-clause-looks g c =
     let d = g.D.SectorDevice.state c.args.device.now in
-    inode_lacks d d c.args.memory.now c.args.number c.args.address _ (looks_none d) c.requires.number.some c.requires.address
-    c.requires.there
-    c.inode-inode.ensures
-    (c.is_lacking.ensures.inside c.if-is_lacking.true) (c.is_lacking.ensures.none c.if-is_lacking.true)
+    record {
+      failed =
+          inode_lacks d d c.args.memory.now c.args.number c.args.address _ (looks_none d) c.requires.inode.number.some c.requires.inode.is
+          c.requires.inode.there
+          c.inode-inode.ensures
+          (c.is_lacking.ensures.inside c.if-is_lacking.true) (c.is_lacking.ensures.none c.if-is_lacking.true);
+      no_failure = tt;
+      looks = looks_none d;
+    }

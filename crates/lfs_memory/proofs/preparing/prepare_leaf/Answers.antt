@@ -1,7 +1,7 @@
 use Rattle.std.proofs.Common.{OnOk, subst}
 use Rattle.lfs_model.specs.Entry.{Entry}
 use Rattle.lfs_memory.specs.Lifting.{IsInMemory}
-use Rattle.lfs_memory.proofs.Lifted.{prepares_then, prepares_excused}
+use Rattle.lfs_memory.proofs.Lifted.{ends_then, prepares_then}
 use Rattle.lfs_memory.proofs.preparing.prepare_leaf.Goals as goal
 
 pub returns-clause-prepares : goal.returns-clause-prepares
@@ -15,9 +15,10 @@ pub returns-clause-inside : goal.returns-clause-inside
 returns-clause-inside g c = subst (λ (x : Entry). OnOk c.prepare_pointers-3.result (IsInMemory c.prepare_pointers-3.new.memory x))
     c.leaf-leaf.ensures c.prepare_pointers-3.ensures.inside
 
-pub returns-clause-failed : goal.returns-clause-failed
-returns-clause-failed g c is =
-    prepares_excused (g.D.SectorDevice.state c.args.device.now) (g.D.SectorDevice.state c.prepare_pointers-2.new.device)
+pub returns-clause-ends : goal.returns-clause-ends
+returns-clause-ends g c =
+    ends_then (g.D.SectorDevice.state c.args.device.now) (g.D.SectorDevice.state c.prepare_pointers-2.new.device)
     (g.D.SectorDevice.state c.prepare_pointers-3.new.device) c.args.memory.now
-    c.prepare_pointers-2.new.memory 1 c.prepare_pointers-2.ensures.prepares c.prepare_pointers-3.ensures.prepares.looks
-    (c.prepare_pointers-3.ensures.failed is)
+    c.prepare_pointers-2.new.memory c.prepare_pointers-3.new.memory 1 c.prepare_pointers-2.ensures.prepares
+    c.in-Ok.ensures.ends.no_failure c.prepare_pointers-3.ensures.prepares.looks c.prepare_pointers-3.result
+    c.prepare_pointers-3.ensures.ends

@@ -1,9 +1,14 @@
 use Rattle.std.proofs.Common.{rules}
+use Rattle.lfs_memory.proofs.CutEdges.{other_result}
 use Rattle.lfs_memory.proofs.Prepared.{grown_after}
 use Rattle.lfs_memory.proofs.preparing.prepare_pointers.Goals as goal
 
-pub returns-in-Err-clause-failed : goal.returns-in-Err-clause-failed
-returns-in-Err-clause-failed g c is = c.in-Err.ensures.failed (search rules)
+pub returns-in-Err-clause-ends : goal.returns-in-Err-clause-ends
+returns-in-Err-clause-ends g c = record {
+  full = λ is. c.in-Err.ensures.full (other_result c.in-Err.fault _ is);
+  failed = λ is. c.in-Err.ensures.failed (other_result c.in-Err.fault _ is);
+  no_failure = tt;
+}
 
 pub returns-clause-prepares : goal.returns-clause-prepares
 returns-clause-prepares g c =

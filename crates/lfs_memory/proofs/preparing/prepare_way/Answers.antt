@@ -33,4 +33,4 @@ returns-clause-failed g c is =
     c.args.number c.args.index
     (prepares_excused (g.D.SectorDevice.state c.args.device.now) (g.D.SectorDevice.state c.lift_inode.new.device)
     (g.D.SectorDevice.state c.prepare_leaf.new.device) c.args.memory.now
-    c.lift_inode.new.memory 1 c.lift_inode.ensures.prepares c.prepare_leaf.ensures.prepares.looks (c.prepare_leaf.ensures.failed is))
+    c.lift_inode.new.memory 1 c.lift_inode.ensures.prepares c.prepare_leaf.ensures.prepares.looks (c.prepare_leaf.ensures.ends.failed is))

@@ -1,4 +1,5 @@
 use Rattle.std.proofs.Common.{refl, true}
+use Rattle.lfs_memory.proofs.Going.{on_err}
 use Rattle.lfs_memory.proofs.Presents.{header_absent, header_read, inode_answered, inode_failed}
 use Rattle.lfs_memory.proofs.present.read_header.Goals as goal
 
@@ -7,18 +8,19 @@ returns-then-address-eq0-clause-answer g c =
     header_absent (g.D.SectorDevice.state c.args.device.now) c.args.memory.now c.args.number
     (c.inode_pointer-address.ensures.none c.if-address-eq0.true)
 
-pub returns-in-Ok-clause-answer : goal.returns-in-Ok-clause-answer
-returns-in-Ok-clause-answer g c =
+pub returns-clause-answer : goal.returns-clause-answer
+returns-clause-answer g c =
     let old = g.D.SectorDevice.state c.args.device.now in
     let new = g.D.SectorDevice.state c.present_header.new.device in
-    let read = c.in-Ok.ensures.read in
-    header_read old new c.args.memory.now c.args.number read.shown true c.in-Ok.header
+    let read = c.in_ok-header.ensures.read in
+    header_read old new c.args.memory.now c.args.number read.shown true c.in_ok-header.header
     (inode_answered old new c.args.memory.now c.args.number c.inode_pointer-address.result _
     (c.inode_pointer-address.ensures.some c.if-address-eq0.false).1 c.inode.ensures c.if-address-eq0.false read.shown read.value) refl
     read.is
 
-pub returns-in-Err-clause-failed : goal.returns-in-Err-clause-failed
-returns-in-Err-clause-failed g c =
-    inode_failed (g.D.SectorDevice.state c.args.device.now) (g.D.SectorDevice.state c.present_header.new.device) c.args.memory.now
+pub returns-in_err-header-clause-failed : goal.returns-in_err-header-clause-failed
+returns-in_err-header-clause-failed g c =
+    on_err c.from_residual.result _
+    (inode_failed (g.D.SectorDevice.state c.args.device.now) (g.D.SectorDevice.state c.present_header.new.device) c.args.memory.now
     c.args.number c.inode_pointer-address.result _
-    (c.inode_pointer-address.ensures.some c.if-address-eq0.false).1 c.inode.ensures c.if-address-eq0.false c.in-Err.ensures.unread
+    (c.inode_pointer-address.ensures.some c.if-address-eq0.false).1 c.inode.ensures c.if-address-eq0.false c.in_err-header.ensures.unread)

@@ -1,29 +1,21 @@
-use Rattle.std.proofs.Common.{sym, ◌∙◌}
-use Rattle.std.proofs.Common.{ap}
-use Rattle.lfs_memory.proofs.Presents.{nobody, no_inode, inode_answered, inode_failed}
+use Rattle.lfs_memory.proofs.Going.{on_err}
+use Rattle.lfs_memory.proofs.Presents.{header_absent, inode_answered, inode_failed}
 use Rattle.lfs_memory.proofs.present.read_inode.Goals as goal
 
--- src/present.rt:70:9
-pub returns-then-number-eq0-clause-answer : goal.returns-then-number-eq0-clause-answer
-returns-then-number-eq0-clause-answer g c k m0 m keeps is = ap m.header c.if-number-eq0.true
-    ∙ nobody (g.D.SectorDevice.state c.args.device.now) c.args.memory.now k m0 m is
-
--- src/present.rt:74:9
 pub returns-then-address-eq0-clause-answer : goal.returns-then-address-eq0-clause-answer
-returns-then-address-eq0-clause-answer g c k m0 m keeps is =
-    no_inode (g.D.SectorDevice.state c.args.device.now) c.args.memory.now k m0 m is c.args.number
-    (sym c.address-address.ensures ∙ c.if-address-eq0.true)
+returns-then-address-eq0-clause-answer g c =
+    header_absent (g.D.SectorDevice.state c.args.device.now) c.args.memory.now c.args.number
+    (c.inode_pointer-address.ensures.none c.if-address-eq0.true)
 
--- src/present.rt:54:1
-pub returns-in-Ok-clause-answer : goal.returns-in-Ok-clause-answer
-returns-in-Ok-clause-answer g c =
+pub returns-clause-answer : goal.returns-clause-answer
+returns-clause-answer g c =
     inode_answered (g.D.SectorDevice.state c.args.device.now) (g.D.SectorDevice.state c.read_present.new.device) c.args.memory.now
-    c.args.number _ _
-    c.address-address.ensures c.inode-key.ensures c.if-address-eq0.false c.read_present.new.out c.in-Ok.ensures.read
+    c.args.number c.inode_pointer-address.result _ (c.inode_pointer-address.ensures.some c.if-address-eq0.false).1 c.inode.ensures
+    c.if-address-eq0.false c.read_present.new.out c.in_ok-read_present.ensures.read
 
--- src/present.rt:54:1
-pub returns-in-Err-clause-failed : goal.returns-in-Err-clause-failed
-returns-in-Err-clause-failed g c =
-    inode_failed (g.D.SectorDevice.state c.args.device.now) (g.D.SectorDevice.state c.read_present.new.device) c.args.memory.now
-    c.args.number _ _
-    c.address-address.ensures c.inode-key.ensures c.if-address-eq0.false c.in-Err.ensures.unread
+pub returns-in_err-read_present-clause-failed : goal.returns-in_err-read_present-clause-failed
+returns-in_err-read_present-clause-failed g c =
+    on_err c.from_residual.result _
+    (inode_failed (g.D.SectorDevice.state c.args.device.now) (g.D.SectorDevice.state c.read_present.new.device) c.args.memory.now
+    c.args.number c.inode_pointer-address.result _ (c.inode_pointer-address.ensures.some c.if-address-eq0.false).1 c.inode.ensures
+    c.if-address-eq0.false c.in_err-read_present.ensures.unread)

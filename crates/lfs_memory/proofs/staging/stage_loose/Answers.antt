@@ -2,12 +2,12 @@ use Rattle.std.proofs.Common.{List, subst}
 use Rattle.lfs_memory.specs.declared.batch.BlockEdit.{BlockEdit}
 use Rattle.lfs_memory.specs.declared.batch.HeaderEdit.{HeaderEdit}
 use Rattle.lfs_memory.specs.Staging.{IsBatchExcused}
-use Rattle.lfs_memory.proofs.staging.stage_batch.Goals as goal
+use Rattle.lfs_memory.proofs.staging.stage_loose.Goals as goal
 
 pub returns-in-Err-clause-failed : goal.returns-in-Err-clause-failed
 returns-in-Err-clause-failed g c is =
     let d = g.D.SectorDevice.state c.args.device.now in
-    let d' = g.D.SectorDevice.state c.stage_edits.new.device in
+    let d' = g.D.SectorDevice.state c.bring_and_apply.new.device in
     subst (λ (bs : List BlockEdit). IsBatchExcused d d' c.args.memory.now c.args.changes.now.loss c.args.changes.now.headers.items bs)
     c.as_slice-blocks.ensures.value
     (subst (λ (hs : List HeaderEdit). IsBatchExcused d d' c.args.memory.now c.args.changes.now.loss hs c.as_slice-blocks.result.now)

@@ -5,7 +5,7 @@ use Rattle.lfs_memory.specs.Staging.{IsBatchExcused}
 use Rattle.lfs_memory.proofs.Going.{ok_then, err_then}
 use Rattle.lfs_memory.proofs.Staged.{prepared_refuses, prepared_excused, loss_refuses, loss_excuses, stages, unready_refuses}
 use Rattle.lfs_memory.proofs.Staged.{unready_excused}
-use Rattle.lfs_memory.proofs.staging.stage_edits.Goals as goal
+use Rattle.lfs_memory.proofs.staging.bring_and_apply.Goals as goal
 
 pub returns-in-Err-clause-refused : goal.returns-in-Err-clause-refused
 returns-in-Err-clause-refused g c =
