@@ -1,6 +1,7 @@
 -- Faults of a mount, passed on.
-use Rattle.std.specs.Prelude.{Result, Ok, Err, IfErr, IsErrAnd}
-use Rattle.std.proofs.Common.{◌≡◌, sym, subst}
+use Rattle.std.specs.Prelude.{Result, Err, IsErr, IsErrAnd}
+use Rattle.std.proofs.Common.{◌≡◌}
+use Rattle.std.proofs.lemmas.Result.{err_from_is_err_and}
 use Rattle.lfs_verify.specs.declared.fault.MountFault.{MountFault}
 use Rattle.lfs_verify.specs.declared.fault.MountFault.TheVariants as fault
 use Rattle.lfs_verify.specs.Faults.{IsFault}
@@ -14,7 +15,6 @@ fault_on failed lacking failed' lacking' rise lack fault.TooSmall is = lack is
 fault_on failed lacking failed' lacking' rise lack fault.NoCheckpoint is = lack is
 fault_on failed lacking failed' lacking' rise lack (fault.Damaged code) is = lack is
 
--- a fault that is given on as it is
-pub as_given : {T E : Type 0} (r : Result T E) (e : E) (P : E → Type 0) → IsErrAnd r (λ x. x ≡ e) → P e → IfErr r P
-as_given (Ok x) e P is p = tt
-as_given (Err x) e P is p = subst P (sym is) p
+-- a fault that a `?` passes on
+pub same_fault : {T E : Type 0} (r : Result T E) (e : E) → IsErr r × IsErrAnd r (λ y. y ≡ e) → r ≡ Err e
+same_fault r e gives = let y = err_from_is_err_and r gives.1 in let is = y.1 in let of = y.2 in cc

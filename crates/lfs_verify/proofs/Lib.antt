@@ -13,6 +13,7 @@ pub mod RootSteps
 pub mod LeafSteps
 pub mod DataSteps
 pub mod BlockSteps
+pub mod FileSteps
 pub mod CodeSteps
 pub mod RootKinds
 pub mod MapSteps

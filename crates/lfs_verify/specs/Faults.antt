@@ -1,5 +1,6 @@
 -- Why a device isn't mounted: the names of the faults, and what each of them says.
 use Rattle.std.specs.Prelude.{◌<◌, ◌≤◌, ◌≡◌, ◌+◌, ◌*◌, ℕ, List, length, codes}
+use Rattle.lfs_model.specs.declared.limits.TheConstants.{LEAST_SECTORS, SECTOR_LEN}
 use Rattle.lfs_model.specs.Checkpoint.{CheckpointValue}
 use Rattle.lfs_model.specs.Content.{block}
 use Rattle.lfs_model.specs.Device.{DeviceState}
@@ -17,7 +18,7 @@ mount_fault_name (Damaged code) = codes "Damaged"
 
 -- the device has fewer sectors than any volume
 abbrev pub IsBelowAll : DeviceState → Type 0
-IsBelowAll d = d.size < 4098
+IsBelowAll d = d.size < LEAST_SECTORS
 
 -- A fault that isn't of memory: Device says the one, each other fault the other.
 abbrev pub IsFault : Type 0 → Type 0 → MountFault → Type 0
@@ -29,7 +30,7 @@ IsFault failed lacking (Damaged code) = lacking
 
 -- no block of a volume of N segments stands at this address
 abbrev pub LacksBlock : DeviceState → DeviceState → ℕ → ℕ → Type 0
-LacksBlock d d' N at = d'.keeps_model → 2 ≤ at → at < 2 + 64 * N → length (block d.content at) ≡ 512 → ⊥
+LacksBlock d d' N at = d'.keeps_model → 2 ≤ at → at < 2 + 64 * N → length (block d.content at) ≡ SECTOR_LEN → ⊥
 
 -- the content holds no log map by this checkpoint
 abbrev pub LacksTables : DeviceState → DeviceState → CheckpointValue → Type 0

@@ -1,6 +1,7 @@
 -- The inodes that a walk keeps: those of the files that are there, in the order of their numbers.
 -- All of it is an own choice.
 use Rattle.std.specs.Prelude.{◌≡◌, ◌<◌, ℕ, List, [], length, get_or}
+use Rattle.lfs_model.specs.declared.limits.TheConstants.{FILE_NUMBERS}
 use Rattle.lfs_model.specs.Checkpoint.{CheckpointValue}
 use Rattle.lfs_model.specs.Content.{Content, block}
 use Rattle.lfs_model.specs.Entry.{Inode, header}
@@ -21,7 +22,7 @@ KeepsBelow c map inodes n = (i : ℕ) → i < n → KeepsAt c (get_or map i 0) i
 
 -- the inodes of all files
 abbrev pub KeepsInodes : Content → List ℕ → List (List ℕ) → Type 0
-KeepsInodes c map inodes = KeepsBelow c map inodes 4096
+KeepsInodes c map inodes = KeepsBelow c map inodes FILE_NUMBERS
 
 -- so many bytes has this file, by the inode to which the checkpoint leads
 abbrev pub IsSizeOf : Content → CheckpointValue → ℕ → ℕ → Type 0

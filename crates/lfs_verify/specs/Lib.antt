@@ -5,6 +5,8 @@ pub mod Labels
 pub mod Rows
 pub mod Codes
 pub mod Keeping
+pub mod SectorTables
+pub mod FileStages
 pub mod Tables
 pub mod Directories
 pub mod MapTables

@@ -1,6 +1,7 @@
 -- Tables of a volume in memory, as its usage blocks and the blocks of its inode map are taken in one by one.
 -- All of it is an own choice.
 use Rattle.std.specs.Prelude.{◌≡◌, ◌<◌, ◌≤◌, ◌+◌, ◌*◌, ◌/◌, ℕ, false, List, length, get_or, Some, None}
+use Rattle.lfs_model.specs.declared.limits.TheConstants.{BLOCK_POINTERS, MAP_BLOCKS}
 use Rattle.lfs_model.specs.Checkpoint.{CheckpointValue, FitsCheckpoint, IsSegmentCount, IsVersion, layout_version}
 use Rattle.lfs_model.specs.Content.{Content, newest}
 use Rattle.lfs_model.specs.Entry.{word}
@@ -55,10 +56,10 @@ pub record SaysUsage (c : Content) (k : CheckpointValue) (j : ℕ) (t : UsageTab
 pub record IsMapUpTo (j : ℕ) (map : MapValue) : Type 0 where
   pub hidden : (n : ℕ) → is_hidden_in map n ≡ false
   pub none : (i : ℕ) → j ≤ i → block_in map i ≡ 0
-  pub past : (n : ℕ) → 128 * j ≤ n → address_in map n ≡ 0
+  pub past : (n : ℕ) → BLOCK_POINTERS * j ≤ n → address_in map n ≡ 0
 
 pub record SaysMap (c : Content) (k : CheckpointValue) (j : ℕ) (map : MapValue) : Type 0 where
-  pub addresses : (i l : ℕ) → i < j → l < 128 → address_in map (128 * i + l) ≡ word (map_block c k i) l
+  pub addresses : (i l : ℕ) → i < j → l < BLOCK_POINTERS → address_in map (BLOCK_POINTERS * i + l) ≡ word (map_block c k i) l
   pub blocks : (i : ℕ) → i < j → block_in map i ≡ get_or k.map i 0
 
 -- The tables of a volume are taken in, and a device of this size has all of its segments.
@@ -67,7 +68,7 @@ pub record IsLoaded (t : Tables) (size : ℕ) : Type 0 where
   pub known : IsVersion t.version
   pub room : 2 + 64 * t.segments ≤ size
   pub usage : IsUsageUpTo ((t.segments + 63) / 64) t.segments t.usage
-  pub map : IsMapUpTo 32 t.map
+  pub map : IsMapUpTo MAP_BLOCKS t.map
 
 -- They say what a content does by this checkpoint.
 pub record SaysTables (c : Content) (k : CheckpointValue) (t : Tables) : Type 0 where
@@ -75,7 +76,7 @@ pub record SaysTables (c : Content) (k : CheckpointValue) (t : Tables) : Type 0 
   pub segments : k.segments ≡ t.segments
   pub version : layout_version k ≡ t.version
   pub usage : SaysUsage c k ((k.segments + 63) / 64) t.usage
-  pub map : SaysMap c k 32 t.map
+  pub map : SaysMap c k MAP_BLOCKS t.map
 
 -- The content holds a log map, and the tables and totals are those of that map.
 pub record HoldsTables (c : Content) (t : Tables) : Type 0 where

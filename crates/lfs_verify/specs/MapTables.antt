@@ -1,6 +1,7 @@
 -- Tables of inode addresses in memory.
 -- All of it is an own choice.
 use Rattle.std.specs.Prelude.{◌≡◌, ◌<◌, ◌≤◌, ◌+◌, ◌*◌, ℕ, List, length, get_or}
+use Rattle.lfs_model.specs.declared.limits.TheConstants.{BLOCK_POINTERS}
 use Rattle.lfs_model.specs.Entry.{Inode, word}
 use Rattle.lfs_model.specs.Reach.{View}
 
@@ -13,8 +14,8 @@ pub record Copies (bytes old new : List ℕ) (at n : ℕ) : Type 0 where
 
 -- the addresses that the first blocks of the inode map have
 abbrev pub ListsUpTo : View → List ℕ → ℕ → Type 0
-ListsUpTo v map blocks = (n : ℕ) → n < 128 * blocks → get_or map n 0 ≡ v.address (Inode n)
+ListsUpTo v map blocks = (n : ℕ) → n < BLOCK_POINTERS * blocks → get_or map n 0 ≡ v.address (Inode n)
 
 -- nothing stands for the other blocks
 abbrev pub IsEmptyFrom : List ℕ → ℕ → Type 0
-IsEmptyFrom map blocks = (n : ℕ) → 128 * blocks ≤ n → get_or map n 0 ≡ 0
+IsEmptyFrom map blocks = (n : ℕ) → BLOCK_POINTERS * blocks ≤ n → get_or map n 0 ≡ 0

@@ -1,6 +1,7 @@
 -- What is said of a device that is only read, and of one address of the walk.
 -- All of it is an own choice.
 use Rattle.std.specs.Prelude.{◌≡◌, ◌<◌, ◌⊎◌, ℕ, suc, Bool, true, false, List, get_or, set}
+use Rattle.lfs_model.specs.declared.limits.TheConstants.{BLOCK_POINTERS, FILE_NUMBERS}
 use Rattle.lfs_model.specs.Content.{Content, block}
 use Rattle.lfs_model.specs.Device.{DeviceState, Carries, IsUntouched, LeavesOnly}
 use Rattle.lfs_model.specs.Entry.{Inode, word}
@@ -20,7 +21,7 @@ pub record ReadsContent (old new : DeviceState) (c : Content) : Type 0 where
 
 -- a block of addresses that leads somewhere
 abbrev pub SomeWord : List ℕ → Type 0
-SomeWord bytes = (i : ℕ) × (i < 128) × (0 < word bytes i)
+SomeWord bytes = (i : ℕ) × (i < BLOCK_POINTERS) × (0 < word bytes i)
 
 -- An address at a step: passed by where it is 0, taken where it is open and its block has P; refused else.
 abbrev pub TakesAddress : (List ℕ → Type 0) → Content → List ℕ → List ℕ → ℕ → ℕ → Bool → Type 0
@@ -29,7 +30,7 @@ TakesAddress P c old new at step false = (0 < at) × (IsUnmarked old at → P (b
 
 -- the table of inode addresses
 abbrev pub Lists : View → List ℕ → Type 0
-Lists v map = (n : ℕ) → n < 4096 → get_or map n 0 ≡ v.address (Inode n)
+Lists v map = (n : ℕ) → n < FILE_NUMBERS → get_or map n 0 ≡ v.address (Inode n)
 
 -- From step r to step s, or a proof that the stage fails.
 abbrev pub Advances : View → List ℕ → List ℕ → ℕ → ℕ → Type 0 → Bool → Type 0

@@ -8,6 +8,7 @@ use Rattle.lfs_model.specs.Reach.{view}
 use Rattle.lfs_model.specs.Stands.{LogMap, HoldsAt, count_up}
 use Rattle.lfs_model.specs.Totals.{IsCounted}
 use Rattle.lfs_verify.specs.Walk.{Walked}
+use Rattle.lfs_verify.specs.declared.order.TheConstants.{ALL_STEPS}
 
 abbrev pub is_above : List ℕ → ℕ → ℕ → Bool
 is_above marks mark a = nat_lt mark (get_or marks a 0)
@@ -19,7 +20,7 @@ above_count marks mark n = count_up (is_above marks mark) n
 -- These are the totals of a log map that a content holds, after a whole walk over it.
 abbrev pub CountsByMarks : List ℕ → ℕ → ℕ → Type 0
 CountsByMarks marks blocks others = (c : Content) (k : CheckpointValue) → IsSized c → (m : LogMap) → HoldsAt c k m
-    → Walked (view c k) marks 68628528 → IsCounted m blocks others
+    → Walked (view c k) marks ALL_STEPS → IsCounted m blocks others
 
 -- These are the totals of the log map that a content holds by a checkpoint.
 abbrev pub CountsLog : Content → CheckpointValue → ℕ → ℕ → Type 0

@@ -10,11 +10,13 @@ ghost use Rattle.lfs_verify.specs.Take.{Advances, Lists};
 ghost use Rattle.lfs_verify.specs.Walk.{Walked, IsBounded};
 
 use crate::inodes::{keep_inode, take_inode};
+use crate::order::{FILES, FIRST_INODE, FIRST_ROOT};
 use crate::reading::fetch;
 use lfs_cache::CachedDevice;
 use lfs_device::{DeviceFault, SectorDevice};
 use lfs_layout::InodeView;
 use lfs_model::Kind;
+use lfs_model::limits::FILE_NUMBERS;
 
 /// Whether a block is the inode of a directory.
 pub fn is_directory(block: &[u8; 512]) -> bool
@@ -44,21 +46,21 @@ pub fn all_inodes<D: SectorDevice>(
     sector: &mut [u8; 512],
 ) -> Result<bool, DeviceFault>
     requires known { IsVersion version }
-    requires files { length map.now ≡ 4096 }
+    requires files { length map.now ≡ FILE_NUMBERS }
     requires none { vec_len inodes.old ≡ 0 }
-    requires room { there_below map.now 4096 ≤ vec_capacity inodes.old }
+    requires room { there_below map.now FILE_NUMBERS ≤ vec_capacity inodes.old }
     requires inside { length marks.old ≤ (D.state device.old).size }
     ensures goes { IfOk result (λ r. OfWalk (D.state device.old) (D.state device.new) (λ c k.
         layout_version k ≡ version → Lists (view c k) map.now
-        → Advances (view c k) marks.old marks.new 48 4144 (Inodes (view c k)) r)) }
-    ensures at { IfOk result (λ r. IsTrue r → (i : ℕ) → i < 4096 → (get_or map.now i 0 ≡ 0)
-        ⊎ (get_or map.now i 0 < length marks.old)) }
+        → Advances (view c k) marks.old marks.new FIRST_INODE FIRST_ROOT (Inodes (view c k)) r)) }
+    ensures at { IfOk result (λ r. IsTrue r → (i : ℕ) → i < FILE_NUMBERS
+        → (get_or map.now i 0 ≡ 0) ⊎ (get_or map.now i 0 < length marks.old)) }
     ensures kept { IfOk result (λ r. IsTrue r
         → OfContent (D.state device.old) (D.state device.new) (λ c.
         KeepsInodes c map.now inodes.new.items)) }
     ensures keeps { Steps (D.state device.old) (D.state device.new) marks.old marks.new result }
 {
-    for file in 0..4096u32 {
+    for file in 0..FILES {
         let address = map[file as usize];
         if !take_inode(device, marks, version, address, file, sector)? {
             return Ok(false);
@@ -83,18 +85,18 @@ pub fn stage_inodes<D: SectorDevice>(
     sector: &mut [u8; 512],
 ) -> Result<bool, DeviceFault>
     requires known { IsVersion version }
-    requires files { length map.now ≡ 4096 }
+    requires files { length map.now ≡ FILE_NUMBERS }
     requires none { vec_len inodes.old ≡ 0 }
-    requires room { there_below map.now 4096 ≤ vec_capacity inodes.old }
+    requires room { there_below map.now FILE_NUMBERS ≤ vec_capacity inodes.old }
     requires inside { length marks.old ≤ (D.state device.old).size }
     ensures goes { IfOk result (λ r. OfWalk (D.state device.old) (D.state device.new) (λ c k.
         layout_version k ≡ version → Lists (view c k) map.now
-        → Advances (view c k) marks.old marks.new 48 4144 (Inodes (view c k)) r)) }
+        → Advances (view c k) marks.old marks.new FIRST_INODE FIRST_ROOT (Inodes (view c k)) r)) }
     ensures holds { IfOk result (λ r. IsTrue r
         → OfWalk (D.state device.old) (D.state device.new) (λ c k. layout_version k ≡ version
-        → Lists (view c k) map.now → IsBounded (view c k) → Walked (view c k) marks.old 48
+        → Lists (view c k) map.now → IsBounded (view c k) → Walked (view c k) marks.old FIRST_INODE
         → Inodes (view c k))) }
-    ensures at { IfOk result (λ r. IsTrue r → (i : ℕ) → i < 4096
+    ensures at { IfOk result (λ r. IsTrue r → (i : ℕ) → i < FILE_NUMBERS
         → get_or map.now i 0 < length marks.old) }
     ensures kept { IfOk result (λ r. IsTrue r
         → OfContent (D.state device.old) (D.state device.new) (λ c.

@@ -9,11 +9,13 @@ ghost use Rattle.lfs_verify.specs.Kept.{there_below};
 ghost use Rattle.lfs_verify.specs.Take.{TakesAddress};
 
 use crate::marks::claim;
+use crate::order::FIRST_INODE;
 use crate::reading::fetch;
 use crate::totals::count_above;
 use crate::values::is_inode;
 use lfs_cache::CachedDevice;
 use lfs_device::{DeviceFault, SectorDevice};
+use lfs_model::limits::FILE_NUMBERS;
 use std::alloc::{AllocError, Global};
 
 /// Memory for the inodes of all files, by the table of their addresses.
@@ -22,9 +24,9 @@ use std::alloc::{AllocError, Global};
 ///
 /// Where memory runs out.
 pub fn room_for_inodes(alloc: Global, map: &[u32]) -> Result<Vec<[u8; 512]>, AllocError>
-    requires files { length map.now ≡ 4096 }
+    requires files { length map.now ≡ FILE_NUMBERS }
     ensures none { IfOk result (λ inodes. vec_len inodes ≡ 0) }
-    ensures room { IfOk result (λ inodes. there_below map.now 4096 ≤ vec_capacity inodes) }
+    ensures room { IfOk result (λ inodes. there_below map.now FILE_NUMBERS ≤ vec_capacity inodes) }
 {
     let inodes = Vec::with_capacity(alloc, count_above(map, 0) as usize)?;
     Ok(inodes)
@@ -79,10 +81,10 @@ pub fn take_inode<D: SectorDevice>(
     out: &mut [u8; 512],
 ) -> Result<bool, DeviceFault>
     requires known { IsVersion version }
-    requires file { file < 4096 }
+    requires file { file < FILE_NUMBERS }
     requires inside { length marks.old ≤ (D.state device.old).size }
     ensures takes { IfOk result (λ r. OfContent (D.state device.old) (D.state device.new) (λ c.
-        TakesAddress (IsInode version file) c marks.old marks.new address (48 + file) r)) }
+        TakesAddress (IsInode version file) c marks.old marks.new address (FIRST_INODE + file) r)) }
     ensures at { IfOk result (λ r. IsTrue r → address ≡ 0 ⊎ (address < length marks.old)) }
     ensures read { IfOk result (λ r. IsTrue r → 0 < address
         → OfContent (D.state device.old) (D.state device.new) (λ c. block c address ≡ out.new)) }
@@ -94,7 +96,7 @@ pub fn take_inode<D: SectorDevice>(
     if address as usize >= marks.len() {
         return Ok(false);
     }
-    if !claim(marks, address, 48 + file) {
+    if !claim(marks, address, FIRST_INODE + file) {
         return Ok(false);
     }
     if !fetch(device, address, out)? {

@@ -7,8 +7,10 @@ ghost use Rattle.lfs_model.specs.Summary.{FitsSummary, IsPlaced};
 ghost use Rattle.lfs_verify.specs.Labels.{HasAllLabels, PutsLabels};
 ghost use Rattle.lfs_verify.specs.Walk.{Walked, IsBounded, step_of};
 
+use crate::order::{ALL_STEPS, FIRST_DATA, FIRST_INODE, FIRST_LEAF, FIRST_MAP, FIRST_ROOT};
 use lfs_layout::{BlockName, SummaryView};
 use lfs_model::BlockKind;
+use lfs_model::limits::{BLOCK_POINTERS, FILE_BLOCKS};
 
 /// The step of the walk that takes the block of this name.
 #[tactic(auto, unfolding(lfs_model::specs::Summary::IsPlaced))]
@@ -21,12 +23,12 @@ fn step_of_name(name: BlockName) -> u32
     let file = file as u32;
     match kind {
         BlockKind::Usage => index,
-        BlockKind::Map => 16 + index,
-        BlockKind::Inode => 48 + file,
-        BlockKind::Double => 4_145 + 2 * file,
-        BlockKind::Leaf if index == 0 => 4_144 + 2 * file,
-        BlockKind::Leaf => 12_335 + 128 * file + index,
-        BlockKind::Data => 536_624 + 16_624 * file + index,
+        BlockKind::Map => FIRST_MAP + index,
+        BlockKind::Inode => FIRST_INODE + file,
+        BlockKind::Double => FIRST_ROOT + 1 + 2 * file,
+        BlockKind::Leaf if index == 0 => FIRST_ROOT + 2 * file,
+        BlockKind::Leaf => FIRST_LEAF - 1 + BLOCK_POINTERS * file + index,
+        BlockKind::Data => FIRST_DATA + FILE_BLOCKS * file + index,
     }
 }
 
@@ -55,7 +57,7 @@ fn agrees(mark: u32, label: u32) -> bool
 /// Stage 8: whether each entry that was reached has, where it stands, its label.
 pub fn stage_labels(labels: &[u32], marks: &[u32]) -> bool
     requires { length marks.now ≡ length labels.now }
-    ensures { (v : View) → HasAllLabels v labels.now → Walked v marks.now 68628528 → IsBounded v
+    ensures { (v : View) → HasAllLabels v labels.now → Walked v marks.now ALL_STEPS → IsBounded v
         → IsTrue result ↔ AreNamed v }
 {
     for sector in 0..marks.len() {

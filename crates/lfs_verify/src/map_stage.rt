@@ -8,14 +8,16 @@ ghost use Rattle.lfs_verify.specs.Take.{Advances, Lists};
 ghost use Rattle.lfs_verify.specs.Walk.{Walked, IsBounded};
 
 use crate::marks::claim;
+use crate::order::{FIRST_INODE, FIRST_MAP};
 use crate::reading::fetch;
 use crate::values::{has_word, word_at};
 use lfs_cache::CachedDevice;
 use lfs_device::{DeviceFault, SectorDevice};
 use lfs_layout::Checkpoint;
+use lfs_model::limits::{BLOCK_POINTERS, FILE_NUMBERS, MAP_BLOCKS};
 
 pub(crate) fn map_address(checkpoint: &Checkpoint, index: u32) -> u32
-    requires { index < 32 }
+    requires { index < MAP_BLOCKS }
     ensures { result ≡ get_or checkpoint.now.map index 0 }
 {
     checkpoint.map[index as usize]
@@ -23,9 +25,9 @@ pub(crate) fn map_address(checkpoint: &Checkpoint, index: u32) -> u32
 
 /// Copies the addresses in a block of the inode map to their places in the table.
 fn copy_words(block: &[u8; 512], index: u32, map: &mut [u32])
-    requires index { index < 32 }
-    requires files { length map.old ≡ 4096 }
-    ensures { Copies block.now map.old map.new (128 * index) 128 }
+    requires index { index < MAP_BLOCKS }
+    requires files { length map.old ≡ FILE_NUMBERS }
+    ensures { Copies block.now map.old map.new (BLOCK_POINTERS * index) BLOCK_POINTERS }
 {
     for place in 0..128usize {
         map[128 * index as usize + place] = word_at(block, place);
@@ -45,13 +47,13 @@ pub fn take_map<D: SectorDevice>(
     marks: &mut [u32],
     sector: &mut [u8; 512],
 ) -> Result<bool, DeviceFault>
-    requires index { index < 32 }
-    requires files { length map.old ≡ 4096 }
+    requires index { index < MAP_BLOCKS }
+    requires files { length map.old ≡ FILE_NUMBERS }
     requires empty { IsEmptyFrom map.old index }
     requires inside { length marks.old ≤ (D.state device.old).size }
     ensures goes { IfOk result (λ r. OfContent (D.state device.old) (D.state device.new) (λ c.
-        Advances (view c checkpoint.now) marks.old marks.new (16 + index) (16 + (index + 1))
-        (Maps (view c checkpoint.now)) r)) }
+        Advances (view c checkpoint.now) marks.old marks.new (FIRST_MAP + index)
+        (FIRST_MAP + (index + 1)) (Maps (view c checkpoint.now)) r)) }
     ensures lists { IfOk result (λ r. IsTrue r
         → OfContent (D.state device.old) (D.state device.new) (λ c.
         ListsUpTo (view c checkpoint.now) map.old index
@@ -64,7 +66,7 @@ pub fn take_map<D: SectorDevice>(
     if address == 0 {
         return Ok(true);
     }
-    if !claim(marks, address, 16 + index) {
+    if !claim(marks, address, FIRST_MAP + index) {
         return Ok(false);
     }
     if !fetch(device, address, sector)? {
@@ -90,12 +92,12 @@ pub fn stage_maps<D: SectorDevice>(
     marks: &mut [u32],
     sector: &mut [u8; 512],
 ) -> Result<bool, DeviceFault>
-    requires files { length map.old ≡ 4096 }
+    requires files { length map.old ≡ FILE_NUMBERS }
     requires empty { (n : ℕ) → get_or map.old n 0 ≡ 0 }
     requires inside { length marks.old ≤ (D.state device.old).size }
     ensures goes { IfOk result (λ r. OfContent (D.state device.old) (D.state device.new) (λ c.
-        Advances (view c checkpoint.now) marks.old marks.new 16 48 (Maps (view c checkpoint.now))
-        r)) }
+        Advances (view c checkpoint.now) marks.old marks.new FIRST_MAP FIRST_INODE
+        (Maps (view c checkpoint.now)) r)) }
     ensures holds { IfOk result (λ r. IsTrue r
         → OfContent (D.state device.old) (D.state device.new) (λ c.
         IsBounded (view c checkpoint.now) → Walked (view c checkpoint.now) marks.old 16
@@ -106,7 +108,7 @@ pub fn stage_maps<D: SectorDevice>(
     ensures files { length map.new ≡ length map.old }
     ensures keeps { Steps (D.state device.old) (D.state device.new) marks.old marks.new result }
 {
-    for index in 0..32u32 {
+    for index in 0..MAP_BLOCKS {
         if !take_map(device, checkpoint, index, map, marks, sector)? {
             return Ok(false);
         }

@@ -12,6 +12,7 @@ use crate::reading::fetch;
 use lfs_cache::CachedDevice;
 use lfs_device::{DeviceFault, SectorDevice};
 use lfs_layout::SummaryView;
+use lfs_model::limits::SEGMENT_SECTORS;
 
 /// Whether the first sectors of a segment are whole chunks. The marks that their names give go to a
 /// table, which has none of this segment before.
@@ -26,7 +27,7 @@ fn label_row<D: SectorDevice>(
     labels: &mut [u32],
     sector: &mut [u8; 512],
 ) -> Result<bool, DeviceFault>
-    requires used { used ≤ 64 }
+    requires used { used ≤ SEGMENT_SECTORS }
     requires inside { 66 + 64 * segment ≤ (D.state device.old).size }
     requires labelled { 66 + 64 * segment ≤ length labels.old }
     requires empty { (i : ℕ) → 2 + 64 * segment ≤ i → get_or labels.old i 0 ≡ 0 }
@@ -83,7 +84,7 @@ pub fn stage_rows<D: SectorDevice>(
 {
     for segment in 0..used.len() {
         let count = used[segment] as u32;
-        if count > 64 {
+        if count > SEGMENT_SECTORS {
             return Ok(false);
         }
         if !label_row(device, count, segment as u32, labels, sector)? {

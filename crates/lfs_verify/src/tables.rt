@@ -19,6 +19,7 @@ use lfs_cache::CachedDevice;
 use lfs_device::{ReadFault, SectorDevice};
 use lfs_inodes::InodeMap;
 use lfs_layout::{Checkpoint, PointerView, UsageView};
+use lfs_model::limits::{BLOCK_SEGMENTS, MAP_BLOCKS, USAGE_BLOCKS};
 use lfs_segments::Usage;
 use std::alloc::Global;
 
@@ -64,7 +65,7 @@ fn read_table<D: SectorDevice>(
 
 /// Whether a segment where nothing lives has an age, which a commit would write as 0.
 fn has_dead_age(block: &UsageView<'_>) -> bool
-    ensures { IsFalse result → (i : ℕ) → i < 64 → (get_or block.now i no_use).live ≡ 0
+    ensures { IsFalse result → (i : ℕ) → i < BLOCK_SEGMENTS → (get_or block.now i no_use).live ≡ 0
         → (get_or block.now i no_use).age ≡ 0 }
 {
     for entry in 0..64usize {
@@ -78,13 +79,13 @@ fn has_dead_age(block: &UsageView<'_>) -> bool
 
 /// Takes in the entry of a segment, if the volume has it.
 fn take_entry(usage: &mut Usage, index: u32, entry: u32, block: &UsageView<'_>)
-    requires index { index < 16 }
-    requires entry { entry < 64 }
-    requires fits { (i : ℕ) → i < 64 → IsUse (get_or block.now i no_use) }
-    ensures own { 64 * index + entry < length usage.old.segments
-        → usage.new.segments ≡ slice_set usage.old.segments (64 * index + entry)
+    requires index { index < USAGE_BLOCKS }
+    requires entry { entry < BLOCK_SEGMENTS }
+    requires fits { (i : ℕ) → i < BLOCK_SEGMENTS → IsUse (get_or block.now i no_use) }
+    ensures own { BLOCK_SEGMENTS * index + entry < length usage.old.segments
+        → usage.new.segments ≡ slice_set usage.old.segments (BLOCK_SEGMENTS * index + entry)
         (loaded (get_or block.now entry no_use)) }
-    ensures past { length usage.old.segments ≤ 64 * index + entry
+    ensures past { length usage.old.segments ≤ BLOCK_SEGMENTS * index + entry
         → usage.new.segments ≡ usage.old.segments }
     ensures blocks { usage.new.blocks ≡ usage.old.blocks }
     ensures last { usage.new.last ≡ usage.old.last }
@@ -97,9 +98,9 @@ fn take_entry(usage: &mut Usage, index: u32, entry: u32, block: &UsageView<'_>)
 
 /// Takes in the entries of a usage block.
 fn take_entries(usage: &mut Usage, index: u32, block: &UsageView<'_>)
-    requires index { index < 16 }
-    requires fits { (i : ℕ) → i < 64 → IsUse (get_or block.now i no_use) }
-    ensures { IsTakenIn usage.old usage.new block.now index 64 }
+    requires index { index < USAGE_BLOCKS }
+    requires fits { (i : ℕ) → i < BLOCK_SEGMENTS → IsUse (get_or block.now i no_use) }
+    ensures { IsTakenIn usage.old usage.new block.now index BLOCK_SEGMENTS }
 {
     for entry in 0..64u32 {
         take_entry(usage, index, entry, block);
@@ -169,7 +170,7 @@ fn load_map_block<D: SectorDevice>(
     map: &mut InodeMap,
 ) -> Result<(), MountFault>
     requires size { 2 + 64 * checkpoint.now.segments ≤ (D.state device.old).size }
-    requires index { index < 32 }
+    requires index { index < MAP_BLOCKS }
     requires before { IsMapUpTo index map.old }
     ensures after { OnOk result (IsMapUpTo (index + 1) map.new) }
     ensures says { OnOk result ((D.state device.new).keeps_model
@@ -198,14 +199,14 @@ fn load_map<D: SectorDevice>(
 ) -> Result<(), MountFault>
     requires size { 2 + 64 * checkpoint.now.segments ≤ (D.state device.old).size }
     requires before { IsMapUpTo 0 map.old }
-    ensures after { OnOk result (IsMapUpTo 32 map.new) }
+    ensures after { OnOk result (IsMapUpTo MAP_BLOCKS map.new) }
     ensures says { OnOk result ((D.state device.new).keeps_model
-        → SaysMap (D.state device.old).content checkpoint.now 32 map.new) }
+        → SaysMap (D.state device.old).content checkpoint.now MAP_BLOCKS map.new) }
     ensures cause { IfErr result (IsTableFault (D.state device.old) (D.state device.new)
         checkpoint.now) }
     ensures keeps { OnlyLooks (D.state device.old) (D.state device.new) result }
 {
-    for index in 0..32u32 {
+    for index in 0..MAP_BLOCKS {
         load_map_block(device, checkpoint, index, map)?;
     }
     Ok(())

@@ -1,12 +1,8 @@
 //! How many blocks all files have, by the marks of a walk.
-ghost use Rattle.std.specs.Prelude.{◌≡◌, ◌<◌, length};
+ghost use Rattle.std.specs.Prelude.{◌≡◌, ◌<◌, ◌^◌, length};
 ghost use Rattle.lfs_verify.specs.Totals.{above_count, CountsByMarks};
 
-/// The mark behind those of usage blocks and blocks of the inode map, which are of no file.
-const FILES: u32 = 48;
-
-/// The mark behind those of inodes and blocks of pointers.
-const DATA: u32 = 536_624;
+use crate::order::{FIRST_DATA, FIRST_INODE};
 
 /// How many blocks all files have.
 #[derive(Clone, Copy, Debug, PartialEq, Eq)]
@@ -19,7 +15,7 @@ pub struct BlockTotals {
 
 /// How many sectors have a mark above this one.
 pub(crate) fn count_above(marks: &[u32], mark: u32) -> u32
-    requires { length marks.now < 4294967296 }
+    requires { length marks.now < 2 ^ 32 }
     ensures { result ≡ above_count marks.now mark (length marks.now) }
 {
     let mut count = 0u32;
@@ -33,11 +29,11 @@ pub(crate) fn count_above(marks: &[u32], mark: u32) -> u32
 
 /// How many blocks all files have, by the marks of a whole walk over a volume that holds a log map.
 pub fn count_totals(marks: &[u32]) -> BlockTotals
-    requires { length marks.now < 4294967296 }
+    requires { length marks.now < 2 ^ 32 }
     ensures { CountsByMarks marks.now result.data_blocks result.meta_blocks }
 {
-    let data_blocks = count_above(marks, DATA);
-    let all = count_above(marks, FILES);
+    let data_blocks = count_above(marks, FIRST_DATA);
+    let all = count_above(marks, FIRST_INODE);
     BlockTotals {
         data_blocks,
         meta_blocks: all - data_blocks,

@@ -8,10 +8,12 @@ ghost use Rattle.lfs_verify.specs.UsageTables.{CopiesUses, SaysUpTo, SaysAll};
 ghost use Rattle.lfs_verify.specs.Walk.{Walked, IsBounded};
 
 use crate::marks::claim;
+use crate::order::FIRST_MAP;
 use crate::reading::fetch;
 use lfs_cache::CachedDevice;
 use lfs_device::{DeviceFault, SectorDevice};
 use lfs_layout::{Checkpoint, UsageView};
+use lfs_model::limits::{BLOCK_SEGMENTS, MOST_SEGMENTS, USAGE_BLOCKS};
 
 pub(crate) fn segments_of(checkpoint: &Checkpoint) -> u32
     ensures { result ≡ checkpoint.now.segments }
@@ -20,7 +22,7 @@ pub(crate) fn segments_of(checkpoint: &Checkpoint) -> u32
 }
 
 pub(crate) fn usage_address(checkpoint: &Checkpoint, index: u32) -> u32
-    requires { index < 16 }
+    requires { index < USAGE_BLOCKS }
     ensures { result ≡ get_or checkpoint.now.usage index 0 }
 {
     checkpoint.usage[index as usize]
@@ -28,9 +30,10 @@ pub(crate) fn usage_address(checkpoint: &Checkpoint, index: u32) -> u32
 
 /// Copies the entries of a usage block to the places of their segments, as far as the tables go.
 fn copy_uses(block: &UsageView<'_>, index: u32, used: &mut [u16], live: &mut [u16])
-    requires index { index < 16 }
+    requires index { index < USAGE_BLOCKS }
     requires same { length live.old ≡ length used.old }
-    ensures { CopiesUses block.now used.old live.old used.new live.new (64 * index) 64 }
+    ensures { CopiesUses block.now used.old live.old used.new live.new (BLOCK_SEGMENTS * index)
+        BLOCK_SEGMENTS }
 {
     for place in 0..64usize {
         let segment = 64 * index as usize + place;
@@ -56,7 +59,7 @@ pub fn take_usage<D: SectorDevice>(
     marks: &mut [u32],
     sector: &mut [u8; 512],
 ) -> Result<bool, DeviceFault>
-    requires index { index < 16 }
+    requires index { index < USAGE_BLOCKS }
     requires used { length used.old ≡ checkpoint.now.segments }
     requires live { length live.old ≡ checkpoint.now.segments }
     requires inside { length marks.old ≤ (D.state device.old).size }
@@ -110,13 +113,13 @@ pub fn stage_usages<D: SectorDevice>(
     marks: &mut [u32],
     sector: &mut [u8; 512],
 ) -> Result<bool, DeviceFault>
-    requires few { checkpoint.now.segments ≤ 1024 }
+    requires few { checkpoint.now.segments ≤ MOST_SEGMENTS }
     requires used { length used.old ≡ checkpoint.now.segments }
     requires live { length live.old ≡ checkpoint.now.segments }
     requires inside { length marks.old ≤ (D.state device.old).size }
     ensures goes { IfOk result (λ r. OfContent (D.state device.old) (D.state device.new) (λ c.
-        Advances (view c checkpoint.now) marks.old marks.new 0 16 (Usages (view c checkpoint.now))
-        r)) }
+        Advances (view c checkpoint.now) marks.old marks.new 0 FIRST_MAP
+        (Usages (view c checkpoint.now)) r)) }
     ensures holds { IfOk result (λ r. IsTrue r
         → OfContent (D.state device.old) (D.state device.new) (λ c.
         IsBounded (view c checkpoint.now) → Walked (view c checkpoint.now) marks.old 0
@@ -127,7 +130,7 @@ pub fn stage_usages<D: SectorDevice>(
     ensures lengths { KeepsTables used.old used.new live.old live.new }
     ensures keeps { Steps (D.state device.old) (D.state device.new) marks.old marks.new result }
 {
-    for index in 0..16u32 {
+    for index in 0..USAGE_BLOCKS {
         if !take_usage(device, checkpoint, index, used, live, marks, sector)? {
             return Ok(false);
         }

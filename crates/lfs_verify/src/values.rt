@@ -6,11 +6,12 @@ ghost use Rattle.lfs_verify.specs.Take.{SomeWord};
 ghost use Rattle.lfs_verify.specs.Walk.{IsDataBytes};
 
 use lfs_layout::{InodeView, word};
+use lfs_model::limits::{BLOCK_POINTERS, FILE_BLOCKS};
 
 /// The number at a place of 4 bytes of a block.
 #[tactic(auto, unfolding(lfs_model::specs::Entry::word))]
 pub fn word_at(block: &[u8; 512], place: usize) -> u32
-    requires { place < 128 }
+    requires { place < BLOCK_POINTERS }
     ensures { result ≡ word block.now place }
 {
     word(block, place)
@@ -66,7 +67,7 @@ pub fn is_zero_past(block: &[u8; 512], end: usize) -> bool
 
 /// Whether a block may be the one at a place of a file of this size.
 pub fn is_data(block: &[u8; 512], index: u32, size: u32) -> bool
-    requires { index < 16624 }
+    requires { index < FILE_BLOCKS }
     ensures { IsTrue result ↔ IsDataBytes index size block.now }
 {
     if 512 * index >= size {

@@ -17,11 +17,9 @@ use crate::walk::walk;
 use lfs_cache::CachedDevice;
 use lfs_device::SectorDevice;
 use lfs_layout::Checkpoint;
+use lfs_model::limits::LEAST_SECTORS;
 use lfs_root::{RootFault, newest};
 use std::alloc::Global;
-
-/// How many sectors the smallest volume has.
-pub const LEAST_SECTORS: u32 = 4_098;
 
 /// The code of damage of a volume with too few clean segments, which is told where all other stages
 /// hold.
@@ -112,21 +110,13 @@ pub fn verify_log<D: SectorDevice>(
         ≡ (D.state device.old).failures) }
     ensures looks { Looks (D.state device.old) (D.state device.new) }
 {
-    let checkpoint = match find_checkpoint(device) {
-        Ok(checkpoint) => checkpoint,
-        Err(fault) => return Err(fault),
-    };
-    let (enough_clean, totals) = match check(alloc, device, &checkpoint) {
-        Ok(found) => found,
-        Err(fault) => return Err(fault),
-    };
-    match load_tables(alloc, device, &checkpoint, totals) {
-        Ok(tables) => Ok(FoundLog {
-            tables,
-            enough_clean,
-        }),
-        Err(fault) => Err(fault),
-    }
+    let checkpoint = find_checkpoint(device)?;
+    let walked = check(alloc, device, &checkpoint)?;
+    let tables = load_tables(alloc, device, &checkpoint, walked.1)?;
+    Ok(FoundLog {
+        tables,
+        enough_clean: walked.0,
+    })
 }
 
 /// The tables of the log that the newest checkpoint of a device leads to, where it has enough clean
@@ -154,10 +144,7 @@ pub fn verify<D: SectorDevice>(
         ((D.state device.new).failures ≡ (D.state device.old).failures) }
     ensures looks { Looks (D.state device.old) (D.state device.new) }
 {
-    let found = match verify_log(alloc, device) {
-        Ok(found) => found,
-        Err(fault) => return Err(fault),
-    };
+    let found = verify_log(alloc, device)?;
     if !found.enough_clean {
         return Err(MountFault::Damaged(FEW_CLEAN));
     }

@@ -6,6 +6,7 @@ ghost use Rattle.lfs_model.specs.Reach.{View, view};
 ghost use Rattle.lfs_model.specs.Stands.{EnoughClean, Stages};
 ghost use Rattle.lfs_verify.specs.Codes.{FaultIs, HoldsBelow, IsDamage, Passed};
 ghost use Rattle.lfs_verify.specs.Keeping.{KeepsTables, OfContent, OfWalk, Walks};
+ghost use Rattle.lfs_verify.specs.SectorTables.{KeepsSectors};
 ghost use Rattle.lfs_verify.specs.Kept.{KeepsInodes};
 ghost use Rattle.lfs_verify.specs.Labels.{HasAllLabels};
 ghost use Rattle.lfs_verify.specs.Tables.{IsUsedTable, IsLiveTable};
@@ -17,12 +18,12 @@ use crate::blocks::stage_data;
 use crate::clean::stage_clean;
 use crate::counts::stage_counts;
 use crate::fault::WalkFault;
+use crate::files::{FileStage, stage_files};
 use crate::inode_stage::stage_inodes;
 use crate::inodes::room_for_inodes;
 use crate::labels::stage_labels;
-use crate::leaves::stage_leaves;
 use crate::map_stage::stage_maps;
-use crate::roots::stage_roots;
+use crate::order::{ALL_STEPS, FIRST_DATA, FIRST_MAP, FIRST_ROOT};
 use crate::rows::stage_rows;
 use crate::tables::version_of;
 use crate::totals::{BlockTotals, count_totals};
@@ -30,6 +31,7 @@ use crate::usage_stage::{segments_of, stage_usages};
 use lfs_cache::CachedDevice;
 use lfs_device::{DeviceFault, SectorDevice};
 use lfs_layout::Checkpoint;
+use lfs_model::limits::{FILE_NUMBERS, MOST_SEGMENTS};
 use std::alloc::{AllocError, Global};
 
 /// Stages 1 and 2.
@@ -45,7 +47,7 @@ fn walk_usages<D: SectorDevice>(
     labels: &mut [u32],
     marks: &mut [u32],
 ) -> Result<(), WalkFault>
-    requires few { checkpoint.now.segments ≤ 1024 }
+    requires few { checkpoint.now.segments ≤ MOST_SEGMENTS }
     requires used { length used.old ≡ checkpoint.now.segments }
     requires live { length live.old ≡ checkpoint.now.segments }
     requires labels { length labels.old ≡ 2 + 64 * checkpoint.now.segments }
@@ -54,7 +56,7 @@ fn walk_usages<D: SectorDevice>(
     requires inside { length marks.old ≤ (D.state device.old).size }
     ensures holds { OnOk result (OfContent (D.state device.old) (D.state device.new) (λ c.
         Passed (view c checkpoint.now) marks.old 0 1
-        → Passed (view c checkpoint.now) marks.new 16 3)) }
+        → Passed (view c checkpoint.now) marks.new FIRST_MAP 3)) }
     ensures damaged { IfErr result (λ e. OfContent (D.state device.old) (D.state device.new) (λ c.
         Passed (view c checkpoint.now) marks.old 0 1 → IsDamage (view c checkpoint.now) e)) }
     ensures tables { OnOk result (OfContent (D.state device.old) (D.state device.new) (λ c.
@@ -63,9 +65,8 @@ fn walk_usages<D: SectorDevice>(
     ensures labels { OnOk result (OfContent (D.state device.old) (D.state device.new) (λ c.
         Passed (view c checkpoint.now) marks.old 0 1
         → HasAllLabels (view c checkpoint.now) labels.new)) }
-    ensures labelled { length labels.new ≡ length labels.old }
     ensures lengths { KeepsTables used.old used.new live.old live.new }
-    ensures len { length marks.new ≡ length marks.old }
+    ensures sectors { KeepsSectors labels.old labels.new marks.old marks.new }
     ensures keeps { Walks (D.state device.old) (D.state device.new) result }
 {
     let mut sector = [0; 512];
@@ -96,14 +97,14 @@ fn walk_inodes<D: SectorDevice>(
     marks: &mut [u32],
 ) -> Result<Vec<[u8; 512]>, WalkFault>
     requires fits { FitsCheckpoint checkpoint.now }
-    requires files { length map.old ≡ 4096 }
+    requires files { length map.old ≡ FILE_NUMBERS }
     requires empty { (n : ℕ) → get_or map.old n 0 ≡ 0 }
     requires inside { length marks.old ≤ (D.state device.old).size }
     ensures holds { OnOk result (OfContent (D.state device.old) (D.state device.new) (λ c.
-        Passed (view c checkpoint.now) marks.old 16 3
-        → Passed (view c checkpoint.now) marks.new 4144 5)) }
+        Passed (view c checkpoint.now) marks.old FIRST_MAP 3
+        → Passed (view c checkpoint.now) marks.new FIRST_ROOT 5)) }
     ensures damaged { IfErr result (λ e. OfContent (D.state device.old) (D.state device.new) (λ c.
-        Passed (view c checkpoint.now) marks.old 16 3 → IsDamage (view c checkpoint.now) e)) }
+        Passed (view c checkpoint.now) marks.old FIRST_MAP 3 → IsDamage (view c checkpoint.now) e)) }
     ensures lists { OnOk result (OfContent (D.state device.old) (D.state device.new) (λ c.
         Lists (view c checkpoint.now) map.new)) }
     ensures kept { IfOk result (λ inodes. OfContent (D.state device.old) (D.state device.new) (λ c.
@@ -142,24 +143,43 @@ pub fn walk_pointers<D: SectorDevice>(
     upper: &mut [u8; 512],
     sector: &mut [u8; 512],
 ) -> Result<(), WalkFault>
-    requires files { length map.now ≡ 4096 }
+    requires files { length map.now ≡ FILE_NUMBERS }
     requires inside { length marks.old ≤ (D.state device.old).size }
     ensures holds { OnOk result (OfWalk (D.state device.old) (D.state device.new) (λ c k.
         IsBounded (view c k) → Lists (view c k) map.now → KeepsInodes c map.now inodes.now
-        → HoldsBelow (view c k) 5 → Walked (view c k) marks.old 4144
-        → HoldsBelow (view c k) 7 × Walked (view c k) marks.new 536624)) }
+        → HoldsBelow (view c k) 5 → Walked (view c k) marks.old FIRST_ROOT
+        → HoldsBelow (view c k) 7 × Walked (view c k) marks.new FIRST_DATA)) }
     ensures damaged { IfErr result (λ e. OfWalk (D.state device.old) (D.state device.new) (λ c k.
         IsBounded (view c k) → Lists (view c k) map.now → KeepsInodes c map.now inodes.now
-        → HoldsBelow (view c k) 5 → Walked (view c k) marks.old 4144 → IsDamage (view c k) e)) }
+        → HoldsBelow (view c k) 5 → Walked (view c k) marks.old FIRST_ROOT → IsDamage (view c k) e)) }
     ensures len { length marks.new ≡ length marks.old }
     ensures keeps { Walks (D.state device.old) (D.state device.new) result }
 {
-    match stage_roots(device, map, inodes, marks, sector) {
+    let mut words = [0; 512];
+    match stage_files(
+        FileStage::Roots,
+        device,
+        map,
+        inodes,
+        marks,
+        upper,
+        &mut words,
+        sector,
+    ) {
         Ok(true) => (),
         Ok(false) => return Err(WalkFault::Damaged(5)),
         Err(DeviceFault) => return Err(WalkFault::Device),
     }
-    match stage_leaves(device, map, inodes, marks, upper, sector) {
+    match stage_files(
+        FileStage::Leaves,
+        device,
+        map,
+        inodes,
+        marks,
+        upper,
+        &mut words,
+        sector,
+    ) {
         Ok(true) => Ok(()),
         Ok(false) => Err(WalkFault::Damaged(6)),
         Err(DeviceFault) => Err(WalkFault::Device),
@@ -177,14 +197,14 @@ fn walk_files<D: SectorDevice>(
     inodes: &[[u8; 512]],
     marks: &mut [u32],
 ) -> Result<(), WalkFault>
-    requires files { length map.now ≡ 4096 }
+    requires files { length map.now ≡ FILE_NUMBERS }
     requires inside { length marks.old ≤ (D.state device.old).size }
     ensures holds { OnOk result (OfWalk (D.state device.old) (D.state device.new) (λ c k.
         Lists (view c k) map.now → KeepsInodes c map.now inodes.now
-        → Passed (view c k) marks.old 4144 5 → Passed (view c k) marks.new 68628528 8)) }
+        → Passed (view c k) marks.old FIRST_ROOT 5 → Passed (view c k) marks.new ALL_STEPS 8)) }
     ensures damaged { IfErr result (λ e. OfWalk (D.state device.old) (D.state device.new) (λ c k.
         Lists (view c k) map.now → KeepsInodes c map.now inodes.now
-        → Passed (view c k) marks.old 4144 5 → IsDamage (view c k) e)) }
+        → Passed (view c k) marks.old FIRST_ROOT 5 → IsDamage (view c k) e)) }
     ensures len { length marks.new ≡ length marks.old }
     ensures keeps { Walks (D.state device.old) (D.state device.new) result }
 {
@@ -219,10 +239,10 @@ fn walk_segments(labels: &[u32], live: &[u16], marks: &[u32]) -> Result<(), Walk
     requires labels { length marks.now ≡ length labels.now }
     requires marks { length marks.now ≡ 2 + 64 * length live.now }
     ensures holds { OnOk result ((v : View) → HasAllLabels v labels.now → IsLiveTable v live.now
-        → Passed v marks.now 68628528 8 → Passed v marks.now 68628528 10) }
+        → Passed v marks.now ALL_STEPS 8 → Passed v marks.now ALL_STEPS 10) }
     ensures damaged { IfErr result (λ e. (code : ℕ) → FaultIs e code → (v : View)
-        → HasAllLabels v labels.now → IsLiveTable v live.now
-        → Passed v marks.now 68628528 8 → IsDamaged v code) }
+        → HasAllLabels v labels.now → IsLiveTable v live.now → Passed v marks.now ALL_STEPS 8
+        → IsDamaged v code) }
     ensures low { IfErr result (λ e. (code : ℕ) → FaultIs e code → code < 10) }
     ensures no_call { IsErrOf result WalkFault.Device → ⊥ }
 {
@@ -254,7 +274,7 @@ fn walk_all<D: SectorDevice>(
     requires fits { FitsCheckpoint checkpoint.now }
     requires used { length used.old ≡ checkpoint.now.segments }
     requires live { length live.old ≡ checkpoint.now.segments }
-    requires files { length map.old ≡ 4096 }
+    requires files { length map.old ≡ FILE_NUMBERS }
     requires empty { (n : ℕ) → get_or map.old n 0 ≡ 0 }
     requires labels { length labels.old ≡ 2 + 64 * checkpoint.now.segments }
     requires unlabelled { (i : ℕ) → get_or labels.old i 0 ≡ 0 }
@@ -328,7 +348,7 @@ pub fn walk<D: SectorDevice>(
     let Ok(mut labels) = zeros(alloc, 2 + 64 * segments) else {
         return Err(WalkFault::NoMemory);
     };
-    let Ok(mut map) = zeros(alloc, 4096) else {
+    let Ok(mut map) = zeros(alloc, FILE_NUMBERS as usize) else {
         return Err(WalkFault::NoMemory);
     };
     let Ok(mut used) = Vec::from_elem(alloc, 0u16, segments) else {

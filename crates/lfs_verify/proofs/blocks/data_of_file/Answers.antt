@@ -1,30 +1,20 @@
-use Rattle.std.proofs.Common.{◌≡◌, ◌+◌, ◌*◌, sym, ◌∙◌, subst, arith}
+use Rattle.std.proofs.Common.{◌≡◌, ◌+◌, ◌*◌, subst, arith}
 use Rattle.lfs_model.specs.Reach.{view}
 use Rattle.lfs_model.specs.Stands.{Blocks}
 use Rattle.lfs_verify.specs.Walk.{Walked}
 use Rattle.lfs_verify.proofs.Takes.{reads_first, reads_then, looks_then, goes_true, goes_false}
-use Rattle.lfs_verify.proofs.BlockSteps.{goes_as, file_passed, size_there, inode_word, first_leaf_at, root_at}
+use Rattle.lfs_verify.proofs.BlockSteps.{goes_as, size_there, first_leaf_at, root_at}
 use Rattle.lfs_verify.proofs.blocks.data_of_file.Goals as goal
 
-pub returns-then-address-eq0-clause-goes : goal.returns-then-address-eq0-clause-goes
-returns-then-address-eq0-clause-goes g c =
-    λ d k reads is keeps w. file_passed d k c.args.file c.requires.file (sym is ∙ c.if-address-eq0.true) c.args.marks.now w
-
-pub returns-in_default-clause-goes : goal.returns-in_default-clause-goes
-returns-in_default-clause-goes g c = λ d k reads is keeps w blocks. let there = keeps (omega arith) in
-    omega (arith, there.0, c.in_default.ensures)
-
 pub returns-then-not-branch-clause-goes : goal.returns-then-not-branch-clause-goes
-returns-then-not-branch-clause-goes g c = λ d k reads is keeps w.
-    let inode = inode_word d k c.args.file c.args.address is _ ((keeps (omega arith)).1 ∙ sym c.in-Some.ensures) in
+returns-then-not-branch-clause-goes g c = λ d k reads inode w.
     goes_false (view d k) _ _ _ _ (Blocks (view d k)) _ c.if-not-branch.true (c.in_ok-data_of_inode.ensures.goes d k reads inode) w
 
 pub returns-then-not-branch-2-clause-goes : goal.returns-then-not-branch-2-clause-goes
-returns-then-not-branch-2-clause-goes g c = λ d k reads is keeps w.
+returns-then-not-branch-2-clause-goes g c = λ d k reads inode w.
     let s0 = g.D.SectorDevice.state c.args.device.now in
     let s1 = g.D.SectorDevice.state c.data_of_inode.new.device in
     let s2 = g.D.SectorDevice.state c.data_of_leaf.new.device in
-    let inode = inode_word d k c.args.file c.args.address is _ ((keeps (omega arith)).1 ∙ sym c.in-Some.ensures) in
     let sized = size_there d k c.args.file _ inode _ c.size_of-size.ensures in
     let w1 = goes_true (view d k) _ _ _ _ (Blocks (view d k)) _ c.if-not-branch.false
     (c.in_ok-data_of_inode.ensures.goes d k (reads_first s0 s1 s2 d reads c.data_of_leaf.ensures.keeps.looks) inode) w in
@@ -34,13 +24,12 @@ returns-then-not-branch-2-clause-goes g c = λ d k reads is keeps w.
     (first_leaf_at d k c.args.file _ inode _ c.word_at-single.ensures) sized)) w1
 
 pub returns-then-not-branch-3-clause-goes : goal.returns-then-not-branch-3-clause-goes
-returns-then-not-branch-3-clause-goes g c = λ d k reads is keeps w.
+returns-then-not-branch-3-clause-goes g c = λ d k reads inode w.
     let s0 = g.D.SectorDevice.state c.args.device.now in
     let s1 = g.D.SectorDevice.state c.data_of_inode.new.device in
     let s2 = g.D.SectorDevice.state c.data_of_leaf.new.device in
     let s3 = g.D.SectorDevice.state c.data_of_double.new.device in
     let reads2 = reads_first s0 s2 s3 d reads c.data_of_double.ensures.keeps.looks in
-    let inode = inode_word d k c.args.file c.args.address is _ ((keeps (omega arith)).1 ∙ sym c.in-Some.ensures) in
     let sized = size_there d k c.args.file _ inode _ c.size_of-size.ensures in
     let w1 = goes_true (view d k) _ _ _ _ (Blocks (view d k)) _ c.if-not-branch.false
     (c.in_ok-data_of_inode.ensures.goes d k (reads_first s0 s1 s2 d reads2 c.data_of_leaf.ensures.keeps.looks) inode) w in
@@ -53,13 +42,12 @@ returns-then-not-branch-3-clause-goes g c = λ d k reads is keeps w.
     (root_at d k c.args.file _ inode _ c.word_at-double.ensures) sized) w2
 
 pub returns-clause-goes : goal.returns-clause-goes
-returns-clause-goes g c = λ d k reads is keeps w.
+returns-clause-goes g c = λ d k reads inode w.
     let s0 = g.D.SectorDevice.state c.args.device.now in
     let s1 = g.D.SectorDevice.state c.data_of_inode.new.device in
     let s2 = g.D.SectorDevice.state c.data_of_leaf.new.device in
     let s3 = g.D.SectorDevice.state c.data_of_double.new.device in
     let reads2 = reads_first s0 s2 s3 d reads c.data_of_double.ensures.keeps.looks in
-    let inode = inode_word d k c.args.file c.args.address is _ ((keeps (omega arith)).1 ∙ sym c.in-Some.ensures) in
     let sized = size_there d k c.args.file _ inode _ c.size_of-size.ensures in
     let w1 = goes_true (view d k) _ _ _ _ (Blocks (view d k)) _ c.if-not-branch.false
     (c.in_ok-data_of_inode.ensures.goes d k (reads_first s0 s1 s2 d reads2 c.data_of_leaf.ensures.keeps.looks) inode) w in

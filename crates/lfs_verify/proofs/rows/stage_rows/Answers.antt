@@ -17,8 +17,8 @@ loop-segment-init g c = record {
   rows = λ d reads s lt. absurd (omega arith);
 }
 
-pub returns-then-count-gt64-clause-rows : goal.returns-then-count-gt64-clause-rows
-returns-then-count-gt64-clause-rows g c =
+pub returns-then-count-gt-SEGMENT_SECTORS-clause-rows : goal.returns-then-count-gt-SEGMENT_SECTORS-clause-rows
+returns-then-count-gt-SEGMENT_SECTORS-clause-rows g c =
     λ d k reads table. absurd (too_many (view d k) c.args.used.now table c.loop-segment.segment (omega arith) (omega arith))
 
 pub returns-then-not-branch-clause-rows : goal.returns-then-not-branch-clause-rows

@@ -1,7 +1,7 @@
 use Rattle.std.proofs.Common.{◌+◌, ◌∙◌, refl}
+use Rattle.lfs_model.proofs.Exits.{same_error}
 use Rattle.lfs_verify.specs.Faults.{IsTableFault}
 use Rattle.lfs_verify.proofs.tables.load_map.Goals as goal
-use Rattle.lfs_verify.proofs.FaultCases.{as_given}
 use Rattle.lfs_verify.proofs.Takes.{looks_none, looks_then}
 use Rattle.lfs_verify.proofs.UsageLoads.{fault_then}
 use Rattle.lfs_verify.proofs.MapLoads.{says_no_map, says_map_then}
@@ -36,5 +36,5 @@ returns-in_err-load_map_block-clause-cause g c =
     let mid = g.D.SectorDevice.state c.loop-index.device in
     let new = g.D.SectorDevice.state c.load_map_block.new.device in
     let fault = c.in_err-load_map_block.field-0.0 in
-    as_given c.from_residual.result fault (IsTableFault old new c.args.checkpoint.now) c.from_residual.ensures.1
+    same_error c.from_residual.result fault (IsTableFault old new c.args.checkpoint.now) c.from_residual.ensures
     (fault_then old mid new c.args.checkpoint.now c.loop-index.invariant.looks fault c.in_err-load_map_block.ensures.cause)

@@ -1,9 +1,10 @@
 use Rattle.std.proofs.Common.{◌<◌, ◌∙◌, ℕ, subst, ap, sym}
+use Rattle.lfs_model.proofs.Exits.{same_error}
 use Rattle.lfs_inodes.specs.MapValue.{MapValue}
 use Rattle.lfs_verify.specs.Faults.{IsTableFault, LacksBlock, LacksTables}
 use Rattle.lfs_verify.specs.Lending.{LendsTable}
 use Rattle.lfs_verify.proofs.tables.load_map_block.Goals as goal
-use Rattle.lfs_verify.proofs.FaultCases.{as_given, fault_on}
+use Rattle.lfs_verify.proofs.FaultCases.{fault_on}
 use Rattle.lfs_verify.proofs.UsageLoads.{lent_block}
 use Rattle.lfs_verify.proofs.MapLoads.{says_skipped, map_more, says_map_more, map_fault}
 
@@ -15,7 +16,7 @@ returns-in_err-bytes-clause-cause g c =
     let at = c.map_address-address.result in
     let fault = c.in_err-bytes.field-0.0 in
     let lends = subst (LendsTable old new c.segments_of-segments.result at) c.in_err-bytes.was c.read_table.follows.holds-at-none in
-    as_given c.from_residual.result fault (IsTableFault old new k) c.from_residual.ensures.1
+    same_error c.from_residual.result fault (IsTableFault old new k) c.from_residual.ensures
     (fault_on (old.failures < new.failures) (LacksBlock old new c.segments_of-segments.result at) (old.failures < new.failures)
     (LacksTables old new k) (λ rose. rose)
     (λ lacks. map_fault old new k c.args.index at (g.met.D.SectorDevice.lawful c.args.device.now).now

@@ -1,7 +1,7 @@
 use Rattle.std.proofs.Common.{◌+◌, ◌∙◌, refl}
+use Rattle.lfs_model.proofs.Exits.{same_error}
 use Rattle.lfs_verify.specs.Faults.{IsTableFault}
 use Rattle.lfs_verify.proofs.tables.load_usage.Goals as goal
-use Rattle.lfs_verify.proofs.FaultCases.{as_given}
 use Rattle.lfs_verify.proofs.Takes.{looks_none, looks_then}
 use Rattle.lfs_verify.proofs.UsageLoads.{says_nothing, fault_then, says_then}
 
@@ -35,5 +35,5 @@ returns-in_err-load_usage_block-clause-cause g c =
     let mid = g.D.SectorDevice.state c.loop-index.device in
     let new = g.D.SectorDevice.state c.load_usage_block.new.device in
     let fault = c.in_err-load_usage_block.field-0.0 in
-    as_given c.from_residual.result fault (IsTableFault old new c.args.checkpoint.now) c.from_residual.ensures.1
+    same_error c.from_residual.result fault (IsTableFault old new c.args.checkpoint.now) c.from_residual.ensures
     (fault_then old mid new c.args.checkpoint.now c.loop-index.invariant.looks fault c.in_err-load_usage_block.ensures.cause)

@@ -1,8 +1,9 @@
 use Rattle.std.proofs.Common.{◌<◌, ◌*◌, ◌-◌, ◌∙◌, sym, ℕ, subst, ap}
+use Rattle.lfs_model.proofs.Exits.{same_error}
 use Rattle.lfs_verify.specs.Faults.{IsTableFault, LacksBlock, LacksTables}
 use Rattle.lfs_verify.specs.Lending.{LendsTable}
 use Rattle.lfs_verify.proofs.tables.load_usage_block.Goals as goal
-use Rattle.lfs_verify.proofs.FaultCases.{as_given, fault_on}
+use Rattle.lfs_verify.proofs.FaultCases.{fault_on}
 use Rattle.lfs_verify.proofs.UsageLoads.{lent_block, lent_long, usage_fault, usage_more, usage_undecoded, says_more}
 
 pub returns-in_err-bytes-clause-cause : goal.returns-in_err-bytes-clause-cause
@@ -13,7 +14,7 @@ returns-in_err-bytes-clause-cause g c =
     let at = c.usage_address-address.result in
     let fault = c.in_err-bytes.field-0.0 in
     let lends = subst (LendsTable old new c.segments_of-segments.result at) c.in_err-bytes.was c.read_table.follows.holds-at-none in
-    as_given c.from_residual.result fault (IsTableFault old new k) c.from_residual.ensures.1
+    same_error c.from_residual.result fault (IsTableFault old new k) c.from_residual.ensures
     (fault_on (old.failures < new.failures) (LacksBlock old new c.segments_of-segments.result at) (old.failures < new.failures)
     (LacksTables old new k) (λ rose. rose)
     (λ lacks. usage_fault old new k c.args.index at c.requires.index (sym c.usage_address-address.ensures)

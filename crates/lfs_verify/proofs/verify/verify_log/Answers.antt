@@ -1,36 +1,50 @@
+use Rattle.lfs_model.proofs.Exits.{same_error}
+use Rattle.lfs_verify.proofs.FaultCases.{same_fault}
 use Rattle.lfs_verify.proofs.VerifySteps.{check_refused, load_refused, log_found, only_then}
 use Rattle.lfs_verify.proofs.Takes.{looks_none}
 use Rattle.lfs_verify.proofs.verify.verify_log.Goals as goal
 
-pub returns-in-Err-check-clause-reason : goal.returns-in-Err-check-clause-reason
-returns-in-Err-check-clause-reason g c =
+pub returns-in_err-checkpoint-clause-reason : goal.returns-in_err-checkpoint-clause-reason
+returns-in_err-checkpoint-clause-reason g c =
+    same_error c.from_residual.result c.in_err-checkpoint.field-0.0 _ c.from_residual.ensures c.in_err-checkpoint.ensures.reason
+
+pub returns-in_err-checkpoint-clause-below_all : goal.returns-in_err-checkpoint-clause-below_all
+returns-in_err-checkpoint-clause-below_all g c = λ low.
+    let small = c.in_err-checkpoint.ensures.below_all low in
+    let is = same_fault c.from_residual.result c.in_err-checkpoint.field-0.0 c.from_residual.ensures in
+    let of = small.0 in (cc, small.1)
+
+pub returns-in_err-walked-clause-reason : goal.returns-in_err-walked-clause-reason
+returns-in_err-walked-clause-reason g c =
     let s2 = g.D.SectorDevice.state c.check.new.device in
-    check_refused (g.D.SectorDevice.state c.args.device.now) (g.D.SectorDevice.state c.find_checkpoint.new.device) s2 s2
+    same_error c.from_residual-in_err-walked.result c.in_err-walked.field-0.0 _ c.from_residual-in_err-walked.ensures
+    (check_refused (g.D.SectorDevice.state c.args.device.now) (g.D.SectorDevice.state c.find_checkpoint.new.device) s2 s2
     c.find_checkpoint.ensures.keeps.looks c.check.ensures.keeps.looks
-    (looks_none s2 (g.met.D.SectorDevice.lawful c.check.new.device)) c.in-Ok.checkpoint c.in-Ok.ensures.found c.in-Err-check.fault
-    c.in-Err-check.ensures.reason
+    (looks_none s2 (g.met.D.SectorDevice.lawful c.check.new.device)) c.in_ok-checkpoint.checkpoint c.in_ok-checkpoint.ensures.found
+    c.in_err-walked.field-0.0 c.in_err-walked.ensures.reason)
 
-pub returns-in-Err-load_tables-clause-reason : goal.returns-in-Err-load_tables-clause-reason
-returns-in-Err-load_tables-clause-reason g c =
-    load_refused (g.D.SectorDevice.state c.args.device.now) (g.D.SectorDevice.state c.find_checkpoint.new.device)
+pub returns-in_err-tables-clause-reason : goal.returns-in_err-tables-clause-reason
+returns-in_err-tables-clause-reason g c =
+    same_error c.from_residual-in_err-tables.result c.in_err-tables.field-0.0 _ c.from_residual-in_err-tables.ensures
+    (load_refused (g.D.SectorDevice.state c.args.device.now) (g.D.SectorDevice.state c.find_checkpoint.new.device)
     (g.D.SectorDevice.state c.check.new.device) (g.D.SectorDevice.state c.load_tables.new.device)
-    c.find_checkpoint.ensures.keeps.looks c.check.ensures.keeps.looks c.load_tables.ensures.looks c.in-Ok.checkpoint c.in-Ok.ensures.found
-    c.in-Ok-check.found.0 c.in-Ok-check.found.1
-    c.in-Ok-check.ensures.holds c.in-Err-load_tables.fault c.in-Err-load_tables.ensures.cause
+    c.find_checkpoint.ensures.keeps.looks c.check.ensures.keeps.looks c.load_tables.ensures.looks c.in_ok-checkpoint.checkpoint
+    c.in_ok-checkpoint.ensures.found c.in_ok-walked.walked.0 c.in_ok-walked.walked.1
+    c.in_ok-walked.ensures.holds c.in_err-tables.field-0.0 c.in_err-tables.ensures.cause)
 
-pub returns-in-Ok-load_tables-clause-found : goal.returns-in-Ok-load_tables-clause-found
-returns-in-Ok-load_tables-clause-found g c =
+pub returns-clause-found : goal.returns-clause-found
+returns-clause-found g c =
     log_found (g.D.SectorDevice.state c.args.device.now) (g.D.SectorDevice.state c.find_checkpoint.new.device)
     (g.D.SectorDevice.state c.check.new.device) (g.D.SectorDevice.state c.load_tables.new.device)
-    c.find_checkpoint.ensures.keeps.looks c.check.ensures.keeps.looks c.load_tables.ensures.looks c.in-Ok.checkpoint c.in-Ok.ensures.found
-    c.in-Ok-check.found.0 c.in-Ok-check.found.1
-    c.in-Ok-check.ensures.holds c.in-Ok.ensures.fits c.in-Ok-load_tables.tables c.in-Ok-load_tables.ensures.says
-    c.in-Ok-load_tables.ensures.totals
+    c.find_checkpoint.ensures.keeps.looks c.check.ensures.keeps.looks c.load_tables.ensures.looks c.in_ok-checkpoint.checkpoint
+    c.in_ok-checkpoint.ensures.found c.in_ok-walked.walked.0 c.in_ok-walked.walked.1
+    c.in_ok-walked.ensures.holds c.in_ok-checkpoint.ensures.fits c.in_ok-tables.tables c.in_ok-tables.ensures.says
+    c.in_ok-tables.ensures.totals
 
-pub returns-in-Ok-load_tables-clause-durable : goal.returns-in-Ok-load_tables-clause-durable
-returns-in-Ok-load_tables-clause-durable g c =
+pub returns-clause-durable : goal.returns-clause-durable
+returns-clause-durable g c =
     only_then (g.D.SectorDevice.state c.args.device.now) (g.D.SectorDevice.state c.find_checkpoint.new.device)
     (g.D.SectorDevice.state c.check.new.device) (g.D.SectorDevice.state c.load_tables.new.device)
-    c.find_checkpoint.ensures.keeps.looks c.check.ensures.keeps.looks c.load_tables.ensures.looks c.in-Ok.checkpoint c.in-Ok.ensures.found
-    c.in-Ok-check.found.0 c.in-Ok-check.found.1
-    c.in-Ok-check.ensures.holds c.in-Ok.ensures.durable
+    c.find_checkpoint.ensures.keeps.looks c.check.ensures.keeps.looks c.load_tables.ensures.looks c.in_ok-checkpoint.checkpoint
+    c.in_ok-checkpoint.ensures.found c.in_ok-walked.walked.0 c.in_ok-walked.walked.1
+    c.in_ok-walked.ensures.holds c.in_ok-checkpoint.ensures.durable

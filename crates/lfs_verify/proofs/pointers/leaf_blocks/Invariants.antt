@@ -6,7 +6,7 @@ use Rattle.lfs_model.specs.Reach.{view, address}
 use Rattle.lfs_verify.specs.Walk.{Walked}
 use Rattle.lfs_verify.specs.Take.{ReadsContent}
 use Rattle.lfs_verify.proofs.Keeping.{KeepsSoFar}
-use Rattle.lfs_verify.proofs.leaves.leaf_blocks.Given as goal
+use Rattle.lfs_verify.proofs.pointers.leaf_blocks.Given as goal
 
 abbrev pub invariant-loop-leaf : goal.invariant-loop-leaf
 invariant-loop-leaf g l =

@@ -3,7 +3,7 @@ use Rattle.lfs_model.specs.Reach.{view}
 use Rattle.lfs_model.specs.Stands.{Blocks}
 use Rattle.lfs_verify.proofs.Takes.{reads_first, reads_then, read_in, unread, goes_true, goes_false}
 use Rattle.lfs_verify.proofs.BlockSteps.{goes_as, leaf_passed, leaf_inside, leaf_readable, leaf_words}
-use Rattle.lfs_verify.proofs.runs.data_of_leaf.Goals as goal
+use Rattle.lfs_verify.proofs.blocks.data_of_leaf.Goals as goal
 
 pub returns-then-address-eq0-clause-goes : goal.returns-then-address-eq0-clause-goes
 returns-then-address-eq0-clause-goes g c = λ d k reads is sized w.

@@ -1,11 +1,11 @@
-use Rattle.std.proofs.Common.{◌≡◌, ◌+◌, ◌*◌, sym, subst, arith}
+use Rattle.std.proofs.Common.{◌≡◌, ℕ, sym, subst, arith}
 use Rattle.lfs_model.specs.Reach.{view}
-use Rattle.lfs_model.specs.Stands.{Leaves}
+use Rattle.lfs_verify.specs.FileStages.{Holds, file_step}
 use Rattle.lfs_verify.specs.Walk.{Walked}
 use Rattle.lfs_verify.proofs.KeptSteps.{there_start, there_next, keeps_here}
 use Rattle.lfs_verify.proofs.Takes.{reads_first, reads_then, goes_true, goes_false}
 use Rattle.lfs_verify.proofs.Keeping.{keeps_none, keeps_then}
-use Rattle.lfs_verify.proofs.leaves.stage_leaves.Goals as goal
+use Rattle.lfs_verify.proofs.files.stage_files.Goals as goal
 
 pub loop-file-init : goal.loop-file-init
 loop-file-init g c = record {
@@ -19,10 +19,10 @@ pub returns-then-not-branch-clause-goes : goal.returns-then-not-branch-clause-go
 returns-then-not-branch-clause-goes g c = λ d k reads lists keeps w.
     let old = g.D.SectorDevice.state c.args.device.now in
     let mid = g.D.SectorDevice.state c.loop-file.device in
-    let new = g.D.SectorDevice.state c.leaves_of_file.new.device in
+    let new = g.D.SectorDevice.state c.take_file.new.device in
     let here = c.loop-file.invariant in
-    let step = c.in_ok-leaves_of_file.ensures in
-    goes_false (view d k) _ _ _ _ (Leaves (view d k)) _ c.if-not-branch.true
+    let step = c.in_ok-take_file.ensures in
+    goes_false (view d k) _ _ _ _ (Holds c.args.stage (view d k)) _ c.if-not-branch.true
     (step.goes d k (reads_then old mid new d reads here.keeps.looks) (lists c.loop-file.file (omega arith))
     (keeps_here d c.args.map.now c.args.inodes.now keeps c.loop-file.file (omega arith) c.loop-file.place here.place))
     (here.walked d k (reads_first old mid new d reads step.keeps.looks) lists keeps w)
@@ -31,15 +31,15 @@ pub loop-file-preserved : goal.loop-file-preserved
 loop-file-preserved g c =
     let old = g.D.SectorDevice.state c.args.device.now in
     let mid = g.D.SectorDevice.state c.loop-file.device in
-    let new = g.D.SectorDevice.state c.leaves_of_file.new.device in
+    let new = g.D.SectorDevice.state c.take_file.new.device in
     let here = c.loop-file.invariant in
-    let step = c.in_ok-leaves_of_file.ensures in
+    let step = c.in_ok-take_file.ensures in
     record {
       keeps = keeps_then old mid new _ _ _ _ here.keeps step.keeps;
       few = omega (arith, here.few, c.inodes_at.ensures.few);
       place = let next = there_next c.args.map.now c.loop-file.file in omega (arith, next, here.place, c.inodes_at.ensures.number);
       walked = λ d k reads lists keeps w.
-          goes_true (view d k) _ _ _ _ (Leaves (view d k)) _ c.if-not-branch.false
+          goes_true (view d k) _ _ _ _ (Holds c.args.stage (view d k)) _ c.if-not-branch.false
           (step.goes d k (reads_then old mid new d reads here.keeps.looks) (lists c.loop-file.file (omega arith))
           (keeps_here d c.args.map.now c.args.inodes.now keeps c.loop-file.file (omega arith) c.loop-file.place here.place))
           (here.walked d k (reads_first old mid new d reads step.keeps.looks) lists keeps w);
@@ -47,5 +47,6 @@ loop-file-preserved g c =
 
 pub returns-clause-goes : goal.returns-clause-goes
 returns-clause-goes g c = λ d k reads lists keeps w.
-    let e : 12336 + 128 * c.loop-file.file ≡ 536624 = omega arith in
-    subst (Walked (view d k) c.loop-file.marks) e (c.loop-file.invariant.walked d k reads lists keeps w)
+    let e : c.loop-file.file ≡ 4096 = omega arith in
+    subst (λ (n : ℕ). Walked (view d k) c.loop-file.marks (file_step c.args.stage n)) e
+    (c.loop-file.invariant.walked d k reads lists keeps w)

@@ -6,7 +6,7 @@ use Rattle.lfs_model.specs.Reach.{view, address}
 use Rattle.lfs_verify.specs.Walk.{Walked}
 use Rattle.lfs_verify.specs.Take.{ReadsContent}
 use Rattle.lfs_verify.proofs.Keeping.{KeepsSoFar}
-use Rattle.lfs_verify.proofs.runs.data_run.Given as goal
+use Rattle.lfs_verify.proofs.blocks.data_run.Given as goal
 
 abbrev pub invariant-loop-place : goal.invariant-loop-place
 invariant-loop-place g l =

@@ -4,7 +4,7 @@ use Rattle.lfs_verify.specs.Walk.{Walked}
 use Rattle.lfs_verify.proofs.Takes.{reads_first, reads_then}
 use Rattle.lfs_verify.proofs.LeafSteps.{leaf_refused, leaf_took}
 use Rattle.lfs_verify.proofs.Keeping.{keeps_none, keeps_then}
-use Rattle.lfs_verify.proofs.leaves.leaf_blocks.Goals as goal
+use Rattle.lfs_verify.proofs.pointers.leaf_blocks.Goals as goal
 
 pub loop-leaf-init : goal.loop-leaf-init
 loop-leaf-init g c = record {

@@ -4,7 +4,7 @@ use Rattle.lfs_verify.specs.Walk.{Walked}
 use Rattle.lfs_verify.proofs.Takes.{reads_first, reads_then}
 use Rattle.lfs_verify.proofs.DataSteps.{run_next}
 use Rattle.lfs_verify.proofs.Keeping.{keeps_none, keeps_then}
-use Rattle.lfs_verify.proofs.runs.data_run.Goals as goal
+use Rattle.lfs_verify.proofs.blocks.data_run.Goals as goal
 
 pub loop-place-init : goal.loop-place-init
 loop-place-init g c = record {
