@@ -1,7 +1,7 @@
 -- What points to the blocks that go comes into memory.
 use Rattle.std.proofs.Common.{◌≡◌, ◌<◌, ◌≤◌, ⊎_elim, ◌+◌, ◌*◌, ◌-◌, ◌/◌, ◌%◌, ℕ, zero, suc, Bool, true, false, refl, sym, ◌∙◌, ap, subst}
 use Rattle.std.proofs.Common.{arith, inl, inr}
-use Rattle.std.specs.Prelude.{Err, IsErrOf, IsTrue, IsFalse}
+use Rattle.std.specs.Prelude.{Result, Ok, Err, IsErr, IsErrAnd, IsErrOf, IsTrue, IsFalse}
 use Rattle.lfs_model.specs.Checkpoint.{CheckpointValue}
 use Rattle.lfs_model.specs.Device.{DeviceState}
 use Rattle.lfs_model.specs.Entry.{Entry, Leaf, Double}
@@ -19,6 +19,11 @@ use Rattle.lfs_memory.specs.Cutting.{IsCutLeaf, IsLiftedIfStored, HasEdge}
 -- a fault is what it is in another result too
 pub other_result : {T U E : Type 0} (e x : E) → IsErrOf {T = T} (Err e) x → IsErrOf {T = U} (Err e) x
 other_result e x is = let same : e ≡ x = cc in ap Err same
+
+-- and where it is passed on
+pub passed_on : {T U E : Type 0} (r : Result T E) (e x : E) → IsErr r × IsErrAnd r (λ y. y ≡ e) → IsErrOf r x → IsErrOf {T = U} (Err e) x
+passed_on (Ok y) e x gives is = absurd gives.1
+passed_on (Err y) e x gives is = let own : y ≡ e = gives.1 in let same : e ≡ x = cc in ap Err same
 
 -- ---- the leaf that is cut in part
 pub cut_leaf_at : (first : ℕ) → 112 < first → ((first - 112) % 128 ≡ 0 → ⊥) → IsCutLeaf first ((first - 112) / 128)

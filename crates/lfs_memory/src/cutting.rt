@@ -54,10 +54,8 @@ fn lift_part<D: SectorDevice>(
         return Ok(());
     }
     let leaf = BlockKey::leaf(number, (first - DIRECT_BLOCKS) / BLOCK_POINTERS);
-    match lift_child(device, memory, leaf) {
-        Ok(_) => Ok(()),
-        Err(fault) => Err(fault),
-    }
+    lift_child(device, memory, leaf)?;
+    Ok(())
 }
 
 /// Brings the blocks of pointers of which a part stays into memory, where they are stored. The
@@ -231,10 +229,7 @@ pub fn cut_file<D: SectorDevice>(
         Ok(false) => return Ok(()),
         Err(fault) => return Err(fault),
     }
-    match lift_edge(device, memory, number, first) {
-        Ok(()) => {}
-        Err(fault) => return Err(fault),
-    }
+    lift_edge(device, memory, number, first)?;
     match drop_counted(device, memory, number, first, counts) {
         Ok(()) => Ok(()),
         Err(_) => Err(LiftFault::Device),

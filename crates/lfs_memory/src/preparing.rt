@@ -109,10 +109,7 @@ fn prepare_way<D: SectorDevice>(
     ensures no_failure { OnOk result ((D.state device.new).failures
         ≡ (D.state device.old).failures) }
 {
-    let found = match lift_inode(device, memory, number) {
-        Ok(found) => found,
-        Err(fault) => return Err(fault),
-    };
+    let found = lift_inode(device, memory, number)?;
     if index < DIRECT_BLOCKS {
         return Ok(());
     }
@@ -220,10 +217,8 @@ pub fn prepare_header<D: SectorDevice>(
         Ok(()) => {}
         Err(_) => return Err(LiftFault::Device),
     }
-    match lift_inode(device, memory, number) {
-        Ok(_) => Ok(()),
-        Err(fault) => Err(fault),
-    }
+    lift_inode(device, memory, number)?;
+    Ok(())
 }
 
 /// The headers of files may change as these say with no call of the device.
@@ -247,10 +242,7 @@ pub fn prepare_headers<D: SectorDevice>(
         ≡ (D.state device.old).failures) }
 {
     for edit in edits {
-        match prepare_header(device, memory, edit.number, edit.header.links) {
-            Ok(()) => {}
-            Err(fault) => return Err(fault),
-        }
+        prepare_header(device, memory, edit.number, edit.header.links)?;
     }
     Ok(())
 }
@@ -276,10 +268,7 @@ pub fn prepare_blocks<D: SectorDevice>(
         ≡ (D.state device.old).failures) }
 {
     for edit in edits {
-        match prepare_block(device, memory, edit.number, edit.index) {
-            Ok(()) => {}
-            Err(fault) => return Err(fault),
-        }
+        prepare_block(device, memory, edit.number, edit.index)?;
     }
     Ok(())
 }
@@ -307,9 +296,6 @@ pub fn prepare_batch<D: SectorDevice>(
     ensures no_failure { OnOk result ((D.state device.new).failures
         ≡ (D.state device.old).failures) }
 {
-    match prepare_headers(device, memory, headers) {
-        Ok(()) => {}
-        Err(fault) => return Err(fault),
-    }
+    prepare_headers(device, memory, headers)?;
     prepare_blocks(device, memory, blocks)
 }

@@ -2,8 +2,9 @@ use Rattle.std.proofs.Common.{rules, subst, sym}
 use Rattle.lfs_model.specs.Entry.{Inode}
 use Rattle.lfs_memory.specs.declared.memory.LogMemory.{LogMemory}
 use Rattle.lfs_memory.specs.Lifting.{Prepares}
+use Rattle.lfs_memory.proofs.Going.{on_err}
 use Rattle.lfs_memory.proofs.Lifted.{prepares_then, prepares_looks, prepares_excused}
-use Rattle.lfs_memory.proofs.CutEdges.{other_result}
+use Rattle.lfs_memory.proofs.CutEdges.{other_result, passed_on}
 use Rattle.lfs_memory.proofs.CutFiles.{file_cut, nothing_cut}
 use Rattle.lfs_memory.proofs.cutting.cut_file.Goals as goal
 
@@ -16,24 +17,26 @@ returns-in-Ok-false-clause-cuts g c =
 pub returns-in-Err-clause-failed : goal.returns-in-Err-clause-failed
 returns-in-Err-clause-failed g c is = c.in-Err.ensures.failed (other_result c.in-Err.fault _ is)
 
-pub returns-in-Err-lift_edge-clause-prepares : goal.returns-in-Err-lift_edge-clause-prepares
-returns-in-Err-lift_edge-clause-prepares g c =
+pub returns-in_err-lift_edge-clause-prepares : goal.returns-in_err-lift_edge-clause-prepares
+returns-in_err-lift_edge-clause-prepares g c =
     let old = g.D.SectorDevice.state c.args.device.now in
     let one = g.D.SectorDevice.state c.lift_inode.new.device in
     let two = g.D.SectorDevice.state c.lift_edge.new.device in
-    prepares_then old one two c.args.memory.now c.lift_inode.new.memory c.lift_edge.new.memory 1 2
-    (g.met.D.SectorDevice.lawful c.args.device.now) c.in-Ok-true.ensures.prepares c.lift_edge.ensures.prepares
+    on_err c.from_residual.result _
+    (prepares_then old one two c.args.memory.now c.lift_inode.new.memory c.lift_edge.new.memory 1 2
+    (g.met.D.SectorDevice.lawful c.args.device.now) c.in-Ok-true.ensures.prepares c.lift_edge.ensures.prepares)
 
-pub returns-in-Err-lift_edge-clause-failed : goal.returns-in-Err-lift_edge-clause-failed
-returns-in-Err-lift_edge-clause-failed g c is =
+pub returns-in_err-lift_edge-clause-failed : goal.returns-in_err-lift_edge-clause-failed
+returns-in_err-lift_edge-clause-failed g c is =
     let old = g.D.SectorDevice.state c.args.device.now in
     let one = g.D.SectorDevice.state c.lift_inode.new.device in
     let two = g.D.SectorDevice.state c.lift_edge.new.device in
     prepares_excused old one two c.args.memory.now c.lift_inode.new.memory 1 c.in-Ok-true.ensures.prepares
-    c.lift_edge.ensures.prepares.looks (c.in-Err-lift_edge.ensures.ends.failed is)
+    c.lift_edge.ensures.prepares.looks (c.in_err-lift_edge.ensures.ends.failed
+    (passed_on c.from_residual.result c.in_err-lift_edge.field-0.0 _ c.from_residual.ensures is))
 
-pub returns-in-Ok-drop_counted-clause-cuts : goal.returns-in-Ok-drop_counted-clause-cuts
-returns-in-Ok-drop_counted-clause-cuts g c =
+pub returns-in-Ok-clause-cuts : goal.returns-in-Ok-clause-cuts
+returns-in-Ok-clause-cuts g c =
     let old = g.D.SectorDevice.state c.args.device.now in
     let one = g.D.SectorDevice.state c.lift_inode.new.device in
     let two = g.D.SectorDevice.state c.lift_edge.new.device in
@@ -43,8 +46,9 @@ returns-in-Ok-drop_counted-clause-cuts g c =
     let there = (c.in-Ok-true.ensures.inside (search rules)).1 in
     file_cut old two new c.args.memory.now c.lift_edge.new.memory c.drop_counted.new.memory c.args.number c.args.first
     c.drop_counted.new.counts (g.met.D.SectorDevice.lawful c.args.device.now) up
-    c.drop_counted.ensures.looks c.requires.number (c.lift_edge.ensures.prepares.stay (Inode c.args.number) there) c.in-Ok.ensures.edge
-    c.in-Ok-drop_counted.ensures.counted c.in-Ok-drop_counted.ensures.drops
+    c.drop_counted.ensures.looks c.requires.number (c.lift_edge.ensures.prepares.stay (Inode c.args.number) there)
+    c.in_ok-lift_edge.ensures.edge
+    c.in-Ok.ensures.counted c.in-Ok.ensures.drops
 
 pub returns-in-Err-drop_counted-clause-prepares : goal.returns-in-Err-drop_counted-clause-prepares
 returns-in-Err-drop_counted-clause-prepares g c =

@@ -1,4 +1,5 @@
-use Rattle.lfs_memory.proofs.CutEdges.{other_result, above_cut_leaf, cut_leaf_ready}
+use Rattle.lfs_memory.proofs.Going.{err_ok}
+use Rattle.lfs_memory.proofs.CutEdges.{passed_on, above_cut_leaf, cut_leaf_ready}
 use Rattle.lfs_memory.proofs.cutting.lift_part.Goals as goal
 
 pub lift_child-requires-clause-above : goal.lift_child-requires-clause-above
@@ -6,13 +7,16 @@ lift_child-requires-clause-above g c =
     above_cut_leaf c.args.memory.now c.args.number c.args.first _ c.leaf-leaf.ensures c.if-first-le-DIRECT_BLOCKS.false c.if-first-eq0.false
     c.requires.above
 
-pub returns-in-Err-clause-ends : goal.returns-in-Err-clause-ends
-returns-in-Err-clause-ends g c = record {
-  full = λ is. c.in-Err.ensures.full (other_result c.in-Err.fault _ is);
-  failed = λ is. c.in-Err.ensures.failed (other_result c.in-Err.fault _ is);
-  no_failure = tt;
+pub returns-in_err-lift_child-clause-ends : goal.returns-in_err-lift_child-clause-ends
+returns-in_err-lift_child-clause-ends g c = record {
+  full = λ is.
+      c.in_err-lift_child.ensures.full (passed_on c.from_residual.result c.in_err-lift_child.field-0.0 _ c.from_residual.ensures is);
+  failed = λ is.
+      c.in_err-lift_child.ensures.failed (passed_on c.from_residual.result c.in_err-lift_child.field-0.0 _ c.from_residual.ensures is);
+  no_failure = err_ok c.from_residual.result _ _ c.from_residual.ensures;
 }
 
-pub returns-in-Ok-clause-leaf : goal.returns-in-Ok-clause-leaf
-returns-in-Ok-clause-leaf g c =
-    cut_leaf_ready c.lift_child.new.memory c.args.number c.args.first _ c.leaf-leaf.ensures _ c.in-Ok.ensures.inside c.in-Ok.ensures.none
+pub returns-clause-leaf : goal.returns-clause-leaf
+returns-clause-leaf g c =
+    cut_leaf_ready c.lift_child.new.memory c.args.number c.args.first _ c.leaf-leaf.ensures _ c.in_ok-lift_child.ensures.inside
+    c.in_ok-lift_child.ensures.none

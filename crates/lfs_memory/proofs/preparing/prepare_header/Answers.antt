@@ -1,5 +1,6 @@
 use Rattle.std.proofs.Common.{rules, ◌/◌}
 use Rattle.lfs_memory.proofs.Lifted.{map_lost}
+use Rattle.lfs_memory.proofs.CutEdges.{passed_on}
 use Rattle.lfs_memory.proofs.Prepared.{named_prepares, named_excused}
 use Rattle.lfs_memory.proofs.preparing.prepare_header.Goals as goal
 
@@ -7,21 +8,22 @@ pub returns-in-Err-clause-failed : goal.returns-in-Err-clause-failed
 returns-in-Err-clause-failed g c is =
     map_lost (g.D.SectorDevice.state c.args.device.now) c.args.memory.now (c.args.number / 128) c.in-Err.ensures.lost
 
-pub returns-in-Ok-lift_inode-clause-prepares : goal.returns-in-Ok-lift_inode-clause-prepares
-returns-in-Ok-lift_inode-clause-prepares g c =
+pub returns-clause-prepares : goal.returns-clause-prepares
+returns-clause-prepares g c =
     named_prepares (g.D.SectorDevice.state c.args.device.now) (g.D.SectorDevice.state c.lift_inode.new.device) c.args.memory.now
     c.prepare_name.new.memory c.lift_inode.new.memory (c.args.number / 128)
     (g.met.D.SectorDevice.lawful c.args.device.now) c.requires.memory c.in-Ok.ensures.done c.lift_inode.ensures.prepares
 
-pub returns-in-Err-lift_inode-clause-prepares : goal.returns-in-Err-lift_inode-clause-prepares
-returns-in-Err-lift_inode-clause-prepares g c =
+pub returns-in_err-lift_inode-clause-prepares : goal.returns-in_err-lift_inode-clause-prepares
+returns-in_err-lift_inode-clause-prepares g c =
     named_prepares (g.D.SectorDevice.state c.args.device.now) (g.D.SectorDevice.state c.lift_inode.new.device) c.args.memory.now
     c.prepare_name.new.memory c.lift_inode.new.memory (c.args.number / 128)
     (g.met.D.SectorDevice.lawful c.args.device.now) c.requires.memory c.in-Ok.ensures.done c.lift_inode.ensures.prepares
 
-pub returns-in-Err-lift_inode-clause-failed : goal.returns-in-Err-lift_inode-clause-failed
-returns-in-Err-lift_inode-clause-failed g c is =
+pub returns-in_err-lift_inode-clause-failed : goal.returns-in_err-lift_inode-clause-failed
+returns-in_err-lift_inode-clause-failed g c is =
     named_excused (g.D.SectorDevice.state c.args.device.now) (g.D.SectorDevice.state c.lift_inode.new.device) c.args.memory.now
     c.prepare_name.new.memory c.lift_inode.new.memory (c.args.number / 128)
     (g.met.D.SectorDevice.lawful c.args.device.now) c.requires.memory c.in-Ok.ensures.done c.lift_inode.ensures.prepares
-    (c.in-Err-lift_inode.ensures.failed (search rules))
+    (c.in_err-lift_inode.ensures.failed
+    (passed_on c.from_residual.result c.in_err-lift_inode.field-0.0 _ c.from_residual.ensures is))

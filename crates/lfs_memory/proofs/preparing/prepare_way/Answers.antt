@@ -1,19 +1,21 @@
 use Rattle.std.proofs.Common.{rules}
 use Rattle.lfs_memory.proofs.Lifted.{prepares_then, prepares_excused}
+use Rattle.lfs_memory.proofs.CutEdges.{passed_on}
 use Rattle.lfs_memory.proofs.Prepared.{absent_within, excused_within, way_high}
 use Rattle.lfs_memory.proofs.Going.{ok_then}
 use Rattle.lfs_memory.proofs.preparing.prepare_way.Goals as goal
 
-pub returns-in-Err-clause-failed : goal.returns-in-Err-clause-failed
-returns-in-Err-clause-failed g c is =
+pub returns-in_err-found-clause-failed : goal.returns-in_err-found-clause-failed
+returns-in_err-found-clause-failed g c is =
     excused_within (g.D.SectorDevice.state c.args.device.now) (g.D.SectorDevice.state c.lift_inode.new.device) c.args.memory.now
-    c.args.number c.args.index (c.in-Err.ensures.failed (search rules))
+    c.args.number c.args.index (c.in_err-found.ensures.failed
+    (passed_on c.from_residual.result c.in_err-found.field-0.0 _ c.from_residual.ensures is))
 
 pub returns-then-not-found-clause-failed : goal.returns-then-not-found-clause-failed
 returns-then-not-found-clause-failed g c _ =
     absent_within (g.D.SectorDevice.state c.args.device.now) (g.D.SectorDevice.state c.lift_inode.new.device) c.args.memory.now
     c.args.number c.args.index c.if-index-lt-DIRECT_BLOCKS.false
-    (c.in-Ok.ensures.absent (search rules))
+    (c.in_ok-found.ensures.absent (search rules))
 
 pub returns-clause-prepares : goal.returns-clause-prepares
 returns-clause-prepares g c =
