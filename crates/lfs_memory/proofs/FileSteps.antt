@@ -3,8 +3,6 @@ use Rattle.std.proofs.Common.{◌≡◌, ◌<◌, ℕ, zero, suc, Bool, true, fa
 use Rattle.std.proofs.Common.{subst, arith}
 use Rattle.std.specs.Prelude.{get_or}
 use Rattle.lfs_model.specs.Committing.{IsWritten, place_of}
-use Rattle.lfs_model.specs.declared.BlockKind.{BlockKind}
-use Rattle.lfs_model.specs.declared.BlockKind.TheVariants as kind
 use Rattle.lfs_model.specs.Checkpoint.{CheckpointValue}
 use Rattle.lfs_model.specs.Device.{DeviceState, MayWrite, CrashWrites, Carries, Elapses, IsLawful, put, left_new}
 use Rattle.lfs_model.specs.Entry.{Entry, Data, Leaf, Double, Inode, Map, Usage, entry_of, entry_by}

@@ -1,34 +1,33 @@
 -- A block that comes into memory, or an inode map block that will be written: the log map stays.
-use Rattle.std.proofs.Common.{◌≡◌, ◌<◌, ◌≤◌, ◌⊎◌, ⊎_elim, ◌+◌, ◌*◌, ◌/◌, ◌%◌, ◌==◌, cond, not, ℕ, zero, suc, Bool, true, false, List}
-use Rattle.std.proofs.Common.{length, Some, None, refl, sym, ◌∙◌, ap, ap₂, subst, arith, inl, inr}
+use Rattle.std.proofs.Common.{◌≡◌, ◌<◌, ◌≤◌, ◌⊎◌, ⊎_elim, ◌+◌, ◌*◌, ◌/◌, ◌==◌, not, ℕ, zero, suc, Bool, true, false, List}
+use Rattle.std.proofs.Common.{length, Some, None, refl, sym, ◌∙◌, ap, subst, arith, inl, inr}
 use Rattle.std.specs.Prelude.{get_or, Option, option_map, Result}
 use Rattle.std.proofs.lemmas.Bool.{cases_eq, cond-false}
 use Rattle.std.proofs.lemmas.Bool.Decides.{nat_tests}
-use Rattle.lfs_model.specs.Changing.{IsWithBlock}
 use Rattle.lfs_model.specs.Checkpoint.{CheckpointValue}
 use Rattle.lfs_model.specs.Content.{Content, block}
 use Rattle.lfs_model.specs.Counting.{segment_of}
 use Rattle.lfs_model.specs.Device.{DeviceState, IsLawful}
 use Rattle.lfs_model.specs.Entry.{Entry, Data, Leaf, Double, Inode, Map, Usage, word}
 use Rattle.lfs_model.specs.Fields.{read32}
-use Rattle.lfs_model.specs.Memory.{Memory, parent, pointer, patched, file_of, IsOfFile, is_shown, is_held, is_nameless, is_unlinked}
-use Rattle.lfs_model.specs.Memory.{count_of, shown}
+use Rattle.lfs_model.specs.Memory.{Memory, parent, pointer, patched, file_of, IsOfFile, is_shown, is_held, is_nameless}
+use Rattle.lfs_model.specs.Memory.{count_of}
 use Rattle.lfs_model.specs.Running.{Dirty, Tables, Running, IsLifted, IsAddressed, CountsDown}
 use Rattle.lfs_model.specs.Staging.{IsAtAddress, Fetches}
 use Rattle.lfs_model.specs.Stands.{LogMap}
 use Rattle.lfs_model.proofs.Counting.{taken_counts}
 use Rattle.lfs_model.proofs.Entries.{same_entry, data_below, leaf_below, double_below}
-use Rattle.lfs_model.proofs.Replacing.{address_at, block_replacing}
+use Rattle.lfs_model.proofs.Replacing.{address_at}
 use Rattle.lfs_model.proofs.Running.{taken_memory, is_taken}
 use Rattle.lfs_model.proofs.Staging.{fetching, map_fetching, map_adding}
 use Rattle.lfs_model.proofs.Tables.{map_table, usage_table}
-use Rattle.lfs_segments.specs.Chunk.{Chunk, room_in}
+use Rattle.lfs_segments.specs.Chunk.{Chunk}
 use Rattle.lfs_segments.specs.Table.{UsageTable, used_of, live_of, held_of, age_of, kept_of, address_of, stale_of, clean_in}
 use Rattle.lfs_inodes.specs.Blocks.{Capacity, TableValue, blocks_of}
 use Rattle.lfs_inodes.specs.MapValue.{MapValue, address_in, is_hidden_in, block_in}
 use Rattle.lfs_inodes.specs.Present.{present}
 use Rattle.lfs_memory.specs.declared.memory.LogMemory.{LogMemory}
-use Rattle.lfs_memory.specs.Memory.{IsMemory, IsLoose, AreHidden, tables_of, segment_in, chunk_in, room_of}
+use Rattle.lfs_memory.specs.Memory.{IsMemory, IsLoose, AreHidden, tables_of, segment_in, chunk_in}
 use Rattle.lfs_memory.specs.Present.{Looks, IsMissing, FailsFromDevice}
 use Rattle.lfs_memory.specs.Changing.{IsPointedIn}
 use Rattle.lfs_memory.specs.declared.lifting.LiftFault.{LiftFault}

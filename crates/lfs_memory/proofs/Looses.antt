@@ -1,5 +1,5 @@
 -- What holds of the log while files change in memory.
-use Rattle.std.proofs.Common.{◌≡◌, ◌<◌, ◌≤◌, ◌+◌, ◌/◌, not, ℕ, zero, suc, Bool, true, length, Some, refl, sym, ◌∙◌, ap, subst, arith}
+use Rattle.std.proofs.Common.{◌≡◌, ◌<◌, ◌≤◌, ◌+◌, not, ℕ, zero, suc, Bool, true, length, Some, refl, sym, ◌∙◌, ap, subst, arith}
 use Rattle.lfs_model.specs.Checkpoint.{CheckpointValue, IsSegmentCount}
 use Rattle.lfs_model.specs.Counting.{segment_of}
 use Rattle.lfs_model.specs.Device.{DeviceState}
@@ -18,9 +18,8 @@ use Rattle.lfs_inodes.specs.Blocks.{Capacity, blocks_of}
 use Rattle.lfs_inodes.specs.MapValue.{MapValue, is_hidden_in}
 use Rattle.lfs_memory.specs.declared.memory.LogMemory.{LogMemory}
 use Rattle.lfs_memory.specs.Memory.{IsMemory, IsLog, IsLoose, table_at, tables_by, tables_of, segment_in, chunk_in}
-use Rattle.lfs_memory.specs.Changing.{IsCountedThere, IsMiscounted, IsPointedIn, Departs, Stays}
+use Rattle.lfs_memory.specs.Changing.{IsCountedThere, IsMiscounted, IsPointedIn, Stays}
 use Rattle.lfs_memory.proofs.FileSteps.{shows}
-use Rattle.lfs_memory.proofs.Stales.{stays_stale}
 
 pub loose : (d : DeviceState) (v : LogMemory) (k : CheckpointValue) (m0 m : LogMap) → IsLog d v k m0 m → IsLoose d v k m0 m
 loose d v k m0 m is = record { running = is.running; hidden = is.hidden; segments = is.segments }

@@ -32,7 +32,7 @@ use Rattle.lfs_memory.specs.Applying.{Applies, FailsToApply}
 use Rattle.lfs_memory.specs.Batch.{lost, is_lost, room_for_edits, AreHeadersApart, AreBlocksApart, FitEdits}
 use Rattle.lfs_memory.specs.Staging.{Loses, IsLossExcused, StandsWithBatch, TakesBatch, RefusesBatch, IsBatchExcused}
 use Rattle.lfs_memory.proofs.Applied.{batch_applied, batch_never_fails}
-use Rattle.lfs_memory.proofs.Lifted.{prepares_looks, prepares_then}
+use Rattle.lfs_memory.proofs.Lifted.{prepares_then}
 use Rattle.lfs_memory.proofs.Presents.{looks_none, looks_then}
 
 -- ---- what a file loses

@@ -1,4 +1,4 @@
-use Rattle.std.proofs.Common.{rules, ◌/◌, ◌∙◌, sym, ap, refl}
+use Rattle.std.proofs.Common.{rules, ◌/◌, ◌∙◌, sym, refl}
 use Rattle.lfs_memory.proofs.Presents.{header_absent}
 use Rattle.lfs_memory.proofs.Lifted.{prepares_none, prepares_then, prepares_excused, map_of_prepares, map_lost, inode_stands, not_inside}
 use Rattle.lfs_memory.proofs.LiftedKeys.{file_is}

@@ -1,5 +1,5 @@
 use Rattle.lfs_memory.proofs.PointerRuns.{inode_lacks, inode_run, inode_run_failed}
-use Rattle.std.proofs.Common.{ap, refl}
+use Rattle.std.proofs.Common.{ap}
 use Rattle.std.specs.Prelude.{Err}
 use Rattle.lfs_memory.proofs.Presents.{looks_none}
 use Rattle.lfs_memory.proofs.pointers.read_inode_run.Goals as goal

@@ -1,4 +1,4 @@
-use Rattle.std.proofs.Common.{rules, length}
+use Rattle.std.proofs.Common.{length}
 use Rattle.lfs_memory.proofs.CutEdges.{passed_on}
 use Rattle.lfs_memory.proofs.Lifted.{prepares_then}
 use Rattle.lfs_memory.proofs.Prepared.{headers_ready_after, all_excused, excused_then}

@@ -1,4 +1,4 @@
-use Rattle.std.proofs.Common.{rules, ◌/◌}
+use Rattle.std.proofs.Common.{◌/◌}
 use Rattle.lfs_memory.proofs.Lifted.{map_lost}
 use Rattle.lfs_memory.proofs.CutEdges.{passed_on}
 use Rattle.lfs_memory.proofs.Prepared.{named_prepares, named_excused}

@@ -1,4 +1,4 @@
-use Rattle.std.proofs.Common.{rules, sym}
+use Rattle.std.proofs.Common.{sym}
 use Rattle.lfs_memory.proofs.CutEdges.{passed_on}
 use Rattle.lfs_memory.proofs.Prepared.{headers_next, headers_fault, headers_excused}
 use Rattle.lfs_memory.proofs.preparing.prepare_headers.Goals as goal

@@ -1,4 +1,4 @@
-use Rattle.std.proofs.Common.{ℕ, subst}
+use Rattle.std.proofs.Common.{subst}
 use Rattle.std.specs.Prelude.{IfOk}
 use Rattle.lfs_model.specs.Entry.{Entry}
 use Rattle.lfs_memory.specs.Present.{AnswersAddress}
