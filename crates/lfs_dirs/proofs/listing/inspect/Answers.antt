@@ -38,7 +38,8 @@ loop-index-preserved g c =
       list_goes_on c.args.directory.value c.args.header (g.F.Files.state c.args.files.now) (g.F.Files.state c.loop-index.files)
           (g.F.Files.state c.list_block.new.files)
           c.loop-index.index (c.loop-index.index - 1) c.min-count.result c.loop-index.entries.items is low c.loop-index.invariant.1
-          c.list_block.new.entries.items (g.met.F.Files.lawful c.args.files.now) t refl c.list_block.ensures.reads c.in_ok-list_block.ensures.done,
+          c.list_block.new.entries.items (g.met.F.Files.lawful c.args.files.now) t refl c.list_block.ensures.reads
+          c.in_ok-list_block.ensures.done,
     )
 
 pub returns-in_err-list_block-clause-failed : goal.returns-in_err-list_block-clause-failed
@@ -81,7 +82,8 @@ pub returns-in_err-list_block-clause-device : goal.returns-in_err-list_block-cla
 returns-in_err-list_block-clause-device g c =
     let p = err_from_is_err_and c.from_residual.result c.from_residual.ensures.1 in rw (p.1, p.2)
     (λ same. fault_more (g.F.Files.state c.args.files.now) (g.F.Files.state c.loop-index.files) (g.F.Files.state c.list_block.new.files)
-    c.loop-index.invariant.1.reads (c.in_err-list_block.ensures.device (other_result c.in_err-list_block.field-0.0 (ListFault.Log LogFault.Device) same)))
+    c.loop-index.invariant.1.reads
+    (c.in_err-list_block.ensures.device (other_result c.in_err-list_block.field-0.0 (ListFault.Log LogFault.Device) same)))
 
 pub returns-in-Ok-clause-answer : goal.returns-in-Ok-clause-answer
 returns-in-Ok-clause-answer g c =

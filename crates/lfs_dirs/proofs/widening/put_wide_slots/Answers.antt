@@ -13,7 +13,8 @@ loop-place-preserved c =
       omega (arith, was, more, low),
       wide_goes_on c.args.form c.args.block.now c.args.count c.args.slots.now.items c.loop-place.slots.items c.put_wide_slot.new.slots.items
           c.nth_slot.result.now c.loop-place.place
-          c.loop-place-test.true c.nth_slot.ensures.bytes c.loop-place.invariant.1 c.in_ok-put_wide_slot.ensures.done c.in_ok-put_wide_slot.ensures.formed,
+          c.loop-place-test.true c.nth_slot.ensures.bytes c.loop-place.invariant.1 c.in_ok-put_wide_slot.ensures.done
+          c.in_ok-put_wide_slot.ensures.formed,
     )
 
 pub returns-clause-long : goal.returns-clause-long

@@ -13,7 +13,8 @@ returns-clause-long g c =
     let whole = c.slots_in_block-whole.ensures.value in
     let first = ap (λ (w : ℕ). w * c.args.index) whole in
     let is : c.min-count.result ≡ count_in_nth c.args.header c.args.index = omega (arith, m, first, whole, slots) in
-    subst (λ (n : ℕ). length c.widen_block.new.slots.items ≡ length c.args.slots.now.items + slot_len 1 * n) is c.in_ok-widen_block.ensures.long
+    subst (λ (n : ℕ). length c.widen_block.new.slots.items ≡ length c.args.slots.now.items + slot_len 1 * n) is
+    c.in_ok-widen_block.ensures.long
 
 pub returns-clause-done : goal.returns-clause-done
 returns-clause-done g c =
