@@ -3,15 +3,9 @@ use Rattle.std.proofs.Common.{◌≡◌, ◌≢◌, ℕ, List, [], ◌∷◌, Re
 use Rattle.lfs_model.specs.Bytes.{AreBytes}
 use Rattle.lfs_model.specs.Script.{word}
 use Rattle.lfs_script.specs.Calls.{IsBoth}
+use Rattle.lfs_script.specs.Reading.{IsRead}
 use Rattle.lfs_script.specs.declared.word.WordFault.{WordFault}
 use Rattle.lfs_script.specs.declared.word.WordFault.TheVariants.{Memory, Spelling}
-
--- What is told of a word that is read.
-pub record IsRead {A : Type 0} (text : List ℕ) (r : Result (Vec ℕ A) WordFault) : Type 0 where
-  pub ok : IfOk r (λ bytes. word bytes.items ≡ text)
-  pub bytes : IfOk r (λ bytes. AreBytes bytes.items)
-  pub spelling : r ≡ Err Spelling → (bytes : List ℕ) → AreBytes bytes → word bytes ≢ text
-  pub memory : r ≡ Err Memory → (bytes : List ℕ) × AreBytes bytes × (word bytes ≡ text)
 
 abbrev Spelt : {A : Type 0} → List (List ℕ) → Vec ℕ A × Vec ℕ A → Type 0
 Spelt words p = word p.0.items ∷ word p.1.items ∷ [] ≡ words
@@ -31,8 +25,8 @@ module _ (words : List (List ℕ)) (first second : List ℕ) (left : words ≡ f
   not_second a b other e = let both : word a ∷ word b ∷ [] ≡ first ∷ second ∷ [] = e ∙ left in other (cc)
 
   module _ {A : Type 0} where
-    pub both_ok : (a b : Result (Vec ℕ A) WordFault) (r : Result (Vec ℕ A × Vec ℕ A) WordFault) → IsBoth a b r → IsRead first a
-        → IsRead second b → IfOk r (Spelt words)
+    pub both_ok : (a b : Result (Vec ℕ A) WordFault) (r : Result (Vec ℕ A × Vec ℕ A) WordFault) → IsBoth a b r → IsRead word first a
+        → IsRead word second b → IfOk r (Spelt words)
     both_ok (Ok x) (Ok y) r is one two = subst (λ z. IfOk z (Spelt words)) (sym is) (spelt x.items y.items one.ok two.ok)
     both_ok (Ok x) (Err f) r is one two = subst (λ z. IfOk z (Spelt words)) (sym is) tt
     both_ok (Err Spelling) b r is one two = subst (λ z. IfOk z (Spelt words)) (sym is) tt
@@ -40,8 +34,8 @@ module _ (words : List (List ℕ)) (first second : List ℕ) (left : words ≡ f
     both_ok (Err Memory) (Err Memory) r is one two = subst (λ z. IfOk z (Spelt words)) (sym is) tt
     both_ok (Err Memory) (Ok y) r is one two = subst (λ z. IfOk z (Spelt words)) (sym is) tt
 
-    pub both_bytes : (a b : Result (Vec ℕ A) WordFault) (r : Result (Vec ℕ A × Vec ℕ A) WordFault) → IsBoth a b r → IsRead first a
-        → IsRead second b → IfOk r Fit
+    pub both_bytes : (a b : Result (Vec ℕ A) WordFault) (r : Result (Vec ℕ A × Vec ℕ A) WordFault) → IsBoth a b r → IsRead word first a
+        → IsRead word second b → IfOk r Fit
     both_bytes (Ok x) (Ok y) r is one two = subst (λ z. IfOk z Fit) (sym is) (one.bytes, two.bytes)
     both_bytes (Ok x) (Err f) r is one two = subst (λ z. IfOk z Fit) (sym is) tt
     both_bytes (Err Spelling) b r is one two = subst (λ z. IfOk z Fit) (sym is) tt
@@ -49,8 +43,8 @@ module _ (words : List (List ℕ)) (first second : List ℕ) (left : words ≡ f
     both_bytes (Err Memory) (Err Memory) r is one two = subst (λ z. IfOk z Fit) (sym is) tt
     both_bytes (Err Memory) (Ok y) r is one two = subst (λ z. IfOk z Fit) (sym is) tt
 
-    pub both_spelling : (a b : Result (Vec ℕ A) WordFault) (r : Result (Vec ℕ A × Vec ℕ A) WordFault) → IsBoth a b r → IsRead first a
-        → IsRead second b
+    pub both_spelling : (a b : Result (Vec ℕ A) WordFault) (r : Result (Vec ℕ A × Vec ℕ A) WordFault) → IsBoth a b r → IsRead word first a
+        → IsRead word second b
         → r ≡ Err Spelling → (x y : List ℕ) → AreBytes x → AreBytes y → word x ∷ word y ∷ [] ≢ words
     both_spelling (Ok u) (Ok v) r is one two e x y fx fy = absurd (let no = sym is ∙ e in cc)
     both_spelling (Ok u) (Err f) r is one two e x y fx fy = not_second x y (two.spelling (let same = sym is ∙ e in cc) y fy)
@@ -59,8 +53,8 @@ module _ (words : List (List ℕ)) (first second : List ℕ) (left : words ≡ f
     both_spelling (Err Memory) (Err Memory) r is one two e x y fx fy = absurd (let no = sym is ∙ e in cc)
     both_spelling (Err Memory) (Ok v) r is one two e x y fx fy = absurd (let no = sym is ∙ e in cc)
 
-    pub both_memory : (a b : Result (Vec ℕ A) WordFault) (r : Result (Vec ℕ A × Vec ℕ A) WordFault) → IsBoth a b r → IsRead first a
-        → IsRead second b
+    pub both_memory : (a b : Result (Vec ℕ A) WordFault) (r : Result (Vec ℕ A × Vec ℕ A) WordFault) → IsBoth a b r → IsRead word first a
+        → IsRead word second b
         → r ≡ Err Memory → (x : List ℕ) × (y : List ℕ) × AreBytes x × AreBytes y × (word x ∷ word y ∷ [] ≡ words)
     both_memory (Ok u) (Ok v) r is one two e = absurd (let no = sym is ∙ e in cc)
     both_memory (Ok u) (Err f) r is one two e = let found = two.memory (let same = sym is ∙ e in cc) in

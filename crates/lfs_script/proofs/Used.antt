@@ -20,6 +20,7 @@ use Rattle.lfs_script.specs.Running.{Ends, EndsBy, EndsTold}
 use Rattle.lfs_script.specs.Session.{Session, SessionTold}
 use Rattle.lfs_script.specs.Strict.{StrictSession}
 use Rattle.lfs_script.specs.Told.{Look}
+use Rattle.lfs_script.specs.Unused.{IsUnused}
 use Rattle.lfs_script.specs.declared.script.ScriptEnd.{ScriptEnd}
 use Rattle.lfs_script.specs.declared.script.StrictEnd.{StrictEnd}
 use Rattle.lfs_script.specs.declared.script.StrictEnd.TheVariants.{Refused}
@@ -96,6 +97,15 @@ ok_of {A} {E} P r x is has = subst (λ (q : Result A E). IfOk q P) is has
 pub err_of : {A E : Type 0} (P : E → Type 0) (r : Result A E) (e : E) → r ≡ Err e → IfErr r P → P e
 err_of {A} {E} P r e is has = subst (λ (q : Result A E). IfErr q P) is has
 
+-- and what follows from it
+pub ok_more : {A E : Type 0} (P Q : A → Type 0) (r : Result A E) → ((x : A) → P x → Q x) → IfOk r P → IfOk r Q
+ok_more P Q (Ok x) more has = more x has
+ok_more P Q (Err e) more has = tt
+
+pub err_more : {A E : Type 0} (P Q : E → Type 0) (r : Result A E) → ((e : E) → P e → Q e) → IfErr r P → IfErr r Q
+err_more P Q (Ok x) more has = tt
+err_more P Q (Err e) more has = more e has
+
 -- A stop, which leaves one of the contents that might be left.
 module _ (mid new : DeviceState) (counts : (t : ℕ) (c : Content) → t ≤ mid.moment → mid.may_leave c → mid.left_since t c)
     (carries : Carries mid new) (time : Elapses mid new)
@@ -168,16 +178,27 @@ module _ (mid new : DeviceState) (counts : (t : ℕ) (c : Content) → t ≤ mid
   }
 
   -- and the reason of a mount that was refused before it stays one
-  pub still_refused : (d : DeviceState) (fault : MountFault) → IsRefused d mid fault → IsRefused d new fault
+  still_refused : (d : DeviceState) (fault : MountFault) → IsRefused d mid fault → IsRefused d new fault
   still_refused d NoMemory refused = tt
   still_refused d Device refused = λ keeps. subst (λ (n : ℕ). d.failures < n) (sym same) (refused (carries.kept_before keeps))
   still_refused d TooSmall refused = λ keeps. refused (carries.kept_before keeps)
   still_refused d NoCheckpoint refused = λ keeps. refused (carries.kept_before keeps)
   still_refused d (Damaged code) refused = λ keeps. refused (carries.kept_before keeps)
 
-  pub still_faulty : (d : DeviceState) (fault : MountFault) → IsMountFault d mid fault → IsMountFault d new fault
+  still_faulty : (d : DeviceState) (fault : MountFault) → IsMountFault d mid fault → IsMountFault d new fault
   still_faulty d NoMemory told = told
   still_faulty d Device told = λ s keeps stands. subst (λ (n : ℕ). d.failures < n) (sym same) (told s (carries.kept_before keeps) stands)
   still_faulty d TooSmall told = λ s keeps stands. told s (carries.kept_before keeps) stands
   still_faulty d NoCheckpoint told = λ s keeps stands. told s (carries.kept_before keeps) stands
   still_faulty d (Damaged code) told = λ s keeps stands. told s (carries.kept_before keeps) stands
+
+  pub still_unused : {R W : Type 0} (d : DeviceState) (fault : MountFault) (r r' : R) (w w' : W) → IsUnused r r' w w' d mid fault
+      → IsUnused r r' w w' d new fault
+  still_unused d fault r r' w w' unused = record {
+    cause = λ other. still_faulty d fault (unused.cause other);
+    reason = still_refused d fault unused.reason;
+    left = λ c left. unused.left c (was_left c left);
+    any_moment = stop_leaves d _ unused.any_moment;
+    unread = unused.unread;
+    unwritten = unused.unwritten;
+  }

@@ -1,6 +1,7 @@
 -- What a run of a script takes of its reader and gives its writer, by the way that it ends. The language is an own choice.
 use Rattle.std.specs.Prelude.{◌≡◌, ◌≢◌, ◌⊎◌, ◌+◌, ◌-◌, ◌^◌, ◌<◌, ◌≤◌, ℕ, Option, List, [], ◌∷◌, ◌++◌, All, length, flat_map}
 use Rattle.std.specs.Io.KnownBytes.{Appends, Consumes, IsAtEnd, Keeps}
+use Rattle.lfs_model.specs.declared.limits.TheConstants.{LONGEST_LINE}
 use Rattle.lfs_model.specs.Call.{Answer}
 use Rattle.lfs_model.specs.Script.{Line, Spells, bad, ended, lines, reply}
 use Rattle.lfs_script.specs.declared.script.ScriptEnd.{ScriptEnd}
@@ -31,7 +32,7 @@ IsBadText text = (line : Line) → ¬ Spells text line
 -- at the end of the input. Of a line that is too long they are a beginning.
 pub record IsBadLine (text more : List ℕ) (left : Option (List ℕ)) : Type 0 where
   pub plain : IsText text
-  pub is_bad : (140000 < length text)
+  pub is_bad : (LONGEST_LINE < length text)
       ⊎ (IsBadText text × (((rest : List ℕ) × (more ≡ 10 ∷ rest)) ⊎ ((more ≡ []) × (0 < length text) × IsAtEnd left)))
 
 -- these bytes went out, and then some of those

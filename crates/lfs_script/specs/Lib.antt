@@ -1,6 +1,7 @@
 pub mod Bytes
 pub mod LineEnd
 pub mod Words
+pub mod Reading
 pub mod Lines
 pub mod Calls
 pub mod Command
@@ -10,6 +11,7 @@ pub mod Ending
 pub mod Strict
 pub mod Running
 pub mod Session
+pub mod Unused
 pub mod Seen
 pub mod Told
 pub mod Series

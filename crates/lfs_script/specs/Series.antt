@@ -25,6 +25,12 @@ abbrev pub texts_of : List StoppedScript → List (List ℕ)
 texts_of = map (λ s. s.script.items)
 
 module _ {D : Type 0} (state : D → DeviceState) where
+  -- whatever run before left what stands on the device now, P holds of what there is between that and the next use
+  abbrev pub FromAny : Option (List ℕ) → D → (Between D → Type 0) → Type 0
+  FromAny written device P = (before : List Point) (calls : List Call) (given : List Answer)
+      → LeavesPrefix (state device) before calls given
+      → P (record { written = written; device = device; points = before; calls = calls; given = given })
+
   -- A use by a script of this text, up to a stop that leaves one content.
   -- It goes on after the run before, and the next goes on after its own.
   pub record UsesOne (text : List ℕ) (old new : Between D) : Type 0 where

@@ -6,6 +6,7 @@ ghost use Rattle.lfs_model.specs.Script.{Line, InRange, hex, text_of, word};
 ghost use Rattle.lfs_script.specs.Lines.{IsUnknown, words_of, words_left};
 ghost use Rattle.lfs_script.specs.Calls.{IsBoth, line_for};
 ghost use Rattle.lfs_script.specs.Command.{command_word};
+ghost use Rattle.lfs_script.specs.Reading.{IsNumber};
 
 use crate::command::Command;
 use crate::escape::read_escaped;
@@ -71,36 +72,21 @@ pub enum Call {
 }
 
 fn as_u8(word: &[u8]) -> Result<u8, WordFault>
-    ensures ok { IfOk result (λ n. decimal n ≡ word.now) }
-    ensures err { OnErr result ((n : ℕ) → n < 256 → decimal n ≢ word.now) }
-    ensures fault { OnErr result (IsErrOf result WordFault.Spelling) }
+    ensures { IsNumber (2 ^ 8) word.now result }
 {
-    match read_u8(word) {
-        Some(n) => Ok(n),
-        None => Err(WordFault::Spelling),
-    }
+    read_u8(word).ok_or(WordFault::Spelling)
 }
 
 fn as_u32(word: &[u8]) -> Result<u32, WordFault>
-    ensures ok { IfOk result (λ n. decimal n ≡ word.now) }
-    ensures err { OnErr result ((n : ℕ) → n < 2 ^ 32 → decimal n ≢ word.now) }
-    ensures fault { OnErr result (IsErrOf result WordFault.Spelling) }
+    ensures { IsNumber (2 ^ 32) word.now result }
 {
-    match read_u32(word) {
-        Some(n) => Ok(n),
-        None => Err(WordFault::Spelling),
-    }
+    read_u32(word).ok_or(WordFault::Spelling)
 }
 
 fn as_u64(word: &[u8]) -> Result<u64, WordFault>
-    ensures ok { IfOk result (λ n. decimal n ≡ word.now) }
-    ensures err { OnErr result ((n : ℕ) → n < 2 ^ 64 → decimal n ≢ word.now) }
-    ensures fault { OnErr result (IsErrOf result WordFault.Spelling) }
+    ensures { IsNumber (2 ^ 64) word.now result }
 {
-    match read_u64(word) {
-        Some(n) => Ok(n),
-        None => Err(WordFault::Spelling),
-    }
+    read_u64(word).ok_or(WordFault::Spelling)
 }
 
 // The one path that is left.

@@ -3,8 +3,8 @@ ghost use Rattle.std.specs.Prelude.{◌≡◌, ◌≢◌, ◌<◌, ◌≤◌, �
 ghost use Rattle.std.specs.Io.KnownBytes.{Appends};
 ghost use Rattle.hex.specs.Hex.{IsBytes, encode_lower};
 ghost use Rattle.lfs_script.specs.Bytes.{AppendsSome};
-ghost use Rattle.lfs_model.specs.Bytes.{AreBytes};
 ghost use Rattle.lfs_model.specs.Script as script;
+ghost use Rattle.lfs_script.specs.Reading.{IsRead};
 ghost use Rattle.lfs_script.specs.Words.{escaped_byte, escaped_bytes, is_plain};
 
 use crate::sink::{Stopped, put};
@@ -137,12 +137,7 @@ fn unescape(alloc: Global, word: &[u8]) -> Result<Vec<u8>, WordFault>
 /// The bytes that the word spells: a printing byte but the backslash for itself, a backslash and
 /// two digits for another, a backslash alone for no bytes.
 pub fn read_escaped(alloc: Global, word: &[u8]) -> Result<Vec<u8>, WordFault>
-    ensures ok { IfOk result (λ bytes. script.word bytes.items ≡ word.now) }
-    ensures bytes { IfOk result (λ bytes. AreBytes bytes.items) }
-    ensures spelling { result ≡ Err WordFault.Spelling → (bytes : List ℕ) → AreBytes bytes
-        → script.word bytes ≢ word.now }
-    ensures memory { result ≡ Err WordFault.Memory
-        → (bytes : List ℕ) × AreBytes bytes × (script.word bytes ≡ word.now) }
+    ensures { IsRead script.word word.now result }
 {
     if word == b"\\".as_slice() {
         return Ok(Vec::new(alloc));

@@ -1,11 +1,11 @@
 // Bytes as words of hexadecimal digits.
-ghost use Rattle.std.specs.Prelude.{◌≡◌, ◌≢◌, ◌≤◌, List, ℕ, Err, IfOk, OnOk, OnErr, length};
+ghost use Rattle.std.specs.Prelude.{◌≡◌, ◌≤◌, OnOk, OnErr, length};
 ghost use Rattle.std.specs.List.{list_all};
 ghost use Rattle.std.specs.Io.KnownBytes.{Appends};
 ghost use Rattle.hex.specs.Hex.{IsBytes, encode_lower};
-ghost use Rattle.lfs_model.specs.Bytes.{AreBytes};
 ghost use Rattle.lfs_model.specs.Script as script;
 ghost use Rattle.lfs_script.specs.Bytes.{AppendsSome};
+ghost use Rattle.lfs_script.specs.Reading.{IsRead};
 ghost use Rattle.lfs_script.specs.Words.{is_lower_digit, is_pairs};
 
 use crate::sink::{Stopped, put};
@@ -34,12 +34,7 @@ fn is_pairs(word: &[u8]) -> bool
 
 /// The bytes that the word spells: lower case digits, or a dash for no bytes.
 pub fn read_hex(alloc: Global, word: &[u8]) -> Result<Vec<u8>, WordFault>
-    ensures ok { IfOk result (λ bytes. script.hex bytes.items ≡ word.now) }
-    ensures bytes { IfOk result (λ bytes. AreBytes bytes.items) }
-    ensures spelling { result ≡ Err WordFault.Spelling → (bytes : List ℕ) → AreBytes bytes
-        → script.hex bytes ≢ word.now }
-    ensures memory { result ≡ Err WordFault.Memory
-        → (bytes : List ℕ) × AreBytes bytes × (script.hex bytes ≡ word.now) }
+    ensures { IsRead script.hex word.now result }
 {
     if word == b"-".as_slice() {
         return Ok(Vec::new(alloc));
@@ -58,9 +53,12 @@ fn bytes_fit(bytes: &[u8])
     ensures { IsBytes bytes.now }
 {}
 
-// Writes the digits of at most 256 bytes.
+/// The bytes whose digits are written at once.
+const PIECE: usize = 256;
+
+// Writes the digits of a piece.
 fn put_digits<W: Write>(writer: &mut W, piece: &[u8]) -> Result<(), Stopped>
-    requires { length piece.now ≤ 256 }
+    requires { length piece.now ≤ PIECE }
     ensures ok { OnOk result (Appends (W.contents writer.old) (W.contents writer.new)
         (encode_lower piece.now)) }
     ensures err { OnErr result (AppendsSome (W.contents writer.old) (W.contents writer.new)
@@ -85,7 +83,7 @@ pub fn put_hex<W: Write>(writer: &mut W, bytes: &[u8]) -> Result<(), Stopped>
     bytes_fit(bytes);
     let mut at = 0;
     while at < bytes.len() {
-        let n = (bytes.len() - at).min(256);
+        let n = (bytes.len() - at).min(PIECE);
         put_digits(writer, &bytes[at..at + n])?;
         at += n;
     }

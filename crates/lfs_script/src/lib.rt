@@ -26,7 +26,6 @@ pub use command::Command;
 pub use escape::{put_escaped, read_escaped};
 pub use hexadecimal::{put_hex, read_hex};
 pub use lfs_fs as fs;
-pub use line::LONGEST as LONGEST_LINE;
 pub use number::{put_number, read_u8, read_u32, read_u64};
 pub use reply::put_reply;
 pub use script::{ScriptEnd, StrictEnd, run, run_strict, run_told};

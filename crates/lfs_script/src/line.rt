@@ -4,10 +4,8 @@ ghost use Rattle.std.specs.Io.KnownBytes.{Consumes, IsAtEnd, Keeps, prepend_know
 ghost use Rattle.lfs_script.specs.LineEnd.{consumed_by_line, OnTooLong};
 
 use crate::source::{ReadError, Source};
+use lfs_model::limits::LONGEST_LINE;
 use std::io::{Read, Write};
-
-/// The bytes of the longest line, its newline left out.
-pub const LONGEST: usize = 140_000;
 
 /// How a line ended.
 #[derive(Clone, Copy, PartialEq, Eq)]
@@ -27,16 +25,16 @@ pub fn next_line<R: Read, W: Write>(
     writer: &mut W,
     line: &mut Vec<u8>,
 ) -> Result<LineEnd, ReadError>
-    requires { 140000 ≤ vec_capacity line.old }
-    ensures room { 140000 ≤ vec_capacity line.new }
-    ensures len { vec_len line.new ≤ 140000 }
+    requires { LONGEST_LINE ≤ vec_capacity line.old }
+    ensures room { LONGEST_LINE ≤ vec_capacity line.new }
+    ensures len { vec_len line.new ≤ LONGEST_LINE }
     ensures bytes { Consumes (prepend_known
         (slice_range source.old.chunk.items source.old.start source.old.end)
         (R.remaining reader.old)) (prepend_known
         (slice_range source.new.chunk.items source.new.start source.new.end)
         (R.remaining reader.new)) (line.new.items ++ consumed_by_line result) }
     ensures plain { All (λ b. b ≢ 10) line.new.items }
-    ensures long { OnTooLong result (λ b. (b ≢ 10) × (vec_len line.new ≡ 140000)) }
+    ensures long { OnTooLong result (λ b. (b ≢ 10) × (vec_len line.new ≡ LONGEST_LINE)) }
     ensures end { result ≡ Ok LineEnd.Input
         → IsAtEnd (prepend_known (slice_range source.new.chunk.items source.new.start
         source.new.end) (R.remaining reader.new)) }
@@ -50,7 +48,7 @@ pub fn next_line<R: Read, W: Write>(
             None => return Ok(LineEnd::Input),
             Some(b'\n') => return Ok(LineEnd::Newline),
             Some(byte) => {
-                if line.len() >= LONGEST {
+                if line.len() >= LONGEST_LINE {
                     return Ok(LineEnd::TooLong(byte));
                 }
                 line.push(byte).unwrap();

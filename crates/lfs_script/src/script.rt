@@ -7,13 +7,14 @@ ghost use Rattle.lfs_script.specs.Strict.{Follows};
 
 use crate::answer::{Answer, make};
 use crate::call::parse;
-use crate::line::{LONGEST, LineEnd, next_line};
+use crate::line::{LineEnd, next_line};
 use crate::reply::{put_bad, put_reply};
 use crate::source::Source;
 use crate::witness::{Looks, Witness};
 use crate::word::WordFault;
 use lfs_device::SectorDevice;
 use lfs_fs::{Fs, FsError};
+use lfs_model::limits::LONGEST_LINE;
 use std::alloc::Global;
 use std::io::{Read, Write};
 
@@ -57,7 +58,7 @@ fn answer_line<D: SectorDevice>(
     fs: &mut Fs<D>,
     line: &[u8],
 ) -> Option<Result<Answer, FsError>>
-    requires short { length line.now ≤ 140000 }
+    requires short { length line.now ≤ LONGEST_LINE }
     ensures { AnswersText D.SectorDevice.state (option_map result_of result) (seen fs.old)
         (seen fs.new) line.now }
 {
@@ -88,7 +89,7 @@ fn turn<W: Write, D: SectorDevice, S: Witness<D, W>>(
     line: &[u8],
     count: u64,
 ) -> Option<StrictEnd>
-    requires short { length line.now ≤ 140000 }
+    requires short { length line.now ≤ LONGEST_LINE }
     ensures turns { Turns D.SectorDevice.state strict result (W.contents writer.old)
         (W.contents writer.new) (seen fs.old) (seen fs.new) line.now count }
     ensures looks { LooksBeforeReply D.SectorDevice.state (seen fs.new) (W.contents writer.old)
@@ -114,7 +115,7 @@ fn finish<W: Write, D: SectorDevice, S: Witness<D, W>>(
     line: &[u8],
     count: u64,
 ) -> StrictEnd
-    requires short { length line.now ≤ 140000 }
+    requires short { length line.now ≤ LONGEST_LINE }
     ensures { Finishes D.SectorDevice.state strict result (W.contents writer.old)
         (W.contents writer.new) (seen fs.old) (seen fs.new) line.now count (S.looks witness.old)
         (S.looks witness.new) }
@@ -128,8 +129,43 @@ fn finish<W: Write, D: SectorDevice, S: Witness<D, W>>(
     }
 }
 
-// Runs a script, to the first refusal where it is strict.
-fn run_lines<R: Read, W: Write, D: SectorDevice, S: Witness<D, W>>(
+/// Makes the calls of the lines that the reader gives, and writes their replies. It flushes the
+/// writer before each read, whatever that answers: behind a buffer each reply goes out before the
+/// next line is asked for. The end is the caller's to flush.
+pub fn run<R: Read, W: Write, D: SectorDevice>(
+    alloc: Global,
+    reader: &mut R,
+    writer: &mut W,
+    fs: &mut Fs<D>,
+) -> ScriptEnd
+    ensures { Ends D.SectorDevice.state result (R.remaining reader.old) (R.remaining reader.new)
+        (W.contents writer.old) (W.contents writer.new) (seen fs.old) (seen fs.new) }
+{
+    let mut looks = Looks::<D, W>::new();
+    match run_told(alloc, false, reader, writer, &mut looks, fs) {
+        StrictEnd::Script(end) => end,
+        StrictEnd::Refused => unreachable!(),
+    }
+}
+
+/// As `run`, to the first call that is refused. Its reply is the last.
+pub fn run_strict<R: Read, W: Write, D: SectorDevice>(
+    alloc: Global,
+    reader: &mut R,
+    writer: &mut W,
+    fs: &mut Fs<D>,
+) -> StrictEnd
+    ensures { EndsBy D.SectorDevice.state true result (R.remaining reader.old)
+        (R.remaining reader.new) (W.contents writer.old) (W.contents writer.new) (seen fs.old)
+        (seen fs.new) }
+{
+    let mut looks = Looks::<D, W>::new();
+    run_told(alloc, true, reader, writer, &mut looks, fs)
+}
+
+/// As `run` or `run_strict`, before a witness, which looks at device and writer between each call
+/// and its reply.
+pub fn run_told<R: Read, W: Write, D: SectorDevice, S: Witness<D, W>>(
     alloc: Global,
     strict: bool,
     reader: &mut R,
@@ -141,7 +177,7 @@ fn run_lines<R: Read, W: Write, D: SectorDevice, S: Witness<D, W>>(
         (R.remaining reader.new) (W.contents writer.old) (W.contents writer.new) (seen fs.old)
         (seen fs.new) (S.looks witness.old) (S.looks witness.new) }
 {
-    let Ok(mut line) = Vec::with_capacity(alloc, LONGEST) else {
+    let Ok(mut line) = Vec::with_capacity(alloc, LONGEST_LINE) else {
         return StrictEnd::Script(ScriptEnd::Memory);
     };
     let Ok(mut source) = Source::new(alloc) else {
@@ -170,55 +206,4 @@ fn run_lines<R: Read, W: Write, D: SectorDevice, S: Witness<D, W>>(
         }
     }
     StrictEnd::Script(ScriptEnd::Read)
-}
-
-/// Makes the calls of the lines that the reader gives, and writes their replies. It flushes the
-/// writer before each read, whatever that answers: behind a buffer each reply goes out before the
-/// next line is asked for. The end is the caller's to flush.
-pub fn run<R: Read, W: Write, D: SectorDevice>(
-    alloc: Global,
-    reader: &mut R,
-    writer: &mut W,
-    fs: &mut Fs<D>,
-) -> ScriptEnd
-    ensures { Ends D.SectorDevice.state result (R.remaining reader.old) (R.remaining reader.new)
-        (W.contents writer.old) (W.contents writer.new) (seen fs.old) (seen fs.new) }
-{
-    let mut looks = Looks::<D, W>::new();
-    match run_lines(alloc, false, reader, writer, &mut looks, fs) {
-        StrictEnd::Script(end) => end,
-        StrictEnd::Refused => unreachable!(),
-    }
-}
-
-/// As `run`, to the first call that is refused. Its reply is the last.
-pub fn run_strict<R: Read, W: Write, D: SectorDevice>(
-    alloc: Global,
-    reader: &mut R,
-    writer: &mut W,
-    fs: &mut Fs<D>,
-) -> StrictEnd
-    ensures { EndsBy D.SectorDevice.state true result (R.remaining reader.old)
-        (R.remaining reader.new) (W.contents writer.old) (W.contents writer.new) (seen fs.old)
-        (seen fs.new) }
-{
-    let mut looks = Looks::<D, W>::new();
-    run_lines(alloc, true, reader, writer, &mut looks, fs)
-}
-
-/// As `run` or `run_strict`, before a witness, which looks at device and writer between each call
-/// and its reply.
-pub fn run_told<R: Read, W: Write, D: SectorDevice, S: Witness<D, W>>(
-    alloc: Global,
-    strict: bool,
-    reader: &mut R,
-    writer: &mut W,
-    witness: &mut S,
-    fs: &mut Fs<D>,
-) -> StrictEnd
-    ensures { EndsTold D.SectorDevice.state strict result (R.remaining reader.old)
-        (R.remaining reader.new) (W.contents writer.old) (W.contents writer.new) (seen fs.old)
-        (seen fs.new) (S.looks witness.old) (S.looks witness.new) }
-{
-    run_lines(alloc, strict, reader, writer, witness, fs)
 }

@@ -1,13 +1,10 @@
 // Whole uses of a volume.
-ghost use Rattle.std.specs.Prelude.{◌≡◌, List, IfOk, IfErr, OnOk, OnErr};
-ghost use Rattle.lfs_model.specs.Call.{Answer, Call};
-ghost use Rattle.lfs_model.specs.Device.{AllLeft, Carries, IsUntouched, LeavesOnly, Only};
-ghost use Rattle.lfs_model.specs.Run.{Point};
-ghost use Rattle.lfs_model.specs.Volume.{LeavesPrefix};
+ghost use Rattle.std.specs.Prelude.{IfOk, IfErr, OnOk, OnErr};
+ghost use Rattle.lfs_model.specs.Device.{Carries, IsUntouched, Only};
 ghost use Rattle.lfs_device.specs.MemoryDevice.{device_state};
-ghost use Rattle.lfs_fs.specs.Mounting.{IsMountFault, IsRefused};
-ghost use Rattle.lfs_script.specs.Series.{StopsAtMount, UsesInTurn, texts_of};
+ghost use Rattle.lfs_script.specs.Series.{FromAny, StopsAtMount, UsesInTurn, texts_of};
 ghost use Rattle.lfs_script.specs.Session.{Session};
+ghost use Rattle.lfs_script.specs.Unused.{IsUnused};
 
 use crate::script::{ScriptEnd, run};
 use lfs_device::{Left, MemDevice, SectorDevice};
@@ -26,14 +23,9 @@ pub fn use_volume<R: Read, W: Write, D: SectorDevice>(
     ensures ran { IfOk result.0 (λ end. Session end (R.remaining reader.old)
         (R.remaining reader.new) (W.contents writer.old) (W.contents writer.new) (D.state device)
         (D.state result.1)) }
-    ensures refused { IfErr result.0 (λ fault. (fault ≡ MountFault.NoMemory → ⊥)
-        → IsMountFault (D.state device) (D.state result.1) fault) }
-    ensures reason { IfErr result.0 (IsRefused (D.state device) (D.state result.1)) }
+    ensures refused { IfErr result.0 (IsUnused reader.old reader.new writer.old writer.new
+        (D.state device) (D.state result.1)) }
     ensures untouched { OnErr result.0 (IsUntouched (D.state device) (D.state result.1)) }
-    ensures any_moment { OnErr result.0 (LeavesOnly (D.state device) (D.state result.1)
-        (D.state device).may_leave) }
-    ensures unread { OnErr result.0 (reader.new ≡ reader.old) }
-    ensures unwritten { OnErr result.0 (writer.new ≡ writer.old) }
     ensures carries { Carries (D.state device) (D.state result.1) }
 {
     match Fs::mount(alloc, device) {
@@ -58,30 +50,15 @@ pub fn use_and_stop<R: Read, W: Write>(
     ensures ran { IfOk result.0 (λ end. Session end (R.remaining reader.old)
         (R.remaining reader.new) (W.contents writer.old) (W.contents writer.new)
         (device_state device) (device_state result.1)) }
-    ensures refused { IfErr result.0 (λ fault. (fault ≡ MountFault.NoMemory → ⊥)
-        → IsMountFault (device_state device) (device_state result.1) fault) }
-    ensures reason { IfErr result.0 (IsRefused (device_state device) (device_state result.1)) }
-    ensures left_before { OnErr result.0
-        (AllLeft (device_state result.1) (device_state device).may_leave) }
-    ensures any_moment { OnErr result.0 (LeavesOnly (device_state device) (device_state result.1)
-        (device_state device).may_leave) }
-    ensures unread { OnErr result.0 (reader.new ≡ reader.old) }
-    ensures unwritten { OnErr result.0 (writer.new ≡ writer.old) }
+    ensures refused { IfErr result.0 (IsUnused reader.old reader.new writer.old writer.new
+        (device_state device) (device_state result.1)) }
     ensures alone { Only (device_state result.1).content (device_state result.1) }
     ensures carries { Carries (device_state device) (device_state result.1) }
 {
-    match use_volume(alloc, reader, writer, device) {
-        (Ok(end), used) => {
-            let mut stopped = used;
-            stopped.crash(left);
-            (Ok(end), stopped)
-        }
-        (Err(fault), unused) => {
-            let mut stopped = unused;
-            stopped.crash(left);
-            (Err(fault), stopped)
-        }
-    }
+    let (end, used) = use_volume(alloc, reader, writer, device);
+    let mut stopped = used;
+    stopped.crash(left);
+    (end, stopped)
 }
 
 /// A script, and what the stop at its end leaves of each sector that wasn't synced.
@@ -99,26 +76,11 @@ pub fn use_each<W: Write>(
     writer: &mut W,
     device: MemDevice,
 ) -> (Result<(), MountFault>, MemDevice)
-    ensures ran { OnOk result.0 ((before : List Point) (calls : List Call) (given : List Answer)
-        → LeavesPrefix (device_state device) before calls given
-        → UsesInTurn device_state (texts_of scripts.now)
-        (record {
-          written = W.contents writer.old;
-          device = device;
-          points = before;
-          calls = calls;
-          given = given;
-        }) (W.contents writer.new) result.1) }
-    ensures stopped { IfErr result.0 (λ fault. (before : List Point) (calls : List Call)
-        (given : List Answer) → LeavesPrefix (device_state device) before calls given
-        → StopsAtMount device_state (texts_of scripts.now) fault
-        (record {
-          written = W.contents writer.old;
-          device = device;
-          points = before;
-          calls = calls;
-          given = given;
-        }) (W.contents writer.new) result.1) }
+    ensures ran { OnOk result.0 (FromAny device_state (W.contents writer.old) device (λ before.
+        UsesInTurn device_state (texts_of scripts.now) before (W.contents writer.new) result.1)) }
+    ensures stopped { IfErr result.0 (λ fault. FromAny device_state (W.contents writer.old) device
+        (λ before. StopsAtMount device_state (texts_of scripts.now) fault before
+        (W.contents writer.new) result.1)) }
 {
     let mut current = device;
     for script in scripts {

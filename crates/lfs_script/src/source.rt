@@ -97,7 +97,7 @@ impl Source {
     {
         self.start = 0;
         self.end = 0;
-        if self.budget < 4096 {
+        if self.budget < CHUNK as u64 {
             self.chunk.truncate(self.budget as usize);
         }
         if self.chunk.is_empty() {

@@ -1,8 +1,8 @@
 // A whole use of a volume by a script that ends at the first refusal.
-ghost use Rattle.std.specs.Prelude.{◌≡◌, IfOk, IfErr, OnErr};
-ghost use Rattle.lfs_model.specs.Device.{Carries, IsUntouched, LeavesOnly};
-ghost use Rattle.lfs_fs.specs.Mounting.{IsMountFault, IsRefused};
+ghost use Rattle.std.specs.Prelude.{IfOk, IfErr, OnErr};
+ghost use Rattle.lfs_model.specs.Device.{Carries, IsUntouched};
 ghost use Rattle.lfs_script.specs.Strict.{StrictSession};
+ghost use Rattle.lfs_script.specs.Unused.{IsUnused};
 
 use crate::script::{StrictEnd, run_strict};
 use lfs_device::SectorDevice;
@@ -20,14 +20,9 @@ pub fn use_volume_strict<R: Read, W: Write, D: SectorDevice>(
     ensures ran { IfOk result.0 (λ end. StrictSession end (R.remaining reader.old)
         (R.remaining reader.new) (W.contents writer.old) (W.contents writer.new) (D.state device)
         (D.state result.1)) }
-    ensures refused { IfErr result.0 (λ fault. (fault ≡ MountFault.NoMemory → ⊥)
-        → IsMountFault (D.state device) (D.state result.1) fault) }
-    ensures reason { IfErr result.0 (IsRefused (D.state device) (D.state result.1)) }
+    ensures refused { IfErr result.0 (IsUnused reader.old reader.new writer.old writer.new
+        (D.state device) (D.state result.1)) }
     ensures untouched { OnErr result.0 (IsUntouched (D.state device) (D.state result.1)) }
-    ensures any_moment { OnErr result.0 (LeavesOnly (D.state device) (D.state result.1)
-        (D.state device).may_leave) }
-    ensures unread { OnErr result.0 (reader.new ≡ reader.old) }
-    ensures unwritten { OnErr result.0 (writer.new ≡ writer.old) }
     ensures carries { Carries (D.state device) (D.state result.1) }
 {
     match Fs::mount(alloc, device) {

@@ -3,36 +3,20 @@ use Rattle.lfs_script.proofs.call.two_words.Goals as goal
 
 pub returns-clause-ok : goal.returns-clause-ok
 returns-clause-ok c =
-    let one = c.read_escaped.ensures in
-    let two = c.read_escaped-2.ensures in
     both_ok _ c.in_ok-first.first.now c.in_ok-first.second.now c.in_ok-first.ensures.ok c.read_escaped.result c.read_escaped-2.result
-    c.both.result c.both.ensures
-    (record { ok = one.ok; bytes = one.bytes; spelling = one.spelling; memory = one.memory })
-    (record { ok = two.ok; bytes = two.bytes; spelling = two.spelling; memory = two.memory })
+    c.both.result c.both.ensures c.read_escaped.ensures c.read_escaped-2.ensures
 
 pub returns-clause-bytes : goal.returns-clause-bytes
 returns-clause-bytes c =
-    let one = c.read_escaped.ensures in
-    let two = c.read_escaped-2.ensures in
     both_bytes _ c.in_ok-first.first.now c.in_ok-first.second.now c.in_ok-first.ensures.ok c.read_escaped.result c.read_escaped-2.result
-    c.both.result c.both.ensures
-    (record { ok = one.ok; bytes = one.bytes; spelling = one.spelling; memory = one.memory })
-    (record { ok = two.ok; bytes = two.bytes; spelling = two.spelling; memory = two.memory })
+    c.both.result c.both.ensures c.read_escaped.ensures c.read_escaped-2.ensures
 
 pub returns-clause-spelling : goal.returns-clause-spelling
 returns-clause-spelling c =
-    let one = c.read_escaped.ensures in
-    let two = c.read_escaped-2.ensures in
     both_spelling _ c.in_ok-first.first.now c.in_ok-first.second.now c.in_ok-first.ensures.ok c.read_escaped.result c.read_escaped-2.result
-    c.both.result c.both.ensures
-    (record { ok = one.ok; bytes = one.bytes; spelling = one.spelling; memory = one.memory })
-    (record { ok = two.ok; bytes = two.bytes; spelling = two.spelling; memory = two.memory })
+    c.both.result c.both.ensures c.read_escaped.ensures c.read_escaped-2.ensures
 
 pub returns-clause-memory : goal.returns-clause-memory
 returns-clause-memory c =
-    let one = c.read_escaped.ensures in
-    let two = c.read_escaped-2.ensures in
     both_memory _ c.in_ok-first.first.now c.in_ok-first.second.now c.in_ok-first.ensures.ok c.read_escaped.result c.read_escaped-2.result
-    c.both.result c.both.ensures
-    (record { ok = one.ok; bytes = one.bytes; spelling = one.spelling; memory = one.memory })
-    (record { ok = two.ok; bytes = two.bytes; spelling = two.spelling; memory = two.memory })
+    c.both.result c.both.ensures c.read_escaped.ensures c.read_escaped-2.ensures

@@ -23,12 +23,11 @@ loop-script-preserved g c = λ before calls given was.
 
 pub returns-in-Err-default-clause-stopped : goal.returns-in-Err-default-clause-stopped
 returns-in-Err-default-clause-stopped g c = λ before calls given was.
-    let of = c.use_and_stop.ensures in
     let is = c.in-Err-default.is-0 in
+    let unused = err_of _ _ _ is c.use_and_stop.ensures.refused in
     stops device_state c.args.scripts.now c.loop-script.script-index _ _ _ _ _ _ c.loop-script-test.true
-    (ap g.W.Write.contents (err_of _ _ _ is of.unwritten))
-    (c.loop-script.invariant before calls given was) (err_of _ _ _ is of.refused) (err_of _ _ _ is of.reason)
-    (err_of _ _ _ is of.any_moment) (err_of _ _ _ is of.left_before)
+    (ap g.W.Write.contents unused.unwritten)
+    (c.loop-script.invariant before calls given was) unused.cause unused.reason unused.any_moment unused.left
 
 pub returns-clause-ran : goal.returns-clause-ran
 returns-clause-ran g c = λ before calls given was.

@@ -17,12 +17,11 @@ loop-script-preserved g c = λ before calls given was. more_told
 
 pub returns-in-Err-default-clause-stopped : goal.returns-in-Err-default-clause-stopped
 returns-in-Err-default-clause-stopped g c = λ before calls given was.
-    let of = c.use_and_stop_told.ensures in
     let is = c.in-Err-default.is-0 in
+    let unused = err_of _ _ _ is c.use_and_stop_told.ensures.refused in
     stops_told device_state c.args.strict c.args.scripts.now c.loop-script.script-index _ _ _ _ _ _ _ _ _ c.loop-script-test.true
-    (ap g.W.Write.contents (err_of _ _ _ is of.unwritten)) (ap g.S.Witness.looks (err_of _ _ _ is of.unseen))
-    (c.loop-script.invariant before calls given was) (err_of _ _ _ is of.refused) (err_of _ _ _ is of.reason)
-    (err_of _ _ _ is of.any_moment) (err_of _ _ _ is of.left_before)
+    (ap g.W.Write.contents unused.unwritten) (ap g.S.Witness.looks (err_of _ _ _ is c.use_and_stop_told.ensures.unseen))
+    (c.loop-script.invariant before calls given was) unused.cause unused.reason unused.any_moment unused.left
 
 pub returns-clause-ran : goal.returns-clause-ran
 returns-clause-ran g c = λ before calls given was.

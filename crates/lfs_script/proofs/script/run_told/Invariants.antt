@@ -2,7 +2,7 @@ use Rattle.std.proofs.Common.{◌≤◌, slice_range, vec_capacity}
 use Rattle.std.specs.Io.KnownBytes.{prepend_known}
 use Rattle.lfs_fs.specs.Seen.{seen}
 use Rattle.lfs_script.specs.Running.{SoFar}
-use Rattle.lfs_script.proofs.script.run_lines.Given as goal
+use Rattle.lfs_script.proofs.script.run_told.Given as goal
 
 abbrev pub invariant-loop-count : goal.invariant-loop-count
 invariant-loop-count g l = (140000 ≤ vec_capacity l.line)

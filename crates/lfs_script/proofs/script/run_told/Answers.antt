@@ -3,7 +3,7 @@ use Rattle.lfs_script.specs.declared.line.LineEnd.TheVariants.{Newline, Input, T
 use Rattle.lfs_fs.proofs.ScriptRuns.{told_none, tells_more}
 use Rattle.lfs_script.proofs.ScriptTurns.{finished, finishes_of, line_ended, long_ended, no_room, numbers_end, read_fails, so_far_flushed}
 use Rattle.lfs_script.proofs.ScriptTurns.{so_far_more, looks_of, so_far_none, too_long, turned_end, turns_of}
-use Rattle.lfs_script.proofs.script.run_lines.Goals as goal
+use Rattle.lfs_script.proofs.script.run_told.Goals as goal
 
 pub returns-in_default : goal.returns-in_default
 returns-in_default g c = no_room g.D.SectorDevice.state c.args.strict (told_none g.D.SectorDevice.state g.met.D.SectorDevice.lawful)
