@@ -10,7 +10,7 @@ use Rattle.lfs_model.specs.Refusal.{Refusal}
 use Rattle.lfs_fs.specs.Refusals.{refusal_of}
 use Rattle.lfs_fs.specs.Volume.{Mounted, Serves}
 use Rattle.lfs_fs.specs.declared.error.FsError.{FsError}
-use Rattle.lfs_put.specs.declared.getting.TheConstants.{PART}
+use Rattle.lfs_model.specs.declared.limits.TheConstants.{LONGEST_TRANSFER}
 use Rattle.lfs_put.specs.declared.getting.GetFault.{GetFault}
 use Rattle.lfs_put.specs.declared.getting.GetFault.TheVariants as why
 use Rattle.lfs_put.proofs.CallLists.{serves_append}
@@ -25,7 +25,7 @@ bytes_more (q ∷ ps) p = ap (λ (bs : List ℕ). q ++ bs) (bytes_more ps p) ∙
 
 -- a read of a piece from this offset on
 abbrev read_at : ℕ → List ℕ → ℕ → List Made
-read_at handle p offset = made (Pread handle offset PART) (Data p) ∷ []
+read_at handle p offset = made (Pread handle offset LONGEST_TRANSFER) (Data p) ∷ []
 
 at_start : (o : ℕ) → o ≡ o + length {A = ℕ} []
 at_start o = omega arith
@@ -37,7 +37,7 @@ reads_more : (handle o : ℕ) (ps : List (List ℕ)) (p : List ℕ)
     → reads handle o (ps ++ p ∷ []) ≡ reads handle o ps ++ read_at handle p (o + length (concat ps))
 reads_more handle o [] p = ap (read_at handle p) (at_start o)
 reads_more handle o (q ∷ ps) p =
-    ap (λ (ms : List Made). made (Pread handle o PART) (Data q) ∷ ms)
+    ap (λ (ms : List Made). made (Pread handle o LONGEST_TRANSFER) (Data q) ∷ ms)
     (reads_more handle (o + length q) ps p ∙ ap (λ (n : ℕ). reads handle (o + length q) ps ++ read_at handle p n) (at_next o q (concat ps)))
 
 all_more : (P : List ℕ → Type 0) (ps : List (List ℕ)) (p : List ℕ) → AllByRecursion P ps → P p → AllByRecursion P (ps ++ p ∷ [])
@@ -57,7 +57,7 @@ module _ {D : Type 0} (state : D → DeviceState) where
   pub record CopyingOut (old now : Mounted D) (handle : ℕ) (w w' : Option (List ℕ)) (offset : ℕ) : Type 0 where
     pub pieces : List (List ℕ)
     pub served : ServesAll state old now (reads handle 0 pieces)
-    pub full : AllByRecursion (λ (p : List ℕ). length p ≡ PART) pieces
+    pub full : AllByRecursion (λ (p : List ℕ). length p ≡ LONGEST_TRANSFER) pieces
     pub sent : HasSent w w' pieces offset
 
   pub copying_none : (v : Mounted D) (handle : ℕ) (w : Option (List ℕ)) → CopyingOut v v handle w w 0
@@ -66,7 +66,7 @@ module _ {D : Type 0} (state : D → DeviceState) where
   -- one piece more was read and sent
   reads_one : (old mid new : Mounted D) (handle : ℕ) (w w' : Option (List ℕ)) (offset : ℕ) (so_far : CopyingOut old mid handle w w' offset)
       (piece : List ℕ)
-      → Serves state mid new (Pread handle offset PART) (Data piece)
+      → Serves state mid new (Pread handle offset LONGEST_TRANSFER) (Data piece)
       → ServesAll state old new (reads handle 0 (so_far.pieces ++ piece ∷ []))
   reads_one old mid new handle w w' offset so_far piece serves =
       let at : offset ≡ 0 + length (concat so_far.pieces) = (let same = so_far.sent.counted in omega (arith, same)) in
@@ -89,18 +89,19 @@ module _ {D : Type 0} (state : D → DeviceState) where
 
   pub copying_more : (old mid new : Mounted D) (handle : ℕ) (w w' w'' : Option (List ℕ)) (offset count end : ℕ)
       → CopyingOut old mid handle w w' offset
-      → SendsPart state mid new handle offset w' w'' (Ok count) → end ≡ offset + count → count ≡ PART → CopyingOut old new handle w w'' end
+      → SendsPart state mid new handle offset w' w'' (Ok count) → end ≡ offset + count → count ≡ LONGEST_TRANSFER
+      → CopyingOut old new handle w w'' end
   copying_more old mid new handle w w' w'' offset count end so_far (piece, serves, more, long) is full = record {
     pieces = so_far.pieces ++ piece ∷ [];
     served = reads_one old mid new handle w w' offset so_far piece serves;
-    full = all_more (λ (p : List ℕ). length p ≡ PART) so_far.pieces piece so_far.full (sym long ∙ full);
+    full = all_more (λ (p : List ℕ). length p ≡ LONGEST_TRANSFER) so_far.pieces piece so_far.full (sym long ∙ full);
     sent = sends_one w w' w'' so_far.pieces piece offset end so_far.sent more (is ∙ ap (λ (n : ℕ). offset + n) long);
   }
 
   -- the last piece is shorter
   pub copied_out : (old mid new : Mounted D) (handle : ℕ) (w w' w'' : Option (List ℕ)) (offset count end : ℕ)
       → CopyingOut old mid handle w w' offset
-      → SendsPart state mid new handle offset w' w'' (Ok count) → end ≡ offset + count → count < PART
+      → SendsPart state mid new handle offset w' w'' (Ok count) → end ≡ offset + count → count < LONGEST_TRANSFER
       → CopiesOut state old new handle w w'' (Ok end)
   copied_out old mid new handle w w' w'' offset count end so_far (piece, serves, more, long) is short = record {
     calls = reads handle 0 (so_far.pieces ++ piece ∷ []);
@@ -112,8 +113,8 @@ module _ {D : Type 0} (state : D → DeviceState) where
         front = so_far.pieces;
         last = piece;
         order = refl;
-        full = all_of (λ (p : List ℕ). length p ≡ PART) so_far.pieces so_far.full;
-        short = subst (λ (n : ℕ). n < PART) long short;
+        full = all_of (λ (p : List ℕ). length p ≡ LONGEST_TRANSFER) so_far.pieces so_far.full;
+        short = subst (λ (n : ℕ). n < LONGEST_TRANSFER) long short;
       },
       sends_one w w' w'' so_far.pieces piece offset end so_far.sent more (is ∙ ap (λ (n : ℕ). offset + n) long),
     );
@@ -154,12 +155,12 @@ module _ {D : Type 0} (state : D → DeviceState) where
   -- the calls of a read that was refused behind others
   refused_read : (old mid new : Mounted D) (handle : ℕ) (w w' : Option (List ℕ)) (offset : ℕ) (refusal : Refusal)
       (so_far : CopyingOut old mid handle w w' offset)
-      → Serves state mid new (Pread handle offset PART) (Refuse refusal)
+      → Serves state mid new (Pread handle offset LONGEST_TRANSFER) (Refuse refusal)
       → ServesAll state old new
-      (reads handle 0 so_far.pieces ++ made (Pread handle (length (concat so_far.pieces)) PART) (Refuse refusal) ∷ [])
+      (reads handle 0 so_far.pieces ++ made (Pread handle (length (concat so_far.pieces)) LONGEST_TRANSFER) (Refuse refusal) ∷ [])
   refused_read old mid new handle w w' offset refusal so_far serves =
-      let last : ServesAll state mid new (made (Pread handle (length (concat so_far.pieces)) PART) (Refuse refusal) ∷ []) =
-      subst (λ (n : ℕ). ServesAll state mid new (made (Pread handle n PART) (Refuse refusal) ∷ [])) so_far.sent.counted
+      let last : ServesAll state mid new (made (Pread handle (length (concat so_far.pieces)) LONGEST_TRANSFER) (Refuse refusal) ∷ []) =
+      subst (λ (n : ℕ). ServesAll state mid new (made (Pread handle n LONGEST_TRANSFER) (Refuse refusal) ∷ [])) so_far.sent.counted
       (new, serves, refl) in
       serves_append state old mid new (reads handle 0 so_far.pieces) _ so_far.served last
 
@@ -168,7 +169,7 @@ module _ {D : Type 0} (state : D → DeviceState) where
       → CopyingOut old mid handle w w' offset
       → SendsPart state mid new handle offset w' w'' (Err fault) → CopiesOut state old new handle w w'' (Err fault)
   copy_stops old mid new handle w w' w'' offset (why.Call refused) so_far ((refusal, serves, same), none) = record {
-    calls = reads handle 0 so_far.pieces ++ made (Pread handle (length (concat so_far.pieces)) PART) (Refuse refusal) ∷ [];
+    calls = reads handle 0 so_far.pieces ++ made (Pread handle (length (concat so_far.pieces)) LONGEST_TRANSFER) (Refuse refusal) ∷ [];
     served = refused_read old mid new handle w w' offset refusal so_far serves;
     outcome = (
       so_far.pieces,
@@ -180,7 +181,7 @@ module _ {D : Type 0} (state : D → DeviceState) where
     );
   }
   copy_stops old mid new handle w w' w'' offset (why.CutShort refused) so_far (refusal, serves, same) = record {
-    calls = reads handle 0 so_far.pieces ++ made (Pread handle (length (concat so_far.pieces)) PART) (Refuse refusal) ∷ [];
+    calls = reads handle 0 so_far.pieces ++ made (Pread handle (length (concat so_far.pieces)) LONGEST_TRANSFER) (Refuse refusal) ∷ [];
     served = refused_read old mid new handle w w' offset refusal so_far serves;
     outcome = (
       so_far.pieces,

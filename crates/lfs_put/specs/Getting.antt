@@ -9,22 +9,23 @@ use Rattle.lfs_fs.specs.Refusals.{refusal_of}
 use Rattle.lfs_fs.specs.Volume.{Mounted, Serves}
 use Rattle.lfs_fs.specs.declared.error.FsError.{FsError}
 use Rattle.lfs_put.specs.Calls.{Made, ServesAll, made}
-use Rattle.lfs_put.specs.declared.getting.TheConstants.{PART}
+use Rattle.lfs_model.specs.declared.limits.TheConstants.{LONGEST_TRANSFER}
 use Rattle.lfs_put.specs.declared.getting.GetFault.{GetFault}
 use Rattle.lfs_put.specs.declared.getting.GetFault.TheVariants as why
 
 -- the reads of these pieces from an open file, one behind the other from an offset on
 abbrev pub reads : ℕ → ℕ → List (List ℕ) → List Made
 reads handle offset [] = []
-reads handle offset (piece ∷ pieces) = made (Pread handle offset PART) (Data piece) ∷ reads handle (offset + length piece) pieces
+reads handle offset (piece ∷ pieces) = made (Pread handle offset LONGEST_TRANSFER) (Data piece)
+    ∷ reads handle (offset + length piece) pieces
 
 -- The pieces of a whole file: each is as long as a read was to be, but for the last one, which is shorter, for the file ends there.
 pub record AreWhole (pieces : List (List ℕ)) : Type 0 where
   pub front : List (List ℕ)
   pub last : List ℕ
   pub order : pieces ≡ front ++ last ∷ []
-  pub full : All (λ piece. length piece ≡ PART) front
-  pub short : length last < PART
+  pub full : All (λ piece. length piece ≡ LONGEST_TRANSFER) front
+  pub short : length last < LONGEST_TRANSFER
 
 -- The writer was given the bytes of these pieces, in order, which are so many.
 pub record HasSent (w w' : Option (List ℕ)) (pieces : List (List ℕ)) (count : ℕ) : Type 0 where
@@ -34,7 +35,8 @@ pub record HasSent (w w' : Option (List ℕ)) (pieces : List (List ℕ)) (count 
 -- the reads of some pieces, behind which there may be one that was refused
 abbrev pub ReadsTo : ℕ → List (List ℕ) → List Made → Type 0
 ReadsTo handle pieces calls = (calls ≡ reads handle 0 pieces)
-    ⊎ ((refusal : Refusal) × (calls ≡ reads handle 0 pieces ++ made (Pread handle (length (concat pieces)) PART) (Refuse refusal) ∷ []))
+    ⊎ ((refusal : Refusal)
+    × (calls ≡ reads handle 0 pieces ++ made (Pread handle (length (concat pieces)) LONGEST_TRANSFER) (Refuse refusal) ∷ []))
 
 -- by the fault: the writer was given the bytes of all pieces, which are none
 -- before a refusal that isn't cut short; or it failed, and nothing is said of it
@@ -77,15 +79,18 @@ HasGot path w w' calls (Err fault) = IsNotOpened path w w' calls fault ⊎ EndsE
 module _ {D : Type 0} (state : D → DeviceState) where
   -- a read that was refused, and the writer as it was
   abbrev pub ReadsNone : Mounted D → Mounted D → ℕ → ℕ → Option (List ℕ) → Option (List ℕ) → Type 0
-  ReadsNone old new handle offset w w' = (refusal : Refusal) × Serves state old new (Pread handle offset PART) (Refuse refusal) × (w' ≡ w)
+  ReadsNone old new handle offset w w' = (refusal : Refusal) × Serves state old new (Pread handle offset LONGEST_TRANSFER) (Refuse refusal)
+      × (w' ≡ w)
 
   -- by the result: a read of one piece, which the writer was given; or the read was refused; or the writer failed
   abbrev pub SendsPart : Mounted D → Mounted D → ℕ → ℕ → Option (List ℕ) → Option (List ℕ) → Result ℕ GetFault → Type 0
-  SendsPart old new handle offset w w' (Ok count) = (piece : List ℕ) × Serves state old new (Pread handle offset PART) (Data piece)
+  SendsPart old new handle offset w w' (Ok count) = (piece : List ℕ)
+      × Serves state old new (Pread handle offset LONGEST_TRANSFER) (Data piece)
       × Appends w w' piece × (count ≡ length piece)
   SendsPart old new handle offset w w' (Err (why.Call refused)) = ReadsNone old new handle offset w w' × (offset ≡ 0)
   SendsPart old new handle offset w w' (Err (why.CutShort refused)) = ReadsNone old new handle offset w w'
-  SendsPart old new handle offset w w' (Err why.Output) = (piece : List ℕ) × Serves state old new (Pread handle offset PART) (Data piece)
+  SendsPart old new handle offset w w' (Err why.Output) = (piece : List ℕ)
+      × Serves state old new (Pread handle offset LONGEST_TRANSFER) (Data piece)
 
   pub record CopiesOut (old new : Mounted D) (handle : ℕ) (w w' : Option (List ℕ)) (result : Result ℕ GetFault) : Type 0 where
     pub calls : List Made

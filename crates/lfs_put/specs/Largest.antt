@@ -5,6 +5,7 @@ use Rattle.std.specs.List.{list_any, range_with_len}
 use Rattle.lfs_model.specs.Call.{Call, ListTree, Refuse, Room, Rows, Space, Stat, StatOf, Status}
 use Rattle.lfs_model.specs.Device.{DeviceState}
 use Rattle.lfs_model.specs.Need.{pointers}
+use Rattle.lfs_model.specs.declared.limits.TheConstants.{NEED_OF_META}
 use Rattle.lfs_fs.specs.Answers.{row_of}
 use Rattle.lfs_fs.specs.Refusals.{refusal_of}
 use Rattle.lfs_fs.specs.Volume.{Mounted, Serves}
@@ -14,9 +15,9 @@ use Rattle.lfs_put.specs.Calls.{Made, ServesAll, made}
 use Rattle.lfs_put.specs.declared.largest.TheConstants.{BLOCK, LAST_NUMBER, MOST_BLOCKS, MOST_ENTRIES, SLOT}
 
 -- what an object adds to the need whose first blocks, so many, have a nonzero
--- byte each: these, and seven for its inode and for each block of pointers
+-- byte each: these, and the need of its inode and of each block of pointers
 abbrev pub cost_of_blocks : ℕ → ℕ
-cost_of_blocks blocks = blocks + 7 * (1 + pointers (range_with_len 0 blocks))
+cost_of_blocks blocks = blocks + NEED_OF_META * (1 + pointers (range_with_len 0 blocks))
 
 -- what a directory of so many entries adds
 abbrev pub cost_of_entries : ℕ → ℕ

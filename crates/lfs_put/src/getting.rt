@@ -5,14 +5,12 @@ ghost use Rattle.lfs_put.specs.Getting.{CopiesOut, GetsFile, SendsPart};
 
 use lfs_device::SectorDevice;
 use lfs_fs::{Fs, FsError};
+use lfs_model::limits::{LARGEST_FILE, LONGEST_TRANSFER};
 use std::io::Write;
 use thiserror::Error;
 
-/// The most bytes of one read.
-const PART: u32 = 65_536;
-
-/// How many such reads the longest file takes.
-const PARTS: u32 = 130;
+/// How many of the longest reads the longest file takes.
+const PARTS: u32 = LARGEST_FILE / LONGEST_TRANSFER + 1;
 
 /// Why a writer isn't given all bytes of a file.
 #[derive(Debug, Drop, Error)]
@@ -49,7 +47,7 @@ fn send_part<D: SectorDevice, W: Write>(
     ensures { SendsPart D.SectorDevice.state (seen fs.old) (seen fs.new) handle offset
         (W.contents output.old) (W.contents output.new) result }
 {
-    let bytes = match fs.pread(handle, offset, PART) {
+    let bytes = match fs.pread(handle, offset, LONGEST_TRANSFER) {
         Ok(bytes) => bytes,
         Err(fault) => return Err(refused(offset, fault)),
     };
@@ -74,12 +72,12 @@ fn copy_out<D: SectorDevice, W: Write>(
             Ok(count) => count,
             Err(fault) => return Err(fault),
         };
-        if count > PART as usize {
+        if count > LONGEST_TRANSFER as usize {
             // No volume answers more than it is asked for.
             return Err(GetFault::CutShort(FsError::Device));
         }
         offset += count as u64;
-        if count < PART as usize {
+        if count < LONGEST_TRANSFER as usize {
             return Ok(offset);
         }
     }

@@ -1,35 +1,40 @@
 //! How large a new file may be.
-ghost use Rattle.std.specs.Prelude.{◌≡◌, ◌≤◌, ◌<◌, ◌↔◌, IsTrue};
+ghost use Rattle.std.specs.Prelude.{◌≡◌, ◌≤◌, ◌<◌, ◌+◌, ◌↔◌, IsTrue};
 ghost use Rattle.std.specs.List.{range_with_len};
 ghost use Rattle.lfs_model.specs.Need.{pointers};
 ghost use Rattle.lfs_put.specs.Largest.{Fits, IsLargest, cost_of_blocks, cost_of_entries};
 
+use lfs_model::limits;
+use lfs_model::limits::{
+    BLOCK_POINTERS, DIRECT_BLOCKS, FILE_BLOCKS, FILE_LEAVES, NEED_OF_META, SECTOR_LEN,
+};
+
 /// The bytes of a block.
-pub const BLOCK: u64 = 512;
+pub const BLOCK: u64 = SECTOR_LEN as u64;
 
 /// The bytes of a directory's entry.
 pub const SLOT: u64 = 64;
 
 /// The most blocks of a file.
-const MOST_BLOCKS: u64 = 16_624;
+const MOST_BLOCKS: u64 = FILE_BLOCKS as u64;
 
 /// The most entries of a directory.
-pub const MOST_ENTRIES: u64 = 1_024;
+pub const MOST_ENTRIES: u64 = limits::MOST_ENTRIES as u64;
 
 /// The last number of an object.
-pub const LAST_NUMBER: u64 = 4_095;
+pub const LAST_NUMBER: u64 = limits::LAST_NUMBER as u64;
 
 /// How many blocks an inode points to itself.
-const DIRECT: u64 = 112;
+const DIRECT: u64 = DIRECT_BLOCKS as u64;
 
 /// How many blocks a block of pointers points to.
-const POINTERS: u64 = 128;
+const POINTERS: u64 = BLOCK_POINTERS as u64;
 
 // How many blocks of pointers an object has whose first blocks are all stored, so many.
 fn pointer_blocks(blocks: u64) -> u64
     requires { blocks ≤ MOST_BLOCKS }
     ensures counted { result ≡ pointers (range_with_len 0 blocks) }
-    ensures few { result ≤ 130 }
+    ensures few { result ≤ FILE_LEAVES + 1 }
 {
     if blocks <= DIRECT {
         return 0;
@@ -46,7 +51,7 @@ fn cost_of(blocks: u64) -> u64
     ensures cost { result ≡ cost_of_blocks blocks }
     ensures few { result ≤ 20000 }
 {
-    blocks + 7 * (1 + pointer_blocks(blocks))
+    blocks + NEED_OF_META * (1 + pointer_blocks(blocks))
 }
 
 // What a directory of so many entries adds to the need.

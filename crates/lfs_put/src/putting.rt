@@ -10,6 +10,7 @@ use lfs_device::SectorDevice;
 use lfs_fs::path::text::{check_text, is_dots};
 use lfs_fs::{Fs, FsError};
 use lfs_model::Kind;
+use lfs_model::limits::LONGEST_TRANSFER;
 use memchr::memrchr;
 use std::alloc::{AllocError, Global};
 use std::io::Read;
@@ -20,7 +21,7 @@ use thiserror::Error;
 pub const UNFINISHED: &[u8] = b".lfs-put";
 
 /// The most bytes that are read and written at once.
-const MOST_BYTES: usize = 65_536;
+const MOST_BYTES: usize = LONGEST_TRANSFER as usize;
 
 /// Why a file isn't put into a volume.
 #[derive(Debug, Drop, Error)]
@@ -134,10 +135,7 @@ fn want_directory<D: SectorDevice>(fs: &mut Fs<D>, path: &[u8]) -> Result<(), Pu
 fn look_for_place<D: SectorDevice>(fs: &mut Fs<D>, path: &[u8]) -> Result<(), PutFault>
     ensures { OnlyLooks D.SectorDevice.state (seen fs.old) (seen fs.new) }
 {
-    match refuse_directory(fs, path) {
-        Ok(()) => {}
-        Err(fault) => return Err(fault),
-    }
+    refuse_directory(fs, path)?;
     let above = directory_of(path);
     if above.is_empty() {
         return Ok(());
@@ -160,10 +158,8 @@ pub fn check_place<D: SectorDevice>(
 ) -> Result<(), PutFault>
     ensures { OnlyLooks D.SectorDevice.state (seen fs.old) (seen fs.new) }
 {
-    match unfinished_path(alloc, path) {
-        Ok(_) => look_for_place(fs, path),
-        Err(fault) => Err(fault),
-    }
+    unfinished_path(alloc, path)?;
+    look_for_place(fs, path)
 }
 
 // Removes what a stop left.
