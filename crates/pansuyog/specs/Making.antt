@@ -6,6 +6,7 @@ use Rattle.lfs_model.specs.Image.{IsNew, new_form}
 use Rattle.lfs_model.specs.Tree.{Dir}
 use Rattle.lfs_model.specs.TreeOf.{Stands}
 use Rattle.lfs_model.specs.Volume.{mounted}
+use Rattle.lfs_model.specs.declared.limits.TheConstants.{CHECKPOINT_SLOTS, SEGMENT_SECTORS}
 use Rattle.lfs_format.specs.Making.{MayStand}
 use Rattle.lfs_format.specs.declared.fault.FormatFault.{FormatFault}
 use Rattle.lfs_format.specs.declared.fault.FormatFault.TheVariants as format_fault
@@ -74,7 +75,7 @@ IsMade segments version old new (Ok done) =
     × Stands (queue_state new).content (mounted version ((1, Dir (new_form version) []) ∷ []))
 IsMade segments version old new (Err format_fault.Inval) = ¬ (IsSegmentCount segments × IsVersion version) × (new ≡ old)
 IsMade segments version old new (Err format_fault.TooSmall) =
-    IsSegmentCount segments × IsVersion version × ((queue_state old).size < 2 + 64 * segments) × (new ≡ old)
+    IsSegmentCount segments × IsVersion version × ((queue_state old).size < CHECKPOINT_SLOTS + SEGMENT_SECTORS * segments) × (new ≡ old)
 IsMade segments version old new (Err format_fault.Device) = (queue_state old).failures < (queue_state new).failures
 
 abbrev pub code_of_making : Result (Unit {0}) FormatFault → ℤ

@@ -3,6 +3,7 @@ use Rattle.std.specs.Prelude.{◌≡◌, ◌⊎◌, ◌<◌, ◌≤◌, ◌++◌
 use Rattle.std.specs.Prelude.{slice_index_or}
 use Rattle.lfs_model.specs.declared.Order.{Order}
 use Rattle.lfs_model.specs.declared.Order.TheVariants.{Write, Sync}
+use Rattle.lfs_model.specs.declared.limits.TheConstants.{SECTOR_LEN}
 use Rattle.lfs_fs.specs.Seen.{seen}
 use Rattle.lfs_fs.specs.Volume.{IsStill}
 use Rattle.lfs_fs.specs.declared.fs.Fs.{Fs}
@@ -42,8 +43,8 @@ told_by None = []
 abbrev pub TellsOrder : Order → ℤ → ℕ → ℕ → List ℕ → List ℕ → Type 0
 TellsOrder Sync code sector_before sector before after = (code ≡ pos 0) × (sector ≡ sector_before) × (after ≡ before)
 TellsOrder (Write at bytes) code sector_before sector before after =
-    ((512 ≤ length before) × (code ≡ pos 1) × (sector ≡ at) × (after ≡ bytes ++ drop 512 before))
-    ⊎ ((length before < 512) × (code ≡ inval) × (sector ≡ sector_before) × (after ≡ before))
+    ((SECTOR_LEN ≤ length before) × (code ≡ pos 1) × (sector ≡ at) × (after ≡ bytes ++ drop SECTOR_LEN before))
+    ⊎ ((length before < SECTOR_LEN) × (code ≡ inval) × (sector ≡ sector_before) × (after ≡ before))
 
 -- C is told of the order that has a number among all that the device was told, or that none of this number waits.
 pub data TellsNumber (told carried : List Order) (number : ℕ) (code : ℤ) (sector_before sector : ℕ) (before after : List ℕ) : Type 0 where

@@ -44,6 +44,14 @@ abbrev pub ServesBytes : Volume → Volume → Call → ℤ → List ℕ → Lis
 ServesBytes old new call code before after =
     ServesIn old.fs new.fs call (TellsBytes code before after) ((code ≡ not_mounted) × (after ≡ before))
 
+-- the volume is as it was
+abbrev pub IsUnchanged : Volume → Volume → Type 0
+IsUnchanged old new = new ≡ old
+
+-- the names that were listed last are there still
+abbrev pub KeepsListing : Volume → Volume → Type 0
+KeepsListing old new = new.listing ≡ old.listing
+
 -- all but the mounted volume is as it was
 pub record KeepsRest (old new : Volume) : Type 0 where
   pub source : new.source ≡ old.source

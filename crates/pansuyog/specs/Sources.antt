@@ -2,6 +2,7 @@
 use Rattle.std.specs.Prelude.{◌≡◌, ◌⊎◌, ◌<◌, ◌≤◌, ◌+◌, ◌/◌, ℕ, ℤ, pos, List, Option, Some, None, length, get_or, []}
 use Rattle.std.specs.Simd.{first_chunks}
 use Rattle.lfs_model.specs.Device.{Cell, SameOutside, cell_at}
+use Rattle.lfs_model.specs.declared.limits.TheConstants.{SECTOR_LEN}
 use Rattle.lfs_queue.specs.Images.{cells_of}
 use Rattle.pansuyog.specs.Codes.{inval, no_memory}
 use Rattle.pansuyog.specs.declared.handle.Source.{Source}
@@ -14,7 +15,7 @@ HoldsCells _ cells = ⊥
 
 -- the whole sectors of some bytes
 abbrev pub sectors_in : List ℕ → List (List ℕ)
-sectors_in bytes = first_chunks 512 (length bytes / 512) bytes
+sectors_in bytes = first_chunks SECTOR_LEN (length bytes / SECTOR_LEN) bytes
 
 -- The first n of these sectors were given, for those of a device from one on; all others are as they were.
 pub record AreGiven (first n : ℕ) (sectors : List (List ℕ)) (old new : List Cell) : Type 0 where

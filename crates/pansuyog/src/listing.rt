@@ -2,7 +2,7 @@
 ghost use Rattle.std.specs.Prelude.{◌≡◌, Some, slice_get};
 ghost use Rattle.lfs_model.specs.Call.{Readdir};
 ghost use Rattle.pansuyog.specs.Codes.{code_of_kind};
-ghost use Rattle.pansuyog.specs.Serving.{Answers};
+ghost use Rattle.pansuyog.specs.Serving.{Answers, IsUnchanged};
 ghost use Rattle.pansuyog.specs.Telling.{ServesListing, TellsEntry, TellsListing};
 
 use crate::bytes::put;
@@ -81,7 +81,7 @@ pub extern "C" fn pansuyog_entry(
 ) -> i32
     ensures told { TellsEntry (slice_get volume.old.value.listing.items place) result
         out.old out.new name.old name.new }
-    ensures same { volume.new.value ≡ volume.old.value }
+    ensures same { IsUnchanged volume.old.value volume.new.value }
 {
     tell_at(&volume.volume().listing, place, out, name)
 }

@@ -1,6 +1,7 @@
 //! A volume is made, mounted and unmounted.
 ghost use Rattle.std.specs.Prelude.{◌≡◌, None, IfOk, IfErr};
 ghost use Rattle.pansuyog.specs.Making.{IsNotTaken, IsTaken, Makes, MakesFrom, MountsFrom, MountsOn, Unmounts};
+ghost use Rattle.pansuyog.specs.Serving.{KeepsListing};
 ghost use Rattle.pansuyog.specs.declared.handle.Source.TheVariants as source_of;
 
 use crate::codes::{
@@ -19,7 +20,7 @@ fn take_device(alloc: Global, volume: &mut Volume, room: u32) -> Result<QueueDev
     ensures taken { IfOk result (λ device. IsTaken volume.old.source room device) }
     ensures fs { IfOk result (λ device. volume.new.fs ≡ None) }
     ensures nothing { IfOk result (λ device. volume.new.source ≡ source_of.Nothing) }
-    ensures listing { IfOk result (λ device. volume.new.listing ≡ volume.old.listing) }
+    ensures listing { IfOk result (λ device. KeepsListing volume.old volume.new) }
     ensures refused { IfErr result (λ code. IsNotTaken volume.old volume.new code) }
 {
     if volume.fs.is_some() {
@@ -73,7 +74,7 @@ fn mount_on(alloc: Global, volume: &mut Volume, device: QueueDevice) -> i32
     requires unmounted { volume.old.fs ≡ None }
     requires nothing { volume.old.source ≡ source_of.Nothing }
     ensures mounts { MountsOn device volume.new.fs volume.new.source result }
-    ensures listing { volume.new.listing ≡ volume.old.listing }
+    ensures listing { KeepsListing volume.old volume.new }
 {
     match Fs::mount(alloc, device) {
         Ok(fs) => {
@@ -106,7 +107,7 @@ pub extern "C" fn pansuyog_unmount(volume: &mut Handle) -> i32
     ensures unmounted { volume.new.value.fs ≡ None }
     ensures device { Unmounts volume.old.value.fs volume.old.value.source
         volume.new.value.source result }
-    ensures listing { volume.new.value.listing ≡ volume.old.value.listing }
+    ensures listing { KeepsListing volume.old.value volume.new.value }
 {
     let volume = volume.volume();
     match volume.fs.take() {

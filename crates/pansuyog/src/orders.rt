@@ -5,6 +5,7 @@ ghost use Rattle.lfs_model.specs.declared.Order.TheVariants as order_of;
 ghost use Rattle.lfs_queue.specs.Numbered.{HasNumber, as_told};
 ghost use Rattle.lfs_queue.specs.Queue.{carried_of, told_of};
 ghost use Rattle.pansuyog.specs.Orders.{AreRun, CarriesOut, TellsNumber, TellsOrder, TellsRun, carried_by, device_in, told_by};
+ghost use Rattle.pansuyog.specs.Serving.{IsUnchanged, KeepsListing};
 
 use crate::codes::{INVAL, NO_ORDER, NOT_MOUNTED};
 use crate::handle::{Handle, Source, Volume};
@@ -30,7 +31,7 @@ fn device_of(volume: &Volume) -> Option<&QueueDevice>
 #[unsafe(no_mangle)]
 pub extern "C" fn pansuyog_carried(volume: &mut Handle) -> u64
     ensures number { result ≡ as_told (length (carried_by (device_in volume.old.value))) }
-    ensures same { volume.new.value ≡ volume.old.value }
+    ensures same { IsUnchanged volume.old.value volume.new.value }
 {
     match device_of(volume.volume()) {
         Some(device) => device.carried(),
@@ -42,7 +43,7 @@ pub extern "C" fn pansuyog_carried(volume: &mut Handle) -> u64
 #[unsafe(no_mangle)]
 pub extern "C" fn pansuyog_told(volume: &mut Handle) -> u64
     ensures number { result ≡ as_told (length (told_by (device_in volume.old.value))) }
-    ensures same { volume.new.value ≡ volume.old.value }
+    ensures same { IsUnchanged volume.old.value volume.new.value }
 {
     match device_of(volume.volume()) {
         Some(device) => device.told(),
@@ -89,7 +90,7 @@ pub extern "C" fn pansuyog_order(
     ensures told { TellsNumber (told_by (device_in volume.old.value))
         (carried_by (device_in volume.old.value)) number result
         sector.old sector.new out.old out.new }
-    ensures same { volume.new.value ≡ volume.old.value }
+    ensures same { IsUnchanged volume.old.value volume.new.value }
 {
     match device_of(volume.volume()) {
         Some(device) => tell_number(device, number, sector, out),
@@ -172,7 +173,7 @@ pub extern "C" fn pansuyog_run(
     ensures told { TellsRun (told_by (device_in volume.old.value))
         (carried_by (device_in volume.old.value)) number result first.old first.new
         out.old out.new }
-    ensures same { volume.new.value ≡ volume.old.value }
+    ensures same { IsUnchanged volume.old.value volume.new.value }
 {
     match device_of(volume.volume()) {
         Some(device) => tell_run(device, number, first, out),
@@ -185,7 +186,7 @@ pub extern "C" fn pansuyog_run(
 pub extern "C" fn pansuyog_done(volume: &mut Handle) -> i32
     ensures done { CarriesOut volume.old.value.fs volume.new.value.fs volume.old.value.source
         volume.new.value.source result }
-    ensures listing { volume.new.value.listing ≡ volume.old.value.listing }
+    ensures listing { KeepsListing volume.old.value volume.new.value }
 {
     let volume = volume.volume();
     match &mut volume.fs {

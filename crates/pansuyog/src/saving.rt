@@ -1,8 +1,7 @@
 //! Calls on the whole volume (POSIX.1-2017: fsync, sync), and those that the volume has besides.
-ghost use Rattle.std.specs.Prelude.{◌≡◌};
 ghost use Rattle.lfs_model.specs.Call.{Fsync, Sync, Clean, Version, Upgrade};
 ghost use Rattle.pansuyog.specs.Cleaning.{CleansOnceIn, TellsDue};
-ghost use Rattle.pansuyog.specs.Serving.{KeepsRest, ServesCall};
+ghost use Rattle.pansuyog.specs.Serving.{IsUnchanged, KeepsRest, ServesCall};
 
 use crate::codes::{NOT_MOUNTED, counted, done};
 use crate::handle::Handle;
@@ -49,7 +48,7 @@ pub extern "C" fn pansuyog_clean(volume: &mut Handle) -> i32
 #[unsafe(no_mangle)]
 pub extern "C" fn pansuyog_is_cleaning_due(volume: &mut Handle) -> i32
     ensures tells { TellsDue volume.old.value.fs result }
-    ensures same { volume.new.value ≡ volume.old.value }
+    ensures same { IsUnchanged volume.old.value volume.new.value }
 {
     match &volume.volume().fs {
         Some(fs) => i32::from(fs.is_cleaning_due()),

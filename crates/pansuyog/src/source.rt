@@ -3,6 +3,7 @@ ghost use Rattle.std.specs.Prelude.{◌≡◌, ◌≤◌, ◌+◌, ◌⊎◌, �
 ghost use Rattle.lfs_queue.specs.Images.{cells_of};
 ghost use Rattle.pansuyog.specs.Codes.{no_memory};
 ghost use Rattle.pansuyog.specs.Sources.{AreGiven, Gives, HoldsCells, sectors_in};
+ghost use Rattle.pansuyog.specs.Serving.{KeepsListing};
 ghost use Rattle.pansuyog.specs.declared.handle.Source.TheVariants as source_of;
 
 use crate::codes::{INVAL, NO_MEMORY};
@@ -33,7 +34,7 @@ pub extern "C" fn pansuyog_new(alloc: Global, at: &mut *mut u8) -> i32
 fn clear(volume: &mut Volume)
     ensures unmounted { volume.new.fs ≡ None }
     ensures nothing { volume.new.source ≡ source_of.Nothing }
-    ensures listing { volume.new.listing ≡ volume.old.listing }
+    ensures listing { KeepsListing volume.old volume.new }
 {
     volume.fs = None;
     volume.source = Source::Nothing;
@@ -47,7 +48,7 @@ pub extern "C" fn pansuyog_begin(alloc: Global, volume: &mut Handle, sectors: u3
     ensures begun { ((result ≡ pos 0)
         × HoldsCells volume.new.value.source (replicate sectors None))
         ⊎ ((result ≡ no_memory) × (volume.new.value.source ≡ source_of.Nothing)) }
-    ensures listing { volume.new.value.listing ≡ volume.old.value.listing }
+    ensures listing { KeepsListing volume.old.value volume.new.value }
 {
     let volume = volume.volume();
     clear(volume);
@@ -92,7 +93,7 @@ pub extern "C" fn pansuyog_give(volume: &mut Handle, first: u32, bytes: &[u8]) -
     ensures given { Gives volume.old.value.source volume.new.value.source first
         (sectors_in bytes.now) result }
     ensures fs { volume.new.value.fs ≡ volume.old.value.fs }
-    ensures listing { volume.new.value.listing ≡ volume.old.value.listing }
+    ensures listing { KeepsListing volume.old.value volume.new.value }
 {
     match &mut volume.volume().source {
         Source::Image(image) => give(image, first, bytes),
@@ -106,7 +107,7 @@ pub extern "C" fn pansuyog_give(volume: &mut Handle, first: u32, bytes: &[u8]) -
 pub extern "C" fn pansuyog_abandon(volume: &mut Handle)
     ensures unmounted { volume.new.value.fs ≡ None }
     ensures nothing { volume.new.value.source ≡ source_of.Nothing }
-    ensures listing { volume.new.value.listing ≡ volume.old.value.listing }
+    ensures listing { KeepsListing volume.old.value volume.new.value }
 {
     clear(volume.volume());
 }
