@@ -1,8 +1,9 @@
 //! Why a line of a script is bad, for people.
-use lfs_image::fault::Fault;
-use lfs_image::printing::{put, put_count, put_word};
-use lfs_script::{
-    Command, LONGEST_LINE, WordFault, read_escaped, read_hex, read_u8, read_u32, read_u64,
+use lfs_model::limits::LONGEST_LINE;
+use lfs_recover::image::fault::Fault;
+use lfs_recover::image::printing::{put, put_count, put_word};
+use lfs_recover::script::{
+    Command, WordFault, read_escaped, read_hex, read_u8, read_u32, read_u64,
 };
 use std::alloc::Global;
 use std::io::Write;
@@ -22,62 +23,29 @@ enum Spelling {
     Escaped,
 }
 
-/// An argument of a command, by the name that the language's page gives it.
+/// An argument of a command: the name that the language's page gives it, and how it is spelt.
 #[derive(Clone, Copy)]
-pub struct Argument {
-    name: &'static str,
-    spelling: Spelling,
-}
+pub struct Argument(&'static str, Spelling);
 
-const H: Argument = Argument {
-    name: "H",
-    spelling: Spelling::Short,
-};
+const H: Argument = Argument("H", Spelling::Short);
 
-const OFF: Argument = Argument {
-    name: "OFF",
-    spelling: Spelling::Long,
-};
+const OFF: Argument = Argument("OFF", Spelling::Long);
 
-const LEN: Argument = Argument {
-    name: "LEN",
-    spelling: Spelling::Short,
-};
+const LEN: Argument = Argument("LEN", Spelling::Short);
 
-const LONG_LEN: Argument = Argument {
-    name: "LEN",
-    spelling: Spelling::Long,
-};
+const LONG_LEN: Argument = Argument("LEN", Spelling::Long);
 
-const BYTE: Argument = Argument {
-    name: "BYTE",
-    spelling: Spelling::Byte,
-};
+const BYTE: Argument = Argument("BYTE", Spelling::Byte);
 
-const HEX: Argument = Argument {
-    name: "HEX",
-    spelling: Spelling::Hex,
-};
+const HEX: Argument = Argument("HEX", Spelling::Hex);
 
-const P: Argument = Argument {
-    name: "P",
-    spelling: Spelling::Escaped,
-};
+const P: Argument = Argument("P", Spelling::Escaped);
 
-const A: Argument = Argument {
-    name: "A",
-    spelling: Spelling::Escaped,
-};
+const A: Argument = Argument("A", Spelling::Escaped);
 
-const B: Argument = Argument {
-    name: "B",
-    spelling: Spelling::Escaped,
-};
+const B: Argument = Argument("B", Spelling::Escaped);
 
-const TEXT: Argument = Argument {
-    name: "TEXT",
-    spelling: Spelling::Escaped,
-};
+const TEXT: Argument = Argument("TEXT", Spelling::Escaped);
 
 // The arguments of a command, in their order.
 fn arguments_of(command: Command) -> &'static [Argument] {
@@ -128,7 +96,8 @@ fn is_read(bytes: Result<Vec<u8>, WordFault>) -> bool {
 
 impl Argument {
     fn is_spelt(self, alloc: Global, word: &[u8]) -> bool {
-        match self.spelling {
+        let Argument(_, spelling) = self;
+        match spelling {
             Spelling::Byte => read_u8(word).is_some(),
             Spelling::Short => read_u32(word).is_some(),
             Spelling::Long => read_u64(word).is_some(),
@@ -258,11 +227,12 @@ fn put_reason<W: Write>(output: &mut W, reason: Reason<'_>) -> Result<(), Fault>
             put_arguments(output, takes, given)
         }
         Reason::Spelling { word, argument } => {
-            put(output, argument.name.as_bytes())?;
+            let Argument(name, spelling) = argument;
+            put(output, name.as_bytes())?;
             put(output, b" of ")?;
             put_shown(output, word)?;
             put(output, b" has to be ")?;
-            put_spelling(output, argument.spelling)
+            put_spelling(output, spelling)
         }
     }
 }

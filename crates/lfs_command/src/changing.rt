@@ -1,13 +1,13 @@
 //! Commands that change a volume by one call, which is saved.
 use lfs_device::{SectorDevice, World};
-use lfs_image::fault::{Ending, Fault};
-use lfs_image::image;
-use lfs_image::looking::read_path;
-use lfs_image::printing::{print, refuse};
-use lfs_image::room::refusal_of;
-use lfs_put::{clean, clean_some, make_directory, remove, rename, upgrade};
-use lfs_script::fs::{Fs, FsError};
-use lfs_script::read_u32;
+use lfs_recover::image::fault::{Ending, Fault};
+use lfs_recover::image::image;
+use lfs_recover::image::looking::read_path;
+use lfs_recover::image::printing::{print, refuse};
+use lfs_recover::image::room::refusal_of;
+use lfs_recover::put::{clean, clean_some, make_directory, remove, rename, upgrade};
+use lfs_recover::script::fs::{Fs, FsError};
+use lfs_recover::script::read_u32;
 use std::alloc::Global;
 use std::fs::File;
 use std::io::Write;

@@ -14,17 +14,17 @@ use crate::request::{Action, Request, read_request};
 use crate::simulation;
 use crate::simulation::{Plan, read_plan};
 use lfs_device::{Left, MemDevice, SectorDevice, ThisWorld, World};
-use lfs_image::fault::{Ending, Fault, Outcome, Refusal, Told};
-use lfs_image::foreign::explained;
-use lfs_image::image::Making;
-use lfs_image::looking::{end_look, show};
-use lfs_image::printing::{flush, print, put_count, refuse};
-use lfs_image::viewing::look;
-use lfs_image::{image, making};
-use lfs_recover::{explain, recover};
-use lfs_script::{
+use lfs_recover::image::fault::{Ending, Fault, Outcome, Refusal, Told};
+use lfs_recover::image::foreign::explained;
+use lfs_recover::image::image::Making;
+use lfs_recover::image::looking::{end_look, show};
+use lfs_recover::image::printing::{flush, print, put_count, refuse};
+use lfs_recover::image::viewing::look;
+use lfs_recover::image::{image, making};
+use lfs_recover::script::{
     Looks, ScriptEnd, StrictEnd, Witness, read_u32, use_and_stop_told, use_volume_told,
 };
+use lfs_recover::{explain, recover};
 use std::alloc::{AllocError, Global};
 use std::fs::File;
 use std::io::{BufWriter, Read, Write};
@@ -271,10 +271,9 @@ fn sim<I: Read, W: Write>(
     };
     let mut looks = Looks::new();
     let (played, device) = play_and_stop(alloc, device, plan.left, input, output, &mut looks);
-    match played {
-        Ok(Ending::Refused(refusal)) => Ok(Ending::Refused(refusal)),
-        Ok(played) => finish_sim(alloc, played, device, output),
-        Err(fault) => Err(fault),
+    match played? {
+        Ending::Refused(refusal) => Ok(Ending::Refused(refusal)),
+        played => finish_sim(alloc, played, device, output),
     }
 }
 

@@ -12,5 +12,5 @@ mod simulation;
 
 pub use commands::command;
 pub use lfs_device as device;
-pub use lfs_put::{PutFault, UNFINISHED, put};
-pub use lfs_script as script;
+pub use lfs_recover::put::{PutFault, UNFINISHED, put};
+pub use lfs_recover::script;

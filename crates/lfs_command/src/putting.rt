@@ -1,13 +1,13 @@
 //! The command that puts a file into a volume, from standard input or from a file of the host.
 use lfs_device::{SectorDevice, World};
-use lfs_image::fault::{Ending, Fault, Refusal};
-use lfs_image::host::HostFault;
-use lfs_image::looking::read_path;
-use lfs_image::printing::{print, put_count, refuse};
-use lfs_image::room::refusal_of;
-use lfs_image::{host, image};
-use lfs_put::{PutFault, check_place, put};
-use lfs_script::fs::Fs;
+use lfs_recover::image::fault::{Ending, Fault, Refusal};
+use lfs_recover::image::host::HostFault;
+use lfs_recover::image::looking::read_path;
+use lfs_recover::image::printing::{print_copied, refuse};
+use lfs_recover::image::room::refusal_of;
+use lfs_recover::image::{host, image};
+use lfs_recover::put::{PutFault, check_place, put};
+use lfs_recover::script::fs::Fs;
 use std::alloc::Global;
 use std::fs::File;
 use std::io::{Read, Write};
@@ -30,8 +30,7 @@ fn end_put<D: SectorDevice, W: Write>(
 ) -> Result<Ending, Fault> {
     match done {
         Ok(count) => {
-            put_count(output, b"ok ", count)?;
-            print(output, "\n")?;
+            print_copied(output, count)?;
             Ok(Ending::Done)
         }
         Err(PutFault::Call(fault)) => refuse(output, refusal_of(fs, fault)),

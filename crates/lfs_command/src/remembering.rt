@@ -1,7 +1,7 @@
 //! A reader that remembers the lines that a script may be at.
 ghost use Rattle.std.specs.Prelude.{◌≡◌, ◌<◌, vec_len};
 
-use lfs_script::LONGEST_LINE;
+use lfs_model::limits::LONGEST_LINE;
 use memchr::{memchr_iter, memrchr};
 use std::alloc::Global;
 use std::io;

@@ -13,10 +13,10 @@ use crate::putting::Source;
 use clap::error::ErrorKind;
 use clap::{ArgMatches, Error};
 use lfs_device::Left;
-use lfs_image::fault::Fault;
-use lfs_image::listing::Style;
-use lfs_image::looking::Look;
 use lfs_recover::Recovery;
+use lfs_recover::image::fault::Fault;
+use lfs_recover::image::listing::Style;
+use lfs_recover::image::looking::Look;
 use std::alloc::{AllocError, Global};
 
 /// The path that is listed where none is given.

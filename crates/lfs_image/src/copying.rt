@@ -3,7 +3,7 @@ use crate::fault::{Fault, Refusal};
 use crate::host;
 use crate::host::HostFault;
 use crate::looking::Looked;
-use crate::printing::{print, put_count};
+use crate::printing::print_copied;
 use lfs_device::SectorDevice;
 use lfs_put::{GetFault, get};
 use lfs_script::fs::{Fs, FsError};
@@ -33,10 +33,7 @@ impl From<GetFault> for CopyFault {
 
 // Copies the file of a path into an open file of the host.
 fn fill<D: SectorDevice>(fs: &mut Fs<D>, path: &[u8], mut file: File) -> Result<u64, CopyFault> {
-    match get(fs, path, &mut file) {
-        Ok(count) => Ok(count),
-        Err(fault) => Err(CopyFault::from(fault)),
-    }
+    Ok(get(fs, path, &mut file)?)
 }
 
 /// Makes a new file of the host of all bytes of the file of a path: their number. Where that fails
@@ -47,10 +44,7 @@ pub fn copy_file<D: SectorDevice, R: Files<File = File>>(
     path: &[u8],
     name: &str,
 ) -> Result<u64, CopyFault> {
-    let file = match host::make_file(rt, name) {
-        Ok(file) => file,
-        Err(fault) => return Err(CopyFault::Host(fault)),
-    };
+    let file = host::make_file(rt, name).map_err(CopyFault::Host)?;
     match fill(fs, path, file) {
         Ok(count) => Ok(count),
         Err(fault) => {
@@ -62,10 +56,8 @@ pub fn copy_file<D: SectorDevice, R: Files<File = File>>(
 
 // Looks whether a file can be opened, before one of the host is made for it.
 fn try_open<D: SectorDevice>(fs: &mut Fs<D>, path: &[u8]) -> Result<(), FsError> {
-    match fs.open(path) {
-        Ok(handle) => fs.close(handle),
-        Err(fault) => Err(fault),
-    }
+    let handle = fs.open(path)?;
+    fs.close(handle)
 }
 
 // Ends a copy: prints the number of bytes, or tells what it failed for.
@@ -77,8 +69,7 @@ fn end_copy<W: Write>(
 ) -> Result<Looked, Fault> {
     match copied {
         Ok(count) => {
-            put_count(output, b"ok ", count)?;
-            print(output, "\n")?;
+            print_copied(output, count)?;
             Ok(Looked::Done)
         }
         Err(CopyFault::Call(refusal)) => Ok(Looked::Refused(Refusal::Call(refusal))),

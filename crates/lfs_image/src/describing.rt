@@ -1,7 +1,7 @@
 //! What a volume is, for people: its space, and what lives in its segments.
 use crate::fault::{Fault, Refusal};
 use crate::looking::Looked;
-use crate::printing::{print, put, put_count};
+use crate::printing::{print, put, put_counts};
 use lfs_device::SectorDevice;
 use lfs_put::largest_new_file;
 use lfs_script::fs::{Fs, FsError, Space};
@@ -62,9 +62,7 @@ fn put_numbers<D: SectorDevice, W: Write>(
         (b"\nlimit ", space.limit),
         (b"\nfree ", room.free),
     ];
-    for (text, count) in counts {
-        put_count(output, text, count)?;
-    }
+    put_counts(output, &counts)?;
     put(
         output,
         b" bytes, in one new file\nlive blocks of each segment:",
@@ -72,14 +70,9 @@ fn put_numbers<D: SectorDevice, W: Write>(
 }
 
 fn room_of<D: SectorDevice>(fs: &mut Fs<D>) -> Result<Room, FsError> {
-    let space = match fs.space() {
-        Ok(space) => space,
-        Err(fault) => return Err(fault),
-    };
-    match largest_new_file(fs) {
-        Ok(free) => Ok(Room { space, free }),
-        Err(fault) => Err(fault),
-    }
+    let space = fs.space()?;
+    let free = largest_new_file(fs)?;
+    Ok(Room { space, free })
 }
 
 /// Describes a mounted volume.

@@ -102,10 +102,7 @@ fn copy_link<R: Files<File = File>>(rt: &R, text: &[u8], name: &str) -> Result<(
     let Ok(text) = str::from_utf8(text) else {
         return Err(CopyFault::Host(HostFault::Name));
     };
-    match host::make_link(rt, text, name) {
-        Ok(()) => Ok(()),
-        Err(fault) => Err(CopyFault::Host(fault)),
-    }
+    host::make_link(rt, text, name).map_err(CopyFault::Host)
 }
 
 // Copies an entry, of a directory itself alone.
@@ -119,13 +116,11 @@ fn copy<D: SectorDevice, R: Files<File = File>>(
     match row.kind {
         Kind::Directory => host::make_folder(rt, name).map_err(CopyFault::Host),
         Kind::Link => copy_link(rt, row.head.as_slice(), name),
-        Kind::File => match copy_file(rt, fs, export.path.as_slice(), name) {
-            Ok(bytes) => {
-                export.count(bytes);
-                Ok(())
-            }
-            Err(fault) => Err(fault),
-        },
+        Kind::File => {
+            let bytes = copy_file(rt, fs, export.path.as_slice(), name)?;
+            export.count(bytes);
+            Ok(())
+        }
     }
 }
 

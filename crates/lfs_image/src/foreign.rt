@@ -4,10 +4,8 @@ ghost use Rattle.std.specs.Prelude.{◌≡◌};
 use crate::fault::Refusal;
 use lfs_device::SectorDevice;
 use lfs_layout::Checkpoint;
+use lfs_model::limits::CHECKPOINT_SLOTS;
 use lfs_script::fs::MountFault;
-
-/// The slots of the checkpoint are the first two sectors.
-const SLOTS: u32 = 2;
 
 /// With this each checkpoint begins.
 const MAGIC: &[u8] = b"SLFSCKP1";
@@ -61,7 +59,7 @@ fn of_slots<D: SectorDevice>(fault: MountFault, device: &mut D) -> Refusal
     ensures { (D.state device.new).told ≡ (D.state device.old).told }
 {
     let mut is_foreign = true;
-    for sector in 0..SLOTS {
+    for sector in 0..CHECKPOINT_SLOTS {
         match slot_of(device, sector) {
             Slot::Other => {}
             Slot::Begun => is_foreign = false,

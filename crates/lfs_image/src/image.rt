@@ -5,6 +5,7 @@ use crate::fault::{ImageFault, Refusal};
 use crate::foreign::explained;
 use lfs_device::{FileDeviceIn, World};
 use lfs_layout::{is_segment_count, is_version};
+use lfs_model::limits::{CHECKPOINT_SLOTS, SECTOR_LEN, SEGMENT_SECTORS};
 use lfs_script::fs::{Fs, format_version};
 use std::alloc::Global;
 use std::fs::{File, Metadata, OpenOptions, TryLockError};
@@ -16,13 +17,7 @@ use std::thread::sleep;
 use std::time::{Clock, Duration};
 use std::{fs, io};
 
-const SECTOR_LEN: usize = 512;
-
 const SECTOR_BYTES: u64 = SECTOR_LEN as u64;
-
-const CHECKPOINT_SLOTS: u64 = 2;
-
-const SEGMENT_SECTORS: u64 = 64;
 
 /// Standard input, output and error.
 const STANDARD_STREAMS: usize = 3;
@@ -50,7 +45,7 @@ pub struct Making {
 fn sectors_of(segments: u32) -> u64
     ensures { result < 2 ^ 39 }
 {
-    CHECKPOINT_SLOTS + SEGMENT_SECTORS * u64::from(segments)
+    u64::from(CHECKPOINT_SLOTS) + u64::from(SEGMENT_SECTORS) * u64::from(segments)
 }
 
 /// What holds an image.
@@ -78,10 +73,7 @@ fn medium_of(metadata: &Metadata) -> Result<Medium, ImageFault> {
 // What stands under a name. It is asked before the name is opened, since opening a pipe waits for
 // its other end.
 fn look_up<R: Files<File = File>>(rt: &R, image: &str) -> Result<Medium, ImageFault> {
-    match fs::metadata(rt, image) {
-        Ok(metadata) => medium_of(&metadata),
-        Err(error) => Err(ImageFault::from(error)),
-    }
+    medium_of(&fs::metadata(rt, image)?)
 }
 
 /// Whether a file has no descriptor of a standard stream.
@@ -99,11 +91,11 @@ pub fn open_apart<R: Files<File = File>>(
 ) -> io::Result<File> {
     let mut held = [const { None }; STANDARD_STREAMS];
     for place in &mut held {
-        match how.open(rt, path) {
-            Ok(file) if is_apart(&file) => return Ok(file),
-            Ok(file) => *place = Some(file),
-            Err(error) => return Err(error),
+        let file = how.open(rt, path)?;
+        if is_apart(&file) {
+            return Ok(file);
         }
+        *place = Some(file);
     }
     how.open(rt, path)
 }
@@ -152,10 +144,7 @@ pub fn open_to_look<Here: World, R: Files<File = File>>(
     look_up(rt, image)?;
     let mut how = File::options();
     how.read(true);
-    let file = match open_apart(rt, &how, image) {
-        Ok(file) => file,
-        Err(error) => return Err(ImageFault::from(error)),
-    };
+    let file = open_apart(rt, &how, image)?;
     let beside = lock_to_look(&file);
     Ok((device_of(file)?, beside))
 }
@@ -169,14 +158,9 @@ fn to_write() -> OpenOptions {
 
 // Opens a file for writing, and locks it.
 fn open_locked<R: Files<File = File> + Clock>(rt: &R, image: &str) -> Result<File, ImageFault> {
-    let file = match open_apart(rt, &to_write(), image) {
-        Ok(file) => file,
-        Err(error) => return Err(ImageFault::from(error)),
-    };
-    match lock(rt, &file) {
-        Ok(()) => Ok(file),
-        Err(fault) => Err(fault),
-    }
+    let file = open_apart(rt, &to_write(), image)?;
+    lock(rt, &file)?;
+    Ok(file)
 }
 
 /// The device of an image that is written. It is locked until the device is dropped.
@@ -257,14 +241,13 @@ fn empty(file: &File, making: Making) -> Result<(), ImageFault> {
     let Ok(metadata) = file.metadata() else {
         return Err(ImageFault::System);
     };
-    match check_medium(&metadata, making.force) {
-        Ok(Medium::File) => clear(
+    match check_medium(&metadata, making.force)? {
+        Medium::File => clear(
             file,
             metadata.len(),
             SECTOR_BYTES * sectors_of(making.segments),
         ),
-        Ok(Medium::Blocks) => Ok(()),
-        Err(fault) => Err(fault),
+        Medium::Blocks => Ok(()),
     }
 }
 
@@ -274,10 +257,7 @@ fn open_to_make<R: Files<File = File> + Clock>(
     image: &str,
     making: Making,
 ) -> Result<File, ImageFault> {
-    let file = match open_apart(rt, to_write().create(true), image) {
-        Ok(file) => file,
-        Err(error) => return Err(ImageFault::from(error)),
-    };
+    let file = open_apart(rt, to_write().create(true), image)?;
     lock(rt, &file)?;
     empty(&file, making)?;
     if making.reserve {
@@ -287,12 +267,8 @@ fn open_to_make<R: Files<File = File> + Clock>(
 }
 
 fn format_file<Here: World>(file: File, making: Making) -> Result<(), Refusal> {
-    match device_of::<Here>(file) {
-        Ok(mut device) => format_version(&mut device, making.segments, making.version).map_err(
-            Refusal::Format,
-        ),
-        Err(fault) => Err(Refusal::Image(fault)),
-    }
+    let mut device = device_of::<Here>(file)?;
+    format_version(&mut device, making.segments, making.version).map_err(Refusal::Format)
 }
 
 // Makes a volume in what has the name, which may be nothing yet.
@@ -301,10 +277,8 @@ fn make_in<Here: World, R: Files<File = File> + Clock>(
     image: &str,
     making: Making,
 ) -> Result<(), Refusal> {
-    match open_to_make(rt, image, making) {
-        Ok(file) => format_file::<Here>(file, making),
-        Err(fault) => Err(Refusal::Image(fault)),
-    }
+    let file = open_to_make(rt, image, making)?;
+    format_file::<Here>(file, making)
 }
 
 // The folder that a file of this name is in.

@@ -17,3 +17,6 @@ mod reason;
 pub mod room;
 pub mod viewing;
 mod walking;
+
+pub use lfs_put as put;
+pub use lfs_script as script;

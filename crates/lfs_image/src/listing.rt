@@ -170,24 +170,26 @@ fn put_target<W: Write>(output: &mut W, row: &TreeRow) -> Result<(), Fault> {
     }
 }
 
+// Ends what is written in a style.
+fn put_end<W: Write>(output: &mut W, style: Style) -> Result<(), Fault> {
+    match style {
+        Style::Words | Style::Long => put(output, b"\n"),
+        Style::Raw => put(output, b"\0"),
+    }
+}
+
 // Writes an entry in a style.
 fn put_row<W: Write>(output: &mut W, style: Style, row: &TreeRow) -> Result<(), Fault> {
     match style {
-        Style::Words => {
-            put_name(output, row)?;
-            put(output, b"\n")
-        }
+        Style::Words => put_name(output, row)?,
         Style::Long => {
             put_columns(output, row.kind, row.size, row.links)?;
             put_name(output, row)?;
             put_target(output, row)?;
-            put(output, b"\n")
         }
-        Style::Raw => {
-            put(output, row.name.as_slice())?;
-            put(output, b"\0")
-        }
+        Style::Raw => put(output, row.name.as_slice())?,
     }
+    put_end(output, style)
 }
 
 // Writes the bytes of the files in a directory, and how many entries it has.
@@ -250,20 +252,14 @@ fn put_single<W: Write>(
     path: &[u8],
 ) -> Result<(), Fault> {
     match style {
-        Style::Words => {
-            put_word(output, path)?;
-            put(output, b"\n")
-        }
+        Style::Words => put_word(output, path)?,
         Style::Long => {
             put_columns(output, stat.kind, stat.size, stat.links)?;
             put_word(output, path)?;
-            put(output, b"\n")
         }
-        Style::Raw => {
-            put(output, path)?;
-            put(output, b"\0")
-        }
+        Style::Raw => put(output, path)?,
     }
+    put_end(output, style)
 }
 
 // Prints a path that is no directory's.

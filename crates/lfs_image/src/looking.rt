@@ -7,6 +7,7 @@ use crate::listing::{Style, list, tree};
 use crate::printing::{flush, print, put_count, refuse};
 use crate::room::put_free;
 use lfs_device::SectorDevice;
+use lfs_model::limits::NEED_OF_SEGMENT;
 use lfs_put::{GetFault, get};
 use lfs_script::fs::{Fs, Space, TreeRow};
 use lfs_script::{Answer, WordFault, put_reply, read_escaped};
@@ -74,9 +75,6 @@ pub fn end_look<W: Write>(looked: Looked, output: &mut W) -> Result<Ending, Faul
     }
 }
 
-/// The limit of the need, for each segment.
-pub const SEGMENT_LIMIT: u64 = 47;
-
 // Prints the reply that has these rows.
 fn put_rows<W: Write>(rows: Vec<TreeRow>, output: &mut W) -> Result<(), Fault> {
     match put_reply(output, &Ok(Answer::Tree(rows))) {
@@ -97,7 +95,7 @@ pub fn show<D: SectorDevice, W: Write>(fs: &mut Fs<D>, output: &mut W) -> Result
 }
 
 fn put_space<W: Write>(space: &Space, output: &mut W) -> Result<(), Fault> {
-    put_count(output, b"ok ", space.limit / SEGMENT_LIMIT)?;
+    put_count(output, b"ok ", space.limit / NEED_OF_SEGMENT)?;
     let counts = [
         space.data_blocks,
         space.meta_blocks,

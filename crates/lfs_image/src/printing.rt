@@ -30,6 +30,20 @@ pub fn put_count<W: Write>(output: &mut W, text: &[u8], number: u64) -> Result<(
     Ok(())
 }
 
+/// Writes numbers, each behind its text.
+pub fn put_counts<W: Write>(output: &mut W, counts: &[(&[u8], u64)]) -> Result<(), Fault> {
+    for (text, number) in counts {
+        put_count(output, text, *number)?;
+    }
+    Ok(())
+}
+
+/// Prints that so many bytes were copied.
+pub fn print_copied<W: Write>(output: &mut W, bytes: u64) -> Result<(), Fault> {
+    put_count(output, b"ok ", bytes)?;
+    print(output, "\n")
+}
+
 /// Writes bytes as a word of scripts.
 pub fn put_word<W: Write>(output: &mut W, bytes: &[u8]) -> Result<(), Fault> {
     let Ok(()) = put_escaped(output, bytes) else {

@@ -1,17 +1,18 @@
 //! How much of a volume is used and how much is free, for people.
 use crate::fault::{Fault, Refusal};
-use crate::looking::{Looked, SEGMENT_LIMIT};
-use crate::printing::{print, put_count};
+use crate::looking::Looked;
+use crate::printing::{print, put_counts};
 use lfs_device::SectorDevice;
 use lfs_model::Kind;
+use lfs_model::limits::{CHECKPOINT_SLOTS, NEED_OF_SEGMENT, SECTOR_LEN, SEGMENT_SECTORS};
 use lfs_put::largest_new_file;
 use lfs_script::fs::{Fs, FsError, TreeRow};
 use std::io::Write;
 
 /// The bytes of a segment, and of the sectors before the first one.
-const SEGMENT_BYTES: u64 = 32_768;
+const SEGMENT_BYTES: u64 = SECTOR_LEN as u64 * SEGMENT_SECTORS as u64;
 
-const FRONT_BYTES: u64 = 1_024;
+const FRONT_BYTES: u64 = SECTOR_LEN as u64 * CHECKPOINT_SLOTS as u64;
 
 /// What is told of a volume.
 #[derive(Clone, Copy)]
@@ -43,23 +44,15 @@ fn count_files(rows: &[TreeRow]) -> (u64, u64) {
 }
 
 fn room_of<D: SectorDevice>(fs: &mut Fs<D>) -> Result<Room, FsError> {
-    let space = match fs.space() {
-        Ok(space) => space,
-        Err(fault) => return Err(fault),
-    };
-    let (files, used) = match fs.tree() {
-        Ok(rows) => count_files(rows.as_slice()),
-        Err(fault) => return Err(fault),
-    };
-    match largest_new_file(fs) {
-        Ok(free) => Ok(Room {
-            segments: space.limit / SEGMENT_LIMIT,
-            files,
-            used,
-            free,
-        }),
-        Err(fault) => Err(fault),
-    }
+    let space = fs.space()?;
+    let rows = fs.tree()?;
+    let (files, used) = count_files(rows.as_slice());
+    Ok(Room {
+        segments: space.limit / NEED_OF_SEGMENT,
+        files,
+        used,
+        free: largest_new_file(fs)?,
+    })
 }
 
 fn put_room<W: Write>(room: Room, output: &mut W) -> Result<(), Fault> {
@@ -74,9 +67,7 @@ fn put_room<W: Write>(room: Room, output: &mut W) -> Result<(), Fault> {
         (b" bytes, files ", room.files),
         (b"\nfree ", room.free),
     ];
-    for (text, count) in counts {
-        put_count(output, text, count)?;
-    }
+    put_counts(output, &counts)?;
     print(output, " bytes, in one new file\n")
 }
 

@@ -26,10 +26,7 @@ fn look_once<Here: World, R: Files<File = File>, W: Write>(
         Err(fault) => return Ok((Looked::Refused(Refusal::Image(fault)), Beside::Nobody)),
     };
     match image::mount(alloc, device) {
-        Ok(fs) => match look_at(rt, alloc, fs, look, path, output) {
-            Ok(looked) => Ok((looked, beside)),
-            Err(fault) => Err(fault),
-        },
+        Ok(fs) => Ok((look_at(rt, alloc, fs, look, path, output)?, beside)),
         Err(refusal) => Ok((Looked::Refused(refusal), beside)),
     }
 }

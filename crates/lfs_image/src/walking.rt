@@ -1,10 +1,10 @@
 //! A walk over the rows of a tree, in which those of a directory stand behind its own.
-use lfs_model::Kind;
+use lfs_model::{FileNumber, Kind};
 use lfs_script::fs::TreeRow;
 use std::alloc::{AllocError, Global};
 
 /// The number of the root.
-pub const ROOT: u32 = 1;
+pub const ROOT: u32 = FileNumber::ROOT.value as u32;
 
 /// A directory whose entries are gone through, and the row of its next entry.
 #[derive(Clone, Copy)]

@@ -1,16 +1,17 @@
 //! What the blocks of files and links hold, as far as they can be read.
-ghost use Rattle.std.specs.Prelude.{◌≡◌};
+ghost use Rattle.lfs_salvage.specs.Telling.{TellsNothing};
 
 use lfs_device::SectorDevice;
 use lfs_image::host::{HostFault, made};
 use lfs_layout::Inode;
+use lfs_model::limits::SECTOR_LEN;
 use lfs_salvage::{Blocks, Gap, MOST_STEPS, Piece, Readings};
 use std::alloc::{AllocError, AllocFailed, Global};
 use std::fs::File;
 use std::os::unix::fs::FileExt;
 
 /// The bytes of a block.
-const BLOCK_LEN: u64 = 512;
+const BLOCK_LEN: u64 = SECTOR_LEN as u64;
 
 /// Why the blocks of a file don't come out.
 #[derive(Clone, Copy)]
@@ -48,7 +49,7 @@ pub fn fill<D: SectorDevice>(
     inode: &Inode,
     file: &File,
 ) -> Result<Vec<Gap>, Stop>
-    ensures { (D.state device.new).told ≡ (D.state device.old).told }
+    ensures { TellsNothing (D.state device.old) (D.state device.new) }
 {
     let mut gaps = Vec::new(alloc);
     let mut blocks = Blocks::new(readings, *inode);
@@ -76,7 +77,7 @@ pub fn text_of<D: SectorDevice>(
     readings: &mut Readings,
     inode: &Inode,
 ) -> Result<Option<Vec<u8>>, AllocError>
-    ensures { (D.state device.new).told ≡ (D.state device.old).told }
+    ensures { TellsNothing (D.state device.old) (D.state device.new) }
 {
     let mut text = Vec::new(alloc);
     let mut blocks = Blocks::new(readings, *inode);

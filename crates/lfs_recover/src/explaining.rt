@@ -1,5 +1,5 @@
 //! The command that checks a volume, and says in words where it is damaged.
-ghost use Rattle.std.specs.Prelude.{◌≡◌};
+ghost use Rattle.lfs_salvage.specs.Telling.{TellsNothing};
 
 use crate::wording::{put_damage, put_slot, put_unfinished};
 use lfs_device::{SectorDevice, World};
@@ -7,9 +7,9 @@ use lfs_image::fault::{Ending, Fault, Refusal};
 use lfs_image::image::open_to_look;
 use lfs_image::looking::Look;
 use lfs_image::printing::flush;
+use lfs_image::put::UNFINISHED;
 use lfs_image::viewing::look;
 use lfs_layout::Checkpoint;
-use lfs_put::UNFINISHED;
 use lfs_salvage::{Damage, Slot, find_damage, read_addresses, read_paths, read_slots};
 use std::alloc::{AllocError, Global};
 use std::fs::File;
@@ -23,7 +23,7 @@ fn damage_of<D: SectorDevice>(
     checkpoint: &Checkpoint,
     code: u8,
 ) -> Result<Option<Damage>, AllocError>
-    ensures { (D.state device.new).told ≡ (D.state device.old).told }
+    ensures { TellsNothing (D.state device.old) (D.state device.new) }
 {
     if code == 0 {
         return Ok(None);
@@ -42,7 +42,7 @@ fn put_places<D: SectorDevice, W: Write>(
     code: u8,
     output: &mut W,
 ) -> Result<(), Fault>
-    ensures { (D.state device.new).told ≡ (D.state device.old).told }
+    ensures { TellsNothing (D.state device.old) (D.state device.new) }
 {
     let damage = damage_of(alloc, device, checkpoint, code)?;
     let addresses = read_addresses(alloc, device, checkpoint)?;
@@ -68,7 +68,7 @@ fn explain_device<D: SectorDevice, W: Write>(
     code: u8,
     output: &mut W,
 ) -> Result<(), Fault>
-    ensures { (D.state device.new).told ≡ (D.state device.old).told }
+    ensures { TellsNothing (D.state device.old) (D.state device.new) }
 {
     let slots = read_slots(device);
     let Some(checkpoint) = slots.newest() else {

@@ -1,14 +1,11 @@
 //! Where objects of a volume are put on the host.
 use lfs_layout::Inode;
-use lfs_salvage::MOST_NUMBERS;
+use lfs_model::limits::{FILE_NUMBERS, LONGEST_PATH};
 use std::alloc::{AllocError, Global};
 use std::str;
 
 /// The folder of objects without a name, and of those whose name the host can't have.
 pub const LOST: &[u8] = b"/lost+found";
-
-/// The most bytes of a path, which those of a volume have too.
-const LONGEST_PATH: usize = 1_023;
 
 /// Paths below the folder that is made, by the numbers of the objects that stand there. The root's
 /// is empty, and so is that of an object that stands nowhere.
@@ -25,7 +22,7 @@ impl Places {
     /// Where memory runs out.
     pub fn new(alloc: Global) -> Result<Places, AllocError> {
         let mut paths = Vec::new(alloc);
-        for _ in 0..MOST_NUMBERS {
+        for _ in 0..FILE_NUMBERS {
             paths.push(Vec::new(alloc))?;
         }
         Ok(Places { paths })

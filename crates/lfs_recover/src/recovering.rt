@@ -1,5 +1,5 @@
 //! The command that copies what a damaged volume still holds.
-ghost use Rattle.std.specs.Prelude.{◌≡◌};
+ghost use Rattle.lfs_salvage.specs.Telling.{TellsNothing};
 
 use crate::rescue::Rescue;
 use crate::telling::tell_map;
@@ -9,9 +9,9 @@ use lfs_image::foreign::explained;
 use lfs_image::host;
 use lfs_image::image::{Beside, open_to_look};
 use lfs_image::printing::{flush, print, put_count, refuse};
+use lfs_image::script::fs::MountFault;
 use lfs_layout::Checkpoint;
 use lfs_salvage::read_slots;
-use lfs_script::fs::MountFault;
 use std::alloc::Global;
 use std::fs::File;
 use std::io::Write;
@@ -28,7 +28,7 @@ pub struct Recovery<'a> {
 
 // The checkpoint that a recovery begins with.
 fn chosen<D: SectorDevice>(device: &mut D, older: bool) -> Result<Checkpoint, Refusal>
-    ensures { (D.state device.new).told ≡ (D.state device.old).told }
+    ensures { TellsNothing (D.state device.old) (D.state device.new) }
 {
     let slots = read_slots(device);
     let Some(newest) = slots.newest() else {
@@ -51,7 +51,7 @@ fn take_all<D: SectorDevice, R: Files<File = File>, W: Write>(
     rescue: &mut Rescue<'_>,
     output: &mut W,
 ) -> Result<Ending, Fault>
-    ensures { (D.state device.new).told ≡ (D.state device.old).told }
+    ensures { TellsNothing (D.state device.old) (D.state device.new) }
 {
     for (block, sector) in rescue.gaps() {
         tell_map(output, *block, *sector)?;
@@ -77,7 +77,7 @@ fn recover_from<D: SectorDevice, R: Files<File = File>, W: Write>(
     folder: &str,
     output: &mut W,
 ) -> Result<Ending, Fault>
-    ensures { (D.state device.new).told ≡ (D.state device.old).told }
+    ensures { TellsNothing (D.state device.old) (D.state device.new) }
 {
     let mut rescue = Rescue::new(alloc, device, checkpoint, folder)?;
     if let Err(fault) = host::make_folder(rt, folder) {

@@ -1,5 +1,5 @@
 //! A volume that is gone through, and what came out of it so far.
-ghost use Rattle.std.specs.Prelude.{◌≡◌};
+ghost use Rattle.lfs_salvage.specs.Telling.{TellsNothing};
 
 use crate::contents::{Stop, fill, text_of};
 use crate::places::{LOST, Places, below, by_number, on_host};
@@ -11,7 +11,7 @@ use lfs_image::host::{HostFault, made};
 use lfs_layout::{Checkpoint, Inode};
 use lfs_model::Kind;
 use lfs_salvage::{
-    Addresses, Entry, Gap, Listing, MOST_NUMBERS, Object, ROOT, Readings, Walk, list, named_by,
+    Addresses, Entry, Gap, Listing, NUMBERS, Object, ROOT, Readings, Walk, list, named_by,
     read_addresses,
 };
 use std::alloc::{AllocError, Global};
@@ -80,7 +80,7 @@ impl<'a> Rescue<'a> {
         checkpoint: &Checkpoint,
         folder: &'a str,
     ) -> Result<Rescue<'a>, AllocError>
-        ensures { (D.state device.new).told ≡ (D.state device.old).told }
+        ensures { TellsNothing (D.state device.old) (D.state device.new) }
     {
         Ok(Rescue {
             folder,
@@ -122,7 +122,7 @@ impl<'a> Rescue<'a> {
         name: &str,
         output: &mut W,
     ) -> Result<Made, Fault>
-        ensures { (D.state device.new).told ≡ (D.state device.old).told }
+        ensures { TellsNothing (D.state device.old) (D.state device.new) }
     {
         let file = match host::make_file(rt, name) {
             Ok(file) => file,
@@ -161,7 +161,7 @@ impl<'a> Rescue<'a> {
         inode: &Inode,
         name: &str,
     ) -> Result<Made, Fault>
-        ensures { (D.state device.new).told ≡ (D.state device.old).told }
+        ensures { TellsNothing (D.state device.old) (D.state device.new) }
     {
         let Some(text) = text_of(alloc, device, &mut self.readings, inode)? else {
             return Ok(Made::Unfit);
@@ -184,7 +184,7 @@ impl<'a> Rescue<'a> {
         path: &[u8],
         output: &mut W,
     ) -> Result<Made, Fault>
-        ensures { (D.state device.new).told ≡ (D.state device.old).told }
+        ensures { TellsNothing (D.state device.old) (D.state device.new) }
     {
         let Some(name) = on_host(alloc, self.folder, path)? else {
             return Ok(Made::Unnamed);
@@ -246,7 +246,7 @@ impl<'a> Rescue<'a> {
         path: Option<&[u8]>,
         output: &mut W,
     ) -> Result<(), Fault>
-        ensures { (D.state device.new).told ≡ (D.state device.old).told }
+        ensures { TellsNothing (D.state device.old) (D.state device.new) }
     {
         for tries in 0..MOST_TRIES {
             let place = by_number(alloc, inode.number, tries)?;
@@ -275,7 +275,7 @@ impl<'a> Rescue<'a> {
         path: Vec<u8>,
         output: &mut W,
     ) -> Result<(), Fault>
-        ensures { (D.state device.new).told ≡ (D.state device.old).told }
+        ensures { TellsNothing (D.state device.old) (D.state device.new) }
     {
         match self.make(rt, alloc, device, inode, path.as_slice(), output)? {
             Made::Done => Ok(self.settle(inode, path)?),
@@ -333,7 +333,7 @@ impl<'a> Rescue<'a> {
         entry: &Entry,
         output: &mut W,
     ) -> Result<(), Fault>
-        ensures { (D.state device.new).told ≡ (D.state device.old).told }
+        ensures { TellsNothing (D.state device.old) (D.state device.new) }
     {
         let path = below(alloc, above, entry.name.as_slice())?;
         if !self.walk.meet(entry.number) {
@@ -376,7 +376,7 @@ impl<'a> Rescue<'a> {
         number: u32,
         output: &mut W,
     ) -> Result<(), Fault>
-        ensures { (D.state device.new).told ≡ (D.state device.old).told }
+        ensures { TellsNothing (D.state device.old) (D.state device.new) }
     {
         let Object::There(inode) = self.addresses.object(device, number) else {
             return Ok(());
@@ -398,9 +398,9 @@ impl<'a> Rescue<'a> {
         device: &mut D,
         output: &mut W,
     ) -> Result<(), Fault>
-        ensures { (D.state device.new).told ≡ (D.state device.old).told }
+        ensures { TellsNothing (D.state device.old) (D.state device.new) }
     {
-        for _ in 0..MOST_NUMBERS {
+        for _ in 0..NUMBERS {
             let Some(number) = self.walk.next_directory() else {
                 break;
             };
@@ -418,7 +418,7 @@ impl<'a> Rescue<'a> {
         number: u32,
         output: &mut W,
     ) -> Result<(), Fault>
-        ensures { (D.state device.new).told ≡ (D.state device.old).told }
+        ensures { TellsNothing (D.state device.old) (D.state device.new) }
     {
         if !self.walk.meet(number) {
             return Ok(());
@@ -439,7 +439,7 @@ impl<'a> Rescue<'a> {
         named: &[bool],
         output: &mut W,
     ) -> Result<(), Fault>
-        ensures { (D.state device.new).told ≡ (D.state device.old).told }
+        ensures { TellsNothing (D.state device.old) (D.state device.new) }
     {
         let mut number: u32 = 0;
         for is_named in named {
@@ -459,11 +459,11 @@ impl<'a> Rescue<'a> {
         device: &mut D,
         output: &mut W,
     ) -> Result<(), Fault>
-        ensures { (D.state device.new).told ≡ (D.state device.old).told }
+        ensures { TellsNothing (D.state device.old) (D.state device.new) }
     {
         let named = self.named(alloc, device)?;
         self.take_unnamed(rt, alloc, device, named.as_slice(), output)?;
-        for number in 0..MOST_NUMBERS {
+        for number in 0..NUMBERS {
             self.take_nameless(rt, alloc, device, number, output)?;
         }
         Ok(())
@@ -471,7 +471,7 @@ impl<'a> Rescue<'a> {
 
     // Whether a directory that no name led to names a number. It reads for nobody.
     fn named<D: SectorDevice>(&self, alloc: Global, device: &mut D) -> Result<Vec<bool>, AllocError>
-        ensures { (D.state device.new).told ≡ (D.state device.old).told }
+        ensures { TellsNothing (D.state device.old) (D.state device.new) }
     {
         let mut readings = self.readings.anew(alloc)?;
         named_by(alloc, device, &mut readings, &self.addresses, &self.walk)
@@ -483,7 +483,7 @@ impl<'a> Rescue<'a> {
         device: &mut D,
         output: &mut W,
     ) -> Result<(), Fault>
-        ensures { (D.state device.new).told ≡ (D.state device.old).told }
+        ensures { TellsNothing (D.state device.old) (D.state device.new) }
     {
         self.walk.meet(0);
         match self.addresses.object(device, ROOT) {
@@ -526,7 +526,7 @@ impl<'a> Rescue<'a> {
         device: &mut D,
         output: &mut W,
     ) -> Result<(), Fault>
-        ensures { (D.state device.new).told ≡ (D.state device.old).told }
+        ensures { TellsNothing (D.state device.old) (D.state device.new) }
     {
         let lost = self.make_lost(rt, alloc)?;
         self.take_root(device, output)?;

@@ -1,6 +1,7 @@
 //! What is told of a recovery, a line for each thing.
 use lfs_image::fault::Fault;
 use lfs_image::printing::{put, put_count, put_word};
+use lfs_model::limits::BLOCK_POINTERS;
 use lfs_salvage::{Gap, Place};
 use std::io::Write;
 
@@ -41,9 +42,10 @@ pub fn tell_lost<W: Write>(output: &mut W, path: &[u8], sector: u32) -> Result<(
 
 /// Writes that the inodes of a block of the map can't be found.
 pub fn tell_map<W: Write>(output: &mut W, block: u32, sector: u32) -> Result<(), Fault> {
-    let first = u64::from(block) * 128;
+    let pointers = u64::from(BLOCK_POINTERS);
+    let first = u64::from(block) * pointers;
     put_count(output, b"lost numbers ", first)?;
-    put_count(output, b" to ", first + 127)?;
+    put_count(output, b" to ", first + pointers - 1)?;
     put_count(output, b" sector ", u64::from(sector))?;
     put(output, b"\n")
 }

@@ -1,5 +1,5 @@
 use Rattle.std.proofs.Common.{ap, inl, inr}
-use Rattle.lfs_script.proofs.Used.{err_of, ok_of, told_goes_on}
+use Rattle.lfs_recover.proofs.scripts.Used.{err_of, ok_of, told_goes_on}
 use Rattle.lfs_command.proofs.commands.play_and_stop.Goals as goal
 
 pub returns-in-Ok-default-clause-plays : goal.returns-in-Ok-default-clause-plays
@@ -11,12 +11,14 @@ returns-in-Ok-default-clause-plays g c = inl (record {
 })
 
 pub returns-in-Err-default-clause-plays : goal.returns-in-Err-default-clause-plays
-returns-in-Err-default-clause-plays g c = inr (record {
-  fault = c.in-Err-default.fault;
-  reason = err_of _ _ _ c.in-Err-default.is-0 c.use_and_stop_told.ensures.reason;
-  unread = ap g.I.Read.remaining (err_of _ _ _ c.in-Err-default.is-0 c.use_and_stop_told.ensures.unread);
-  left = err_of _ _ _ c.in-Err-default.is-0 c.use_and_stop_told.ensures.left_before;
-})
+returns-in-Err-default-clause-plays g c =
+    let unused = err_of _ _ _ c.in-Err-default.is-0 c.use_and_stop_told.ensures.refused in
+    inr (record {
+      fault = c.in-Err-default.fault;
+      reason = unused.reason;
+      unread = ap g.I.Read.remaining unused.unread;
+      left = unused.left;
+    })
 
 pub end_plain-requires : goal.end_plain-requires
 end_plain-requires g c =

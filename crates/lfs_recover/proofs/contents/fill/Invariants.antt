@@ -1,6 +1,6 @@
-use Rattle.std.proofs.Common.{◌≡◌}
+use Rattle.lfs_salvage.specs.Telling.{TellsNothing}
 use Rattle.lfs_recover.proofs.contents.fill.Given as goal
 
 abbrev pub invariant-loop : goal.invariant-loop
 invariant-loop g l =
-    (g.D.SectorDevice.state l.device).told ≡ (g.D.SectorDevice.state l.initial.device).told
+    TellsNothing (g.D.SectorDevice.state l.initial.device) (g.D.SectorDevice.state l.device)

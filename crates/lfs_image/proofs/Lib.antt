@@ -1,0 +1,1 @@
+pub use Rattle.lfs_script.proofs as scripts

@@ -1,0 +1,1 @@
+pub use Rattle.lfs_script.specs as script
