@@ -8,7 +8,7 @@ returns-in-Ok c =
     record {
       outcome = Ok tt;
       number = refl;
-      made = (ensured.image tt, ensured.durable tt, ensured.volume tt);
-      carries = ensured.carries;
-      any_moment = ensured.any_moment tt;
+      made = (ensured.made.image tt, ensured.made.durable tt, ensured.made.volume tt);
+      carries = ensured.making.carries;
+      any_moment = ensured.making.any_moment tt;
     }
