@@ -1,5 +1,5 @@
 -- Commits and passes, one after the other: the log map stays, and what a stop leaves is the one or the other.
-use Rattle.std.proofs.Common.{◌≡◌, ◌≤◌, ◌+◌, ◌*◌, inl, inr, ⊎_elim, ℕ, zero, suc, false, List, length, refl, sym, ◌∙◌, ap, subst}
+use Rattle.std.proofs.Common.{◌≡◌, ◌<◌, ◌≤◌, ◌+◌, ◌*◌, inl, inr, ⊎_elim, ℕ, zero, suc, false, List, [], length, refl, sym, ◌∙◌, ap, subst}
 use Rattle.std.proofs.Common.{arith}
 use Rattle.std.specs.Prelude.{◌⊎◌}
 use Rattle.lfs_model.specs.Checkpoint.{CheckpointValue}
@@ -19,10 +19,9 @@ use Rattle.lfs_log.proofs.of_memory.Looses.{loose, tight_again}
 use Rattle.lfs_log.proofs.of_memory.Presents.{looks_quiet, still_log}
 use Rattle.lfs_log.proofs.Volumes.{same_segments}
 use Rattle.lfs_log.specs.Cleaning.{Cleans}
-use Rattle.lfs_log.specs.Held.{Held, Halts, Holds, IsReadFault, IsSaved, LeavesSaved, Reads, Saves}
+use Rattle.lfs_log.specs.Held.{Held, Halts, Holds, IsReadFault, IsSaved, LeavesSaved, Reads, Saves, waiting_in}
 use Rattle.lfs_log.specs.segments.Early.{AreUntaken}
-use Rattle.lfs_cleaner.specs.Room.{Acknowledges, HaltsLater, HoldsOver, IsAtRest, IsRoomFault, KeepsMap, PassesInNeed, PassesOn, Repeats}
-use Rattle.lfs_cleaner.specs.Room.{SavesAll}
+use Rattle.lfs_cleaner.specs.Room.{HaltsLater, HoldsOver, IsAtRest, IsRoomFault, KeepsMap, PassesInNeed, Repeats, SavesAll, WorksOn}
 
 module _ {D : Type 0} (state : D → DeviceState) where
   -- ---- one step
@@ -89,10 +88,10 @@ module _ {D : Type 0} (state : D → DeviceState) where
   }
 
   pub saves_all : (h h' : Held D) → Saves state h h' → SavesAll state h h'
-  saves_all h h' s = record { rest = rest_saves h h' s; holds = s.holds }
+  saves_all h h' s = record { empty = s.empty; untaken = s.untaken; holds = s.holds }
 
   pub cleans_all : (h h' : Held D) (vs : List ℕ) → Cleans state h h' vs → SavesAll state h h'
-  cleans_all h h' vs s = record { rest = rest_cleans h h' vs s; holds = s.holds }
+  cleans_all h h' vs s = record { empty = s.empty; untaken = s.untaken; holds = s.holds }
 
   saved_over : (h h' : Held D) → length h'.memory.usage.segments ≡ length h.memory.usage.segments → SavesAll state h h'
       → (k : CheckpointValue) (m0 m : LogMap) → (state h'.device).keeps_model → Holds state h k m0 m → IsLogMap (dropped m)
@@ -201,7 +200,8 @@ module _ {D : Type 0} (state : D → DeviceState) where
 
     pub saved_then : Carries (state b.device) (state c.device) → SavesAll state b c → SavesAll state a c
     saved_then after all = record {
-      rest = all.rest;
+      empty = all.empty;
+      untaken = all.untaken;
       holds = λ k m0 m keeps is map.
           let over = one.holds k m0 m (after.kept_before keeps) is map in
           all.holds over.checkpoint over.acknowledged m keeps over.holds map;
@@ -254,17 +254,25 @@ module _ {D : Type 0} (state : D → DeviceState) where
   pub read_fault : (a b : Held D) → IsReadFault state a b → IsRoomFault state a b
   read_fault a b failed k m0 m keeps is map = failed k m0 m keeps is
 
-  -- ---- passes that are done
+  -- ---- commits and passes that are done
   pub repeats_none : (h : Held D) → IsLawful (state h.device) → h.halted ≡ false → Repeats state h h 0
   repeats_none h lawful running =
-      record { passes = (0, omega arith, refl); keeps = keeps_none h lawful running; no_failure = refl; saved = inl refl }
+      record { works = (0, omega arith, refl); keeps = keeps_none h lawful running; no_failure = refl; saved = inl refl }
+
+  pub repeats_saves : (h h' : Held D) → 0 < waiting_in h → Saves state h h' → h'.totals ≡ h.totals → Repeats state h h' 1
+  repeats_saves h h' some s totals = record {
+    works = (1, omega arith, (h, refl, inl (some, s)));
+    keeps = keeps_saves h h' s totals;
+    no_failure = s.no_failure;
+    saved = inr (saves_all h h' s);
+  }
 
   pub repeats_passes : (h h' : Held D) → PassesInNeed state h h' → h'.totals ≡ h.totals → Repeats state h h' 1
   repeats_passes h h' need totals =
       let vs = need.passes.victims in
       let s = need.passes.cleans in
       record {
-        passes = (1, omega arith, (h, refl, need));
+        works = (1, omega arith, (h, refl, inr need));
         keeps = keeps_cleans h h' vs s totals;
         no_failure = s.no_failure;
         saved = inr (cleans_all h h' vs s);
@@ -272,29 +280,29 @@ module _ {D : Type 0} (state : D → DeviceState) where
 
   pub repeats_weaker : (a b : Held D) (x y : ℕ) → Repeats state a b x → x ≤ y → Repeats state a b y
   repeats_weaker a b x y one le = record {
-    passes = (let w = one.passes in let few = w.1 in (w.0, omega (arith, few, le), w.2));
+    works = (let w = one.works in let few = w.1 in (w.0, omega (arith, few, le), w.2));
     keeps = keeps_weaker a b x y one.keeps le;
     no_failure = one.no_failure;
     saved = one.saved;
   }
 
   -- what was done first, and then the rest
-  passes_then : (a b c : Held D) (x y : ℕ) → PassesOn state x a b → PassesOn state y b c
-      → (count : ℕ) × (count ≤ x + y) × PassesOn state count a c
-  passes_then a b c x zero one two = (x, omega arith, subst (λ (h : Held D). PassesOn state x a h) (sym two) one)
-  passes_then a b c x (suc y) one two =
-      let rest = passes_then a b two.0 x y one two.1 in
+  works_then : (a b c : Held D) (x y : ℕ) → WorksOn state x a b → WorksOn state y b c
+      → (count : ℕ) × (count ≤ x + y) × WorksOn state count a c
+  works_then a b c x zero one two = (x, omega arith, subst (λ (h : Held D). WorksOn state x a h) (sym two) one)
+  works_then a b c x (suc y) one two =
+      let rest = works_then a b two.0 x y one two.1 in
       let few = rest.1 in
       (suc rest.0, omega (arith, few), (two.0, rest.2, two.2))
 
   pub repeats_then : (a b c : Held D) (x y : ℕ) → Repeats state a b x → Repeats state b c y → Repeats state a c (x + y)
   repeats_then a b c x y one two = record {
-    passes =
-        let w = one.passes in
-        let w' = two.passes in
+    works =
+        let w = one.works in
+        let w' = two.works in
         let few = w.1 in
         let few' = w'.1 in
-        let both = passes_then a b c w.0 w'.0 w.2 w'.2 in
+        let both = works_then a b c w.0 w'.0 w.2 w'.2 in
         let all = both.1 in
         (both.0, omega (arith, few, few', all), both.2);
     keeps = keeps_then a b c x one.keeps y two.keeps;
@@ -304,12 +312,3 @@ module _ {D : Type 0} (state : D → DeviceState) where
         (λ (all : SavesAll state b c). inr (saved_then a b c x one.keeps two.keeps.carries all))
         two.saved;
   }
-
-  -- what a commit acknowledged stays so
-  pub acknowledges_still : (a b c : Held D) (x : ℕ) → Acknowledges state a b → KeepsMap state b c x → Acknowledges state a c
-  acknowledges_still a b c x all passes k m0 m keeps is map =
-      let first = all k m0 m (passes.carries.kept_before keeps) is map in
-      let over = passes.holds first.0 (dropped m) m keeps first.1 map in
-      let same : over.acknowledged ≡ dropped m = ⊎_elim (λ (old : over.acknowledged ≡ dropped m). old)
-      (λ (new : over.acknowledged ≡ dropped m). new) over.either in
-      (over.checkpoint, subst (λ (l : LogMap). Holds state c over.checkpoint l m) same over.holds)

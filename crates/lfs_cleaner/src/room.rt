@@ -1,14 +1,13 @@
 //! Room in the log: what is unsaved is committed, and passes of the cleaner follow until a quarter
 //! of the segments is clean.
-ghost use Rattle.std.specs.Prelude.{◌≡◌, ◌≢◌, ◌<◌, ◌≤◌, ◌+◌, ◌*◌, ◌/◌, true, false, length, OnOk, OnErr, IsErrOf, IsTrue, IsFalse};
+ghost use Rattle.std.specs.Prelude.{◌≡◌, ◌≢◌, ◌<◌, ◌≤◌, ◌+◌, ◌*◌, ◌/◌, true, false, [], length, OnOk, IsErrOf, IsTrue, IsFalse};
 ghost use Rattle.lfs_log.specs.memory.segments.Table.{clean_in};
-ghost use Rattle.lfs_log.specs.Held.{Halts, IsFull, AreAllSaved};
-ghost use Rattle.lfs_cleaner.specs.Room.{CleansQuarter, FailsPasses, FailsRoom, HaltsLater, HasQuarter, IsReadied, LacksPasses, LacksRoom, Repeats, commits_due, most_checkpoints, passes_orders, room_orders};
+ghost use Rattle.lfs_log.specs.Held.{Halts, IsFull, AreAllSaved, waiting_in};
+ghost use Rattle.lfs_cleaner.specs.Room.{CleansQuarter, CommitsUnsaved, HaltsLater, HasQuarter, IsReadied, IsRoomFault, KeepsMap, MayNotMakeRoom, Repeats, most_checkpoints, passes_orders, room_orders};
 ghost use Rattle.lfs_log.specs.Saving.{commit_orders};
 
 use crate::passing::pass;
 use lfs_device::SectorDevice;
-use lfs_log::thresholds::{is_quarter_clean, most_passes};
 use lfs_log::{Log, LogFault};
 
 /// Whether a quarter of the segments is clean.
@@ -17,7 +16,7 @@ pub fn has_quarter<D: SectorDevice>(log: &Log<D>) -> bool
     ensures no { IsFalse result → 4 * clean_in log.now.memory.usage.segments
         < length log.now.memory.usage.segments }
 {
-    is_quarter_clean(log.usage())
+    u64::from(log.segments()) <= 4 * u64::from(log.clean_segments())
 }
 
 /// Passes until a quarter of the segments is clean, an eighth of them times at most, for each pass
@@ -34,19 +33,21 @@ fn pass_until_quarter<D: SectorDevice>(log: &mut Log<D>) -> Result<(), LogFault>
         (length log.old.memory.usage.segments / 8)) }
     ensures enough { OnOk result (HasQuarter log.new) }
     ensures totals { log.new.totals ≡ log.old.totals }
-    ensures full { IsErrOf result LogFault.Full
-        → LacksPasses D.SectorDevice.state log.old log.new
+    ensures full { IsErrOf result LogFault.Full → KeepsMap D.SectorDevice.state log.old log.new
         (length log.old.memory.usage.segments / 8) }
-    ensures device { IsErrOf result LogFault.Device
-        → FailsPasses D.SectorDevice.state log.old log.new
+    ensures lacks { IsErrOf result LogFault.Full
+        → MayNotMakeRoom D.SectorDevice.state log.old log.new }
+    ensures kept { IsErrOf result LogFault.Device → KeepsMap D.SectorDevice.state log.old log.new
         (length log.old.memory.usage.segments / 8) }
+    ensures failed { IsErrOf result LogFault.Device
+        → IsRoomFault D.SectorDevice.state log.old log.new }
     ensures halted { IsErrOf result LogFault.Halted
         → HaltsLater D.SectorDevice.state log.old log.new
         (length log.old.memory.usage.segments / 8) }
     ensures told { length (D.state log.new.device).told ≤ length (D.state log.old.device).told
         + passes_orders (length log.old.memory.usage.segments) }
 {
-    let most = most_passes(log.usage());
+    let most = log.segments() / 8;
     for _ in 0..most {
         if has_quarter(log) {
             return Ok(());
@@ -62,81 +63,63 @@ fn pass_until_quarter<D: SectorDevice>(log: &mut Log<D>) -> Result<(), LogFault>
     Err(LogFault::Full)
 }
 
-/// Whether a commit comes before passes: something isn't saved, as the caller knows, or waits for a
-/// checkpoint.
-fn is_commit_due<D: SectorDevice>(log: &Log<D>, saved: bool) -> bool
-    ensures yes { IsTrue result → 0 < commits_due log.now saved }
-    ensures no { IsFalse result → (saved ≡ true) × AreAllSaved log.now }
-{
-    if !saved {
-        return true;
-    }
-    !log.is_saved()
-}
-
-/// Commits what isn't saved, where anything isn't: then all is.
+/// Commits what waits for a checkpoint, where anything does.
 ///
 /// # Errors
 ///
 /// As those of `Log::commit`.
-pub(crate) fn commit_unsaved<D: SectorDevice>(
-    log: &mut Log<D>,
-    saved: &mut bool,
-) -> Result<(), LogFault>
+pub(crate) fn commit_unsaved<D: SectorDevice>(log: &mut Log<D>) -> Result<(), LogFault>
     requires { log.old.halted ≡ false }
-    ensures done { OnOk result (IsReadied D.SectorDevice.state log.old saved.old log.new) }
-    ensures saved { OnOk result (saved.new ≡ true) }
-    ensures kept { OnErr result (saved.new ≡ saved.old) }
+    ensures done { OnOk result (IsReadied D.SectorDevice.state log.old log.new) }
+    ensures once { OnOk result (CommitsUnsaved D.SectorDevice.state log.old log.new) }
     ensures totals { log.new.totals ≡ log.old.totals }
-    ensures full { IsErrOf result LogFault.Full → (log.new ≡ log.old) × IsFull log.old
-        × (0 < commits_due log.old saved.old) }
+    ensures full { IsErrOf result LogFault.Full → (log.new ≡ log.old) × IsFull log.old }
+    ensures waiting { IsErrOf result LogFault.Full → 0 < waiting_in log.old }
     ensures halted { IsErrOf result LogFault.Halted → Halts D.SectorDevice.state log.old log.new }
     ensures other { IsErrOf result LogFault.Device → ⊥ }
     ensures told { length (D.state log.new.device).told
         ≤ length (D.state log.old.device).told + commit_orders }
-    ensures quiet { saved.old ≡ true → AreAllSaved log.old → log.new ≡ log.old }
+    ensures quiet { AreAllSaved log.old → log.new ≡ log.old }
 {
-    if !is_commit_due(log, *saved) {
+    if log.is_saved() {
         return Ok(());
     }
     match log.commit() {
-        Ok(()) => {
-            *saved = true;
-            Ok(())
-        }
+        Ok(()) => Ok(()),
         Err(fault) => Err(fault),
     }
 }
 
-/// Makes a quarter of the segments clean, where fewer are: a commit saves what isn't saved, by
-/// `saved` or as it waits for a checkpoint, and passes of the cleaner follow, each of which gains a
-/// segment, an eighth of all segments times at most. It takes no memory.
+/// Makes a quarter of the segments clean, where fewer are: a commit saves what is unsaved, and
+/// passes of the cleaner follow, each of which gains a segment, an eighth of all segments times at
+/// most. It takes no memory.
 ///
 /// # Errors
 ///
 /// With the log map as it was: `Full` where a commit finds too few clean segments, or no pass gains
 /// one, `Device` where a call of the device failed before anything more was written. `Halted` where
 /// one failed later, or as the log was written before.
-pub fn make_room<D: SectorDevice>(log: &mut Log<D>, saved: &mut bool) -> Result<(), LogFault>
-    ensures done { OnOk result (CleansQuarter D.SectorDevice.state log.old saved.old
-        log.new saved.new) }
+pub fn make_room<D: SectorDevice>(log: &mut Log<D>) -> Result<(), LogFault>
+    ensures done { OnOk result (CleansQuarter D.SectorDevice.state log.old log.new) }
     ensures totals { log.new.totals ≡ log.old.totals }
-    ensures full { IsErrOf result LogFault.Full
-        → LacksRoom D.SectorDevice.state log.old saved.old log.new saved.new }
-    ensures device { IsErrOf result LogFault.Device
-        → FailsRoom D.SectorDevice.state log.old saved.old log.new saved.new }
+    ensures full { IsErrOf result LogFault.Full → KeepsMap D.SectorDevice.state log.old log.new
+        (most_checkpoints log.old) }
+    ensures lacks { IsErrOf result LogFault.Full
+        → MayNotMakeRoom D.SectorDevice.state log.old log.new }
+    ensures kept { IsErrOf result LogFault.Device → KeepsMap D.SectorDevice.state log.old log.new
+        (most_checkpoints log.old) }
+    ensures failed { IsErrOf result LogFault.Device
+        → IsRoomFault D.SectorDevice.state log.old log.new }
+    ensures halted { IsErrOf result LogFault.Halted → log.old.halted ≢ true
+        → HaltsLater D.SectorDevice.state log.old log.new (most_checkpoints log.old) }
+    ensures still { log.old.halted ≡ true → (log.new ≡ log.old)
+        × IsErrOf result LogFault.Halted }
     ensures told { length (D.state log.new.device).told ≤ length (D.state log.old.device).told
         + room_orders (length log.old.memory.usage.segments) }
-    ensures halted { IsErrOf result LogFault.Halted → log.old.halted ≢ true
-        → HaltsLater D.SectorDevice.state log.old log.new (most_checkpoints log.old saved.old) }
-    ensures still { log.old.halted ≡ true → (log.new ≡ log.old) × (saved.new ≡ saved.old)
-        × IsErrOf result LogFault.Halted }
-    ensures passes { saved.old ≡ true → AreAllSaved log.old
-        → length (D.state log.new.device).told ≤ length (D.state log.old.device).told
+    ensures saved { AreAllSaved log.old → length (D.state log.new.device).told
+        ≤ length (D.state log.old.device).told
         + passes_orders (length log.old.memory.usage.segments) }
-    ensures quiet { HasQuarter log.old → (log.new ≡ log.old) × (saved.new ≡ saved.old) }
-    ensures unsaved { (IsErrOf result LogFault.Halted → ⊥) → saved.new ≡ false
-        → log.new ≡ log.old }
+    ensures quiet { HasQuarter log.old → log.new ≡ log.old }
 {
     if log.is_halted() {
         return Err(LogFault::Halted);
@@ -144,7 +127,7 @@ pub fn make_room<D: SectorDevice>(log: &mut Log<D>, saved: &mut bool) -> Result<
     if has_quarter(log) {
         return Ok(());
     }
-    match commit_unsaved(log, saved) {
+    match commit_unsaved(log) {
         Ok(()) => {}
         Err(fault) => return Err(fault),
     }
