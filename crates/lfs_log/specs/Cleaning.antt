@@ -2,6 +2,7 @@
 use Rattle.std.specs.Prelude.{◌≡◌, ◌<◌, ◌≤◌, ◌+◌, ◌*◌, ◌-◌, ◌/◌, ℕ, false, List, [], length, get_or, Some}
 use Rattle.lfs_model.specs.Checkpoint.{CheckpointValue}
 use Rattle.lfs_model.specs.Crash.{StandsOn}
+use Rattle.lfs_model.specs.declared.limits.TheConstants.{CHUNK_BLOCKS, TABLE_BLOCKS}
 use Rattle.lfs_model.specs.Device.{DeviceState, Carries, AllLeft}
 use Rattle.lfs_model.specs.Encodes.{IsLogMap}
 use Rattle.lfs_model.specs.Members.{IsIn}
@@ -41,7 +42,7 @@ pub record Empties (d d' : DeviceState) (v v' : LogMemory) (vs : List ℕ) : Typ
 
 -- how many blocks of files a pass over so many segments may bring into memory: with all blocks of the tables they fill fewer segments
 abbrev pub most_brought : ℕ → ℕ
-most_brought count = 63 * (count - 1) - 48
+most_brought count = CHUNK_BLOCKS * (count - 1) - TABLE_BLOCKS
 
 -- memory that takes so many blocks of files
 abbrev pub limited : LogMemory → ℕ → LogMemory

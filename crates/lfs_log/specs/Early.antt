@@ -1,6 +1,7 @@
 -- What is written between commits: full chunks of data blocks, in segments that the acknowledged checkpoint doesn't reach.
 use Rattle.std.specs.Prelude.{◌≡◌, ◌<◌, ◌≤◌, ◌+◌, ℕ, [], length}
 use Rattle.lfs_model.specs.Device.{DeviceState}
+use Rattle.lfs_model.specs.declared.limits.TheConstants.{CHUNK_BLOCKS}
 use Rattle.lfs_memory.specs.segments.Table.{kept_of, clean_in}
 use Rattle.lfs_memory.specs.segments.Chunk.{room_behind}
 use Rattle.lfs_memory.specs.segments.Early.{early_in}
@@ -11,7 +12,7 @@ use Rattle.lfs_log.specs.Saving.{orders_for, segments_for}
 
 -- how many blocks a chunk has that fills a segment
 abbrev pub full_chunk : ℕ
-full_chunk = 63
+full_chunk = CHUNK_BLOCKS
 
 -- The acknowledged checkpoint reaches no sector of the segment that the next block goes to: the chunk that has begun stands in such a
 -- one, and no chunk begins behind the last.

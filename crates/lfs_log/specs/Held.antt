@@ -5,6 +5,7 @@ use Rattle.std.specs.Prelude.{refl, Option, None}
 use Rattle.std.specs.Coded.{Coded, code_by, coded×, coded_ℕ, coded_bool, coded_list, coded_option}
 use Rattle.lfs_model.specs.declared.BlockKind.{BlockKind}
 use Rattle.lfs_model.specs.declared.BlockKind.TheVariants as kind
+use Rattle.lfs_model.specs.declared.limits.TheConstants.{CHUNK_BLOCKS, FILE_NUMBERS, MOST_UNSAVED, TABLE_BLOCKS}
 use Rattle.lfs_model.specs.Checkpoint.{CheckpointValue}
 use Rattle.lfs_model.specs.Content.{Content}
 use Rattle.lfs_model.specs.Crash.{StandsOn, StandsForOn}
@@ -141,10 +142,10 @@ pub record IsRunning (d : DeviceState) (v : LogMemory) : Type 0 where
   pub memory : IsMemory v
   pub room : HasRoom d v
   pub closed : v.chunk.names ≡ []
-  pub few : length v.dirty.blocks ≤ 456
-  pub wide : v.dirty.capacity.limit ≡ 456
+  pub few : length v.dirty.blocks ≤ MOST_UNSAVED
+  pub wide : v.dirty.capacity.limit ≡ MOST_UNSAVED
   -- memory for all that a cleaning pass may bring there
-  pub reserved : v.dirty.capacity.room + 48 ≡ 63 * (length v.usage.segments / 8)
+  pub reserved : v.dirty.capacity.room + TABLE_BLOCKS ≡ CHUNK_BLOCKS * (length v.usage.segments / 8)
 
 -- and it has memory to keep the tables in, while a pass of the cleaner runs
 pub record IsReadyToPass (d : DeviceState) (v : LogMemory) (before : UsageTable) : Type 0 where
@@ -336,13 +337,13 @@ module _ {D : Type 0} (state : D → DeviceState) where
   -- n is the least number that no file has
   pub record IsVacant (h : Held D) (n : ℕ) : Type 0 where
     pub some : 1 ≤ n
-    pub few : n < 4096
+    pub few : n < FILE_NUMBERS
     pub free : (k : CheckpointValue) (m0 m : LogMap) → Holds h k m0 m → m.header n ≡ None
     pub least : (k : CheckpointValue) (m0 m : LogMap) → Holds h k m0 m → (l : ℕ) → 1 ≤ l → l < n → HasInode m l
 
   -- each number has a file
   abbrev pub HasAll : Held D → Type 0
-  HasAll h = (k : CheckpointValue) (m0 m : LogMap) → Holds h k m0 m → (l : ℕ) → 1 ≤ l → l < 4096 → HasInode m l
+  HasAll h = (k : CheckpointValue) (m0 m : LogMap) → Holds h k m0 m → (l : ℕ) → 1 ≤ l → l < FILE_NUMBERS → HasInode m l
 
   -- all log maps that the log holds are one, and so are those that it acknowledged
   pub record HoldsOne (h : Held D) : Type 0 where

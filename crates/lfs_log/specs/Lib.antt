@@ -8,6 +8,7 @@ pub mod Cleaning
 pub mod Telling
 pub mod Early
 pub mod Thresholds
+pub mod Keeping
 pub mod Versions
 pub use Rattle.lfs_memory.specs as memory
 pub use Rattle.lfs_memory.specs.files

@@ -1,6 +1,7 @@
 -- What a mount makes of the tables: the memory of a log that runs.
 use Rattle.std.specs.Prelude.{◌≡◌, ◌≤◌, ◌+◌, ◌*◌, ◌/◌, ℕ, [], length, None}
 use Rattle.lfs_model.specs.Device.{DeviceState}
+use Rattle.lfs_model.specs.declared.limits.TheConstants.{CHECKPOINT_SLOTS, CHUNK_BLOCKS, MOST_UNSAVED, SEGMENT_SECTORS, TABLE_BLOCKS}
 use Rattle.lfs_model.specs.Stands.{LogMap, StandsLog}
 use Rattle.lfs_model.specs.Totals.{IsCounted}
 use Rattle.lfs_verify.specs.declared.totals.BlockTotals.{BlockTotals}
@@ -10,13 +11,13 @@ use Rattle.lfs_memory.specs.Memory.{IsMemory, IsLog}
 -- a mount's memory
 pub record IsOpened (v : LogMemory) (size : ℕ) : Type 0 where
   pub memory : IsMemory v
-  pub room : 2 + 64 * length v.usage.segments ≤ size
+  pub room : CHECKPOINT_SLOTS + SEGMENT_SECTORS * length v.usage.segments ≤ size
   pub chunk : v.chunk.names ≡ []
   -- so the first chunk begins in a clean segment
   pub last : v.usage.last ≡ None
   pub dirty : v.dirty.blocks ≡ []
-  pub wide : v.dirty.capacity.limit ≡ 456
-  pub reserved : v.dirty.capacity.room + 48 ≡ 63 * (length v.usage.segments / 8)
+  pub wide : v.dirty.capacity.limit ≡ MOST_UNSAVED
+  pub reserved : v.dirty.capacity.room + TABLE_BLOCKS ≡ CHUNK_BLOCKS * (length v.usage.segments / 8)
 
 -- The device holds the log map that it stands for, all of it durable.
 abbrev pub Opens : DeviceState → DeviceState → LogMemory → ℕ → ℕ → Type 0

@@ -2,6 +2,7 @@
 use Rattle.std.specs.Prelude.{◌≡◌, ◌<◌, ◌≤◌, ◌+◌, ◌*◌, ℕ, false, [], length, get_or}
 use Rattle.lfs_model.specs.Checkpoint.{CheckpointValue, FitsCheckpoint, layout_version}
 use Rattle.lfs_model.specs.Crash.{StandsForOn}
+use Rattle.lfs_model.specs.declared.limits.TheConstants.{MAP_BLOCKS, USAGE_BLOCKS}
 use Rattle.lfs_model.specs.Device.{DeviceState, Carries, Elapses, IsUntouched, LeavesOnly, AllLeft}
 use Rattle.lfs_model.specs.Encodes.{IsLogMap}
 use Rattle.lfs_model.specs.Stands.{LogMap}
@@ -35,8 +36,8 @@ pub record IsNext (v : LogMemory) (version old : ℕ) (next : CheckpointValue) :
   pub number : next.number ≡ old + 1
   pub segments : next.segments ≡ length v.usage.segments
   pub same_version : layout_version next ≡ version
-  pub map : (j : ℕ) → j < 32 → get_or next.map j 0 ≡ block_in v.map j
-  pub usage : (j : ℕ) → j < 16 → get_or next.usage j 0 ≡ address_of v.usage j
+  pub map : (j : ℕ) → j < MAP_BLOCKS → get_or next.map j 0 ≡ block_in v.map j
+  pub usage : (j : ℕ) → j < USAGE_BLOCKS → get_or next.usage j 0 ≡ address_of v.usage j
 
 -- memory and device hold log map m, of this version, and the acknowledged checkpoint, of this number, stands for m0
 pub record IsAcknowledged (d : DeviceState) (v : LogMemory) (version number : ℕ) (k : CheckpointValue) (m0 m : LogMap) : Type 0 where

@@ -1,7 +1,8 @@
 -- What a commit does.
-use Rattle.std.specs.Prelude.{◌≡◌, ◌<◌, ◌≤◌, ◌+◌, ◌*◌, ◌/◌, ℕ, [], length}
+use Rattle.std.specs.Prelude.{◌≡◌, ◌<◌, ◌≤◌, ◌+◌, ◌-◌, ◌*◌, ◌/◌, ℕ, [], length}
 use Rattle.lfs_model.specs.Checkpoint.{CheckpointValue}
 use Rattle.lfs_model.specs.Crash.{StandsForOn}
+use Rattle.lfs_model.specs.declared.limits.TheConstants.{CHUNK_BLOCKS, MOST_UNSAVED, TABLE_BLOCKS}
 use Rattle.lfs_model.specs.Device.{DeviceState, Carries, AllLeft}
 use Rattle.lfs_model.specs.Stands.{LogMap}
 use Rattle.lfs_model.specs.TreeOf.{dropped}
@@ -15,15 +16,15 @@ use Rattle.lfs_log.specs.Publishing.{IsAcknowledged, LeavesEither}
 
 -- how many segments a commit takes at most that places so many blocks of files, and all blocks of the tables
 abbrev pub segments_for : ℕ → ℕ
-segments_for blocks = (blocks + 48 + 62) / 63
+segments_for blocks = (blocks + TABLE_BLOCKS + (CHUNK_BLOCKS - 1)) / CHUNK_BLOCKS
 
 -- how many orders it gives the device: these blocks, a summary for each segment and for a chunk behind the last, two syncs and a checkpoint
 abbrev pub orders_for : ℕ → ℕ
-orders_for blocks = blocks + 48 + segments_for blocks + 4
+orders_for blocks = blocks + TABLE_BLOCKS + segments_for blocks + 4
 
 -- how many a commit gives it at most, outside a pass of the cleaner: with all blocks of files that memory takes
 abbrev pub commit_orders : ℕ
-commit_orders = orders_for 456
+commit_orders = orders_for MOST_UNSAVED
 
 -- and a pass, where there are so many segments
 abbrev pub pass_orders : ℕ → ℕ

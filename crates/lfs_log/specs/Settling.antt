@@ -1,6 +1,7 @@
 -- What the steps do by which the usage blocks that changed get new places.
-use Rattle.std.specs.Prelude.{◌≡◌, ◌<◌, ◌≤◌, ◌+◌, ◌/◌, ℕ, true, false, length}
+use Rattle.std.specs.Prelude.{◌≡◌, ◌<◌, ◌≤◌, ◌+◌, ◌-◌, ◌/◌, ℕ, true, false, length}
 use Rattle.lfs_model.specs.declared.BlockKind.TheVariants as kind
+use Rattle.lfs_model.specs.declared.limits.TheConstants.{BLOCK_SEGMENTS}
 use Rattle.lfs_model.specs.Counting.{segment_of}
 use Rattle.lfs_model.specs.Summary.{BlockNameValue}
 use Rattle.lfs_model.specs.Running.{IsSet}
@@ -55,7 +56,7 @@ pub record IsResettled (old new : UsageTable) (j : ℕ) : Type 0 where
 
 -- how many usage blocks there are
 abbrev pub blocks_in : UsageTable → ℕ
-blocks_in t = (length t.segments + 63) / 64
+blocks_in t = (length t.segments + (BLOCK_SEGMENTS - 1)) / BLOCK_SEGMENTS
 
 -- all usage blocks that changed stand there
 abbrev pub AreAnew : UsageTable → Type 0

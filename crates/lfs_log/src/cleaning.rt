@@ -5,6 +5,7 @@ ghost use Rattle.lfs_memory.specs.segments.Emptied.{IsEmptied};
 ghost use Rattle.lfs_memory.specs.Memory.{HasRoom, IsMemory};
 ghost use Rattle.lfs_memory.specs.Present.{FailsFromDevice, Looks};
 ghost use Rattle.lfs_log.specs.Cleaning.{AreCleanable, AreEmptied, Crowds, Empties, IsCleanable, MayClean, Overfills, most_brought};
+ghost use Rattle.lfs_log.specs.Keeping.{KeepsShape};
 ghost use Rattle.lfs_log.specs.Relocating.{CameFrom, IsAmong, Misses, Relocates, VacatesAll};
 
 use crate::relocating::{are_in_order, relocate_segment};
@@ -16,6 +17,7 @@ use lfs_memory::changing::tighten;
 use lfs_memory::inodes::InodeMap;
 use lfs_memory::lifting::LiftFault;
 use lfs_memory::segments::Usage;
+use lfs_model::limits::{CHUNK_BLOCKS, MOST_SEGMENTS, TABLE_BLOCKS};
 use std::alloc::{AllocError, Global};
 
 /// The tables as a pass found them, to be put back where it fails.
@@ -32,7 +34,7 @@ impl SavedTables {
     ///
     /// Where memory runs out.
     pub fn with_segments(alloc: Global, segments: u32) -> Result<SavedTables, AllocError>
-        requires { segments ≤ 1024 }
+        requires { segments ≤ MOST_SEGMENTS }
         ensures { IfOk result (λ t. length t.usage.segments ≡ segments) }
     {
         let map = InodeMap::new(alloc)?;
@@ -132,9 +134,7 @@ fn empty_segments<D: SectorDevice>(
     ensures done { OnOk result (Empties (D.state device.old) (D.state device.new) memory.old
         memory.new victims.now) }
     ensures looks { Looks (D.state device.old) (D.state device.new) }
-    ensures segments { length memory.new.usage.segments ≡ length memory.old.usage.segments }
-    ensures chunk { memory.new.chunk ≡ memory.old.chunk }
-    ensures capacity { memory.new.dirty.capacity ≡ memory.old.dirty.capacity }
+    ensures shape { KeepsShape memory.old memory.new }
     ensures full { IsErrOf result LiftFault.Full
         → Crowds (D.state device.old) (D.state device.new) memory.old memory.new victims.now }
     ensures failed { IsErrOf result LiftFault.Device
@@ -176,7 +176,7 @@ pub fn relocate<D: SectorDevice>(
     requires nothing { memory.old.dirty.blocks ≡ [] }
     requires victims { AreCleanable memory.old.usage victims.now }
     requires same_size { length before.old.usage.segments ≡ length memory.old.usage.segments }
-    requires few { most + 48 ≤ 63 * (length memory.old.usage.segments / 8) }
+    requires few { most + TABLE_BLOCKS ≤ CHUNK_BLOCKS * (length memory.old.usage.segments / 8) }
     requires room { most ≤ memory.old.dirty.capacity.room }
     ensures done { OnOk result (Empties (D.state device.old) (D.state device.new) memory.old
         memory.new victims.now) }
@@ -269,8 +269,8 @@ pub fn may_clean(memory: &LogMemory, victims: &[u16]) -> bool
 /// the tables they fill fewer segments.
 pub fn most_of(count: usize) -> u32
     requires least { 2 ≤ count }
-    requires most { count ≤ 129 }
+    requires most { count ≤ MOST_SEGMENTS / 8 + 1 }
     ensures { result ≡ most_brought count }
 {
-    63 * (count as u32 - 1) - 48
+    CHUNK_BLOCKS as u32 * (count as u32 - 1) - TABLE_BLOCKS
 }

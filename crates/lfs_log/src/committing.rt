@@ -7,6 +7,7 @@ ghost use Rattle.lfs_memory.specs.Memory.{IsMemory, AreMapsOut, HasRoom, Goes, S
 ghost use Rattle.lfs_log.specs.Publishing.{IsAllOut};
 ghost use Rattle.lfs_log.specs.Versions.{number_of};
 ghost use Rattle.lfs_log.specs.Saving.{CommitsAll, CommitFails, IsSpared, orders_for, segments_for};
+ghost use Rattle.lfs_log.specs.Keeping.{OnlyChunk};
 ghost use Rattle.lfs_log.specs.Telling.{orders_due};
 
 use crate::layout_version::LayoutVersion;
@@ -16,6 +17,7 @@ use crate::publishing::publish;
 use crate::settling::{fill_usage, settle_usage};
 use lfs_device::{DeviceFault, SectorDevice};
 use lfs_memory::LogMemory;
+use lfs_model::limits::{MAP_BLOCKS, TABLE_BLOCKS};
 
 /// All that is to be saved gets its place, each block before those that point to it.
 fn place_all<D: SectorDevice>(
@@ -25,20 +27,20 @@ fn place_all<D: SectorDevice>(
 ) -> Result<(), DeviceFault>
     requires memory { IsMemory memory.old }
     requires size { HasRoom (D.state device.old) memory.old }
-    requires room { length memory.old.dirty.blocks + 48 ≤ room_of memory.old }
+    requires room { length memory.old.dirty.blocks + TABLE_BLOCKS ≤ room_of memory.old }
     ensures done { OnOk result (Goes (D.state device.old) (D.state device.new)
-        memory.old memory.new (length memory.old.dirty.blocks + 48)) }
+        memory.old memory.new (length memory.old.dirty.blocks + TABLE_BLOCKS)) }
     ensures stopped { OnErr result (Stops (D.state device.old) (D.state device.new) memory.old) }
     ensures dirty { OnOk result (memory.new.dirty.blocks ≡ []) }
     ensures capacity { OnOk result (memory.new.dirty.capacity ≡ memory.old.dirty.capacity) }
     ensures maps { OnOk result (AreMapsOut memory.new.map) }
     ensures anew { OnOk result (AreAnew memory.new.usage) }
     ensures room { room_of memory.old ≤ room_of memory.new
-        + (length memory.old.dirty.blocks + 48) }
+        + (length memory.old.dirty.blocks + TABLE_BLOCKS) }
     ensures tells { OnOk result (orders_due (D.state device.new) memory.new
-        ≤ orders_due (D.state device.old) memory.old + length memory.old.dirty.blocks + 32) }
+        ≤ orders_due (D.state device.old) memory.old + length memory.old.dirty.blocks + MAP_BLOCKS) }
     ensures most { orders_due (D.state device.new) memory.new
-        ≤ orders_due (D.state device.old) memory.old + length memory.old.dirty.blocks + 33 }
+        ≤ orders_due (D.state device.old) memory.old + length memory.old.dirty.blocks + MAP_BLOCKS + 1 }
 {
     save_files(device, memory, age)?;
     save_map(device, memory, age)?;
@@ -53,9 +55,7 @@ pub fn seal_rest<D: SectorDevice>(device: &mut D, memory: &mut LogMemory) -> Res
     ensures done { OnOk result (Goes (D.state device.old) (D.state device.new) memory.old memory.new
         62) }
     ensures stopped { OnErr result (Stops (D.state device.old) (D.state device.new) memory.old) }
-    ensures map { memory.new.map ≡ memory.old.map }
-    ensures dirty { memory.new.dirty ≡ memory.old.dirty }
-    ensures usage { memory.new.usage ≡ memory.old.usage }
+    ensures only { OnlyChunk memory.old memory.new }
     ensures ended { OnOk result (memory.new.chunk.names ≡ []) }
     ensures told { length (D.state device.new).told + clean_in memory.new.usage.segments
         ≤ orders_due (D.state device.old) memory.old }
@@ -79,7 +79,7 @@ fn write_out<D: SectorDevice>(
         ≤ clean_in memory.old.usage.segments }
     requires spare { IsSpared memory.old }
     ensures done { OnOk result (Goes (D.state device.old) (D.state device.new)
-        memory.old memory.new (length memory.old.dirty.blocks + 48 + 62)) }
+        memory.old memory.new (length memory.old.dirty.blocks + TABLE_BLOCKS + 62)) }
     ensures stopped { OnErr result (Stops (D.state device.old) (D.state device.new) memory.old) }
     ensures capacity { OnOk result (memory.new.dirty.capacity ≡ memory.old.dirty.capacity) }
     ensures out { OnOk result (IsAllOut memory.new) }

@@ -15,9 +15,7 @@ use crate::placing::save_block;
 use crate::thresholds::exceeds_reserve;
 use lfs_device::{DeviceFault, SectorDevice};
 use lfs_memory::LogMemory;
-
-/// How many blocks a chunk has that fills a segment.
-const FULL_CHUNK: usize = 63;
+use lfs_model::limits::CHUNK_BLOCKS;
 
 /// The age of blocks that are written after the checkpoint of this number: the next one's.
 pub fn age_after(number: u64) -> u32 {
@@ -32,24 +30,24 @@ fn save_chunk<D: SectorDevice>(
 ) -> Result<(), DeviceFault>
     requires memory { IsMemory memory.old }
     requires size { HasRoom (D.state device.old) memory.old }
-    requires room { FULL_CHUNK ≤ room_of memory.old }
-    requires many { FULL_CHUNK ≤ length memory.old.dirty.blocks }
-    requires data_blocks { FULL_CHUNK ≤ data_count memory.old.dirty }
+    requires room { CHUNK_BLOCKS ≤ room_of memory.old }
+    requires many { CHUNK_BLOCKS ≤ length memory.old.dirty.blocks }
+    requires data_blocks { CHUNK_BLOCKS ≤ data_count memory.old.dirty }
     requires fresh { IsFresh memory.old }
     ensures done { OnOk result (Goes (D.state device.old) (D.state device.new) memory.old memory.new
-        FULL_CHUNK) }
+        CHUNK_BLOCKS) }
     ensures stopped { OnErr result (Stops (D.state device.old) (D.state device.new) memory.old) }
-    ensures early { OnOk result (GoesEarly memory.old memory.new FULL_CHUNK) }
-    ensures data_blocks { OnOk result (data_count memory.new.dirty + FULL_CHUNK
+    ensures early { OnOk result (GoesEarly memory.old memory.new CHUNK_BLOCKS) }
+    ensures data_blocks { OnOk result (data_count memory.new.dirty + CHUNK_BLOCKS
         ≡ data_count memory.old.dirty) }
     ensures capacity { OnOk result (memory.new.dirty.capacity ≡ memory.old.dirty.capacity) }
-    ensures room { room_of memory.old ≤ room_of memory.new + FULL_CHUNK }
+    ensures room { room_of memory.old ≤ room_of memory.new + CHUNK_BLOCKS }
     ensures tells { OnOk result (orders_due (D.state device.new) memory.new
-        ≤ orders_due (D.state device.old) memory.old + FULL_CHUNK) }
+        ≤ orders_due (D.state device.old) memory.old + CHUNK_BLOCKS) }
     ensures most { orders_due (D.state device.new) memory.new
-        ≤ orders_due (D.state device.old) memory.old + FULL_CHUNK + 1 }
+        ≤ orders_due (D.state device.old) memory.old + CHUNK_BLOCKS + 1 }
 {
-    for _ in 0..FULL_CHUNK {
+    for _ in 0..CHUNK_BLOCKS {
         let key = memory.dirty.next().unwrap();
         save_block(device, memory, key, age)?;
     }
@@ -66,24 +64,24 @@ fn write_chunk<D: SectorDevice>(
     requires size { HasRoom (D.state device.old) memory.old }
     requires closed { memory.old.chunk.names ≡ [] }
     requires clean { 0 < clean_in memory.old.usage.segments }
-    requires many { FULL_CHUNK ≤ length memory.old.dirty.blocks }
-    requires data_blocks { FULL_CHUNK ≤ data_count memory.old.dirty }
+    requires many { CHUNK_BLOCKS ≤ length memory.old.dirty.blocks }
+    requires data_blocks { CHUNK_BLOCKS ≤ data_count memory.old.dirty }
     ensures done { OnOk result (Goes (D.state device.old) (D.state device.new) memory.old memory.new
-        (FULL_CHUNK + 62)) }
+        (CHUNK_BLOCKS + 62)) }
     ensures stopped { OnErr result (Stops (D.state device.old) (D.state device.new) memory.old) }
     ensures closed { OnOk result (memory.new.chunk.names ≡ []) }
-    ensures fewer { OnOk result (length memory.new.dirty.blocks + FULL_CHUNK
+    ensures fewer { OnOk result (length memory.new.dirty.blocks + CHUNK_BLOCKS
         ≡ length memory.old.dirty.blocks) }
-    ensures data_blocks { OnOk result (data_count memory.new.dirty + FULL_CHUNK
+    ensures data_blocks { OnOk result (data_count memory.new.dirty + CHUNK_BLOCKS
         ≡ data_count memory.old.dirty) }
     ensures due { OnOk result (blocks_due memory.new ≡ blocks_due memory.old) }
     ensures capacity { OnOk result (memory.new.dirty.capacity ≡ memory.old.dirty.capacity) }
     ensures taken { OnOk result (clean_in memory.old.usage.segments
         ≤ clean_in memory.new.usage.segments + 1) }
     ensures told { OnOk result (length (D.state device.new).told
-        ≤ length (D.state device.old).told + FULL_CHUNK + 1) }
+        ≤ length (D.state device.old).told + CHUNK_BLOCKS + 1) }
     ensures most { length (D.state device.new).told
-        ≤ length (D.state device.old).told + FULL_CHUNK + 2 }
+        ≤ length (D.state device.old).told + CHUNK_BLOCKS + 2 }
 {
     memory.usage.end_last();
     save_chunk(device, memory, age)?;
@@ -107,17 +105,17 @@ pub fn write_chunks<D: SectorDevice>(
     requires closed { memory.old.chunk.names ≡ [] }
     ensures done { OnOk result (WritesChunks (D.state device.old) (D.state device.new)
         memory.old memory.new) }
-    ensures left { OnOk result ((data_count memory.new.dirty < FULL_CHUNK)
+    ensures left { OnOk result ((data_count memory.new.dirty < CHUNK_BLOCKS)
         ⊎ (clean_in memory.new.usage.segments ≤ reserve_of (length memory.new.usage.segments))) }
     ensures reserve { OnOk result (((device.new ≡ device.old) × (memory.new ≡ memory.old))
         ⊎ (reserve_of (length memory.new.usage.segments) ≤ clean_in memory.new.usage.segments)) }
-    ensures idle { data_count memory.old.dirty < FULL_CHUNK
+    ensures idle { data_count memory.old.dirty < CHUNK_BLOCKS
         → (device.new ≡ device.old) × (memory.new ≡ memory.old) }
     ensures stopped { OnErr result (Stops (D.state device.old) (D.state device.new) memory.old) }
     ensures told { length (D.state device.new).told
         ≤ length (D.state device.old).told + orders_for (length memory.old.dirty.blocks) }
 {
-    while memory.dirty.has_data(FULL_CHUNK) && exceeds_reserve(&memory.usage) {
+    while memory.dirty.has_data(CHUNK_BLOCKS) && exceeds_reserve(&memory.usage) {
         write_chunk(device, memory, age)?;
     }
     Ok(())

@@ -20,7 +20,7 @@ use crate::cleaning::{SavedTables, may_clean, most_of, relocate};
 use crate::committing::save;
 use crate::early::{age_after, write_chunks};
 use crate::layout_version::{LayoutVersion, is_raised_after, unsaved_by, version_after};
-use crate::opening::{MOST_DIRTY, open_memory};
+use crate::opening::open_memory;
 use crate::thresholds::has_reserve;
 use lfs_cache::{CachedDevice, DEFAULT_SECTORS, MOST_SECTORS};
 use lfs_device::{SectorDevice, TendedDevice};
@@ -31,6 +31,7 @@ use lfs_memory::present::{locate_double, locate_leaf, read_header};
 use lfs_memory::segments::Usage;
 use lfs_memory::staging::{has_room, remove_tight, stage_tight};
 use lfs_memory::{Changes, Header, LogFault, LogMemory, PointerRun};
+use lfs_model::limits::{FILE_NUMBERS, LAST_LEAF, MOST_UNSAVED, SECTOR_LEN};
 use lfs_verify::verify::verify;
 use lfs_verify::{BlockTotals, MountFault, Tables};
 use std::alloc::Global;
@@ -231,7 +232,7 @@ impl<D: SectorDevice> Log<D> {
     pub fn are_tables_whole(&self)
         ensures map { IsMap self.now.memory.map }
         ensures memory { self.now.halted ≡ false → IsMemory self.now.memory }
-        ensures few { self.now.halted ≡ false → length self.now.memory.dirty.blocks ≤ 456 }
+        ensures few { self.now.halted ≡ false → length self.now.memory.dirty.blocks ≤ MOST_UNSAVED }
     {
         let _first = self.memory.map.block_address(0);
     }
@@ -343,11 +344,11 @@ impl<D: SectorDevice> Log<D> {
         ensures room { IsTrue result → length self.now.memory.dirty.blocks + room_for changes.now
             ≤ self.now.memory.dirty.capacity.limit }
         ensures fits { IsTrue result → length self.now.memory.dirty.blocks + room_for changes.now
-            ≤ 456 }
+            ≤ MOST_UNSAVED }
         ensures lacks { IsFalse result → self.now.halted ≡ false
             → LacksRoom self.now.memory (room_for changes.now) }
         ensures narrow { IsFalse result → self.now.halted ≡ false
-            → 456 < length self.now.memory.dirty.blocks + room_for changes.now }
+            → MOST_UNSAVED < length self.now.memory.dirty.blocks + room_for changes.now }
     {
         !self.halted && has_room(&self.memory, changes)
     }
@@ -358,7 +359,7 @@ impl<D: SectorDevice> Log<D> {
     ///
     /// `Halted` once a write of the log failed, `Device` where a call of the device failed.
     pub fn header(&mut self, number: u16) -> Result<Option<Header>, LogFault>
-        requires { number < 4096 }
+        requires { number < FILE_NUMBERS }
         ensures reads { Reads D.SectorDevice.state self.old self.new }
         ensures answer { IfOk result (ReadsHeader D.SectorDevice.state self.old self.new number) }
         ensures halted { IsErrOf result LogFault.Halted → self.old.halted ≡ true }
@@ -380,11 +381,11 @@ impl<D: SectorDevice> Log<D> {
     ///
     /// As those of `header`.
     pub fn block(&mut self, number: u16, index: u32, out: &mut [u8; 512]) -> Result<bool, LogFault>
-        requires { number < 4096 }
+        requires { number < FILE_NUMBERS }
         ensures reads { Reads D.SectorDevice.state self.old self.new }
         ensures answer { IfOk result (ReadsBlock D.SectorDevice.state self.old self.new number index
             out.new) }
-        ensures zeros { IfOk result (λ found. IsFalse found → out.new ≡ zeros 512) }
+        ensures zeros { IfOk result (λ found. IsFalse found → out.new ≡ zeros SECTOR_LEN) }
         ensures halted { IsErrOf result LogFault.Halted → self.old.halted ≡ true }
         ensures other { IsErrOf result LogFault.Full → ⊥ }
         ensures failed { OnErr result (IsReadFault D.SectorDevice.state self.old self.new) }
@@ -411,7 +412,7 @@ impl<D: SectorDevice> Log<D> {
     ///
     /// As those of `header`.
     pub fn has_block(&mut self, number: u16, index: u32) -> Result<bool, LogFault>
-        requires { number < 4096 }
+        requires { number < FILE_NUMBERS }
         ensures reads { Reads D.SectorDevice.state self.old self.new }
         ensures answer { IfOk result (TellsBlock D.SectorDevice.state self.old self.new number
             index) }
@@ -441,7 +442,7 @@ impl<D: SectorDevice> Log<D> {
     ///
     /// As those of `header`.
     pub fn count_blocks(&mut self, number: u16, from: u32, to: u32) -> Result<u32, LogFault>
-        requires number { number < 4096 }
+        requires number { number < FILE_NUMBERS }
         requires order { from ≤ to }
         ensures reads { Reads D.SectorDevice.state self.old self.new }
         ensures few { IfOk result (λ count. count ≤ to - from) }
@@ -474,8 +475,8 @@ impl<D: SectorDevice> Log<D> {
     ///
     /// As those of `header`.
     pub fn has_leaf(&mut self, number: u16, leaf: u32) -> Result<bool, LogFault>
-        requires number { number < 4096 }
-        requires leaf { leaf ≤ 128 }
+        requires number { number < FILE_NUMBERS }
+        requires leaf { leaf ≤ LAST_LEAF }
         ensures reads { Reads D.SectorDevice.state self.old self.new }
         ensures answer { IfOk result (TellsLeaf D.SectorDevice.state self.old self.new number
             leaf) }
@@ -498,7 +499,7 @@ impl<D: SectorDevice> Log<D> {
     ///
     /// As those of `header`.
     pub fn has_double(&mut self, number: u16) -> Result<bool, LogFault>
-        requires number { number < 4096 }
+        requires number { number < FILE_NUMBERS }
         ensures reads { Reads D.SectorDevice.state self.old self.new }
         ensures answer { IfOk result (TellsDouble D.SectorDevice.state self.old self.new number) }
         ensures halted { IsErrOf result LogFault.Halted → self.old.halted ≡ true }
@@ -530,7 +531,7 @@ impl<D: SectorDevice> Log<D> {
         ensures full { IsErrOf result LogFault.Full
             → LacksRoom self.old.memory (room_for changes.now) }
         ensures narrow { IsErrOf result LogFault.Full
-            → 456 < length self.old.memory.dirty.blocks + room_for changes.now }
+            → MOST_UNSAVED < length self.old.memory.dirty.blocks + room_for changes.now }
         ensures failed { IsErrOf result LogFault.Device
             → IsStageFault D.SectorDevice.state self.old self.new changes.now }
         ensures halted { IsErrOf result LogFault.Halted
@@ -563,7 +564,7 @@ impl<D: SectorDevice> Log<D> {
     /// With the files as they were: `Device` where a call of the device failed. `Halted` once a
     /// write of the log failed.
     pub fn remove(&mut self, number: u16, totals: BlockTotals) -> Result<(), LogFault>
-        requires { number < 4096 }
+        requires { number < FILE_NUMBERS }
         ensures done { OnOk result (IsRemoved D.SectorDevice.state self.old self.new number) }
         ensures counted { OnOk result (self.new.totals ≡ totals) }
         ensures kept { OnErr result (IsKept D.SectorDevice.state self.old self.new) }
@@ -743,7 +744,7 @@ impl<D: SectorDevice> Log<D> {
             self.halted = true;
             return Err(LogFault::Halted);
         };
-        self.memory.dirty.set_limit(MOST_DIRTY);
+        self.memory.dirty.set_limit(MOST_UNSAVED);
         self.number += 1;
         self.upgraded = false;
         Ok(())

@@ -15,6 +15,7 @@ use lfs_layout::BlockName;
 use lfs_memory::LogMemory;
 use lfs_memory::segments::write;
 use lfs_model::BlockKind;
+use lfs_model::limits::MAP_BLOCKS;
 
 /// Writes a block of the inode map to the next place.
 fn write_map_block<D: SectorDevice>(
@@ -27,7 +28,7 @@ fn write_map_block<D: SectorDevice>(
     requires memory { IsMemory memory.old }
     requires size { HasRoom (D.state device.old) memory.old }
     requires room { 0 < room_of memory.old }
-    requires index { index < 32 }
+    requires index { index < MAP_BLOCKS }
     requires wanted { block_in memory.old.map index ≡ 1 }
     requires empty { (x : Entry) → blocks_of memory.old.dirty x ≡ None }
     requires spelt { (m : LogMap) (t : Tables) → IsMapOf memory.old.map m t → AreSettled m t index
@@ -65,7 +66,7 @@ fn save_waiting_block<D: SectorDevice>(
     requires memory { IsMemory memory.old }
     requires size { HasRoom (D.state device.old) memory.old }
     requires room { 0 < room_of memory.old }
-    requires index { index < 32 }
+    requires index { index < MAP_BLOCKS }
     requires waits { block_in memory.old.map index ≡ 1 }
     requires empty { (x : Entry) → blocks_of memory.old.dirty x ≡ None }
     ensures done { OnOk result (Goes (D.state device.old) (D.state device.new) memory.old memory.new
@@ -101,7 +102,7 @@ fn save_map_block<D: SectorDevice>(
     requires memory { IsMemory memory.old }
     requires size { HasRoom (D.state device.old) memory.old }
     requires room { 0 < room_of memory.old }
-    requires index { index < 32 }
+    requires index { index < MAP_BLOCKS }
     requires empty { (x : Entry) → blocks_of memory.old.dirty x ≡ None }
     ensures done { OnOk result (Goes (D.state device.old) (D.state device.new) memory.old memory.new
         1) }
@@ -131,20 +132,20 @@ pub fn save_map<D: SectorDevice>(
 ) -> Result<(), DeviceFault>
     requires memory { IsMemory memory.old }
     requires size { HasRoom (D.state device.old) memory.old }
-    requires room { 32 ≤ room_of memory.old }
+    requires room { MAP_BLOCKS ≤ room_of memory.old }
     requires empty { (x : Entry) → blocks_of memory.old.dirty x ≡ None }
     ensures done { OnOk result (Goes (D.state device.old) (D.state device.new) memory.old memory.new
-        32) }
+        MAP_BLOCKS) }
     ensures stopped { OnErr result (Stops (D.state device.old) (D.state device.new) memory.old) }
     ensures known { OnOk result (AreMapsOut memory.new.map) }
     ensures dirty { memory.new.dirty ≡ memory.old.dirty }
-    ensures room { room_of memory.old ≤ room_of memory.new + 32 }
+    ensures room { room_of memory.old ≤ room_of memory.new + MAP_BLOCKS }
     ensures tells { OnOk result (orders_due (D.state device.new) memory.new
-        ≤ orders_due (D.state device.old) memory.old + 32) }
+        ≤ orders_due (D.state device.old) memory.old + MAP_BLOCKS) }
     ensures most { orders_due (D.state device.new) memory.new
-        ≤ orders_due (D.state device.old) memory.old + 32 + 1 }
+        ≤ orders_due (D.state device.old) memory.old + MAP_BLOCKS + 1 }
 {
-    for index in 0..32u32 {
+    for index in 0..MAP_BLOCKS {
         save_map_block(device, memory, index, age)?;
     }
     Ok(())

@@ -8,23 +8,20 @@ use crate::cleaning::SavedTables;
 use lfs_memory::LogMemory;
 use lfs_memory::inodes::DirtyTable;
 use lfs_memory::segments::ChunkWriter;
+use lfs_model::limits::{CHUNK_BLOCKS, MOST_UNSAVED, TABLE_BLOCKS};
 use lfs_verify::{BlockTotals, Tables};
 use std::alloc::{AllocError, Global};
 
-/// How many blocks of files may be in memory: with all blocks of the tables, eight chunks of them.
-pub const MOST_DIRTY: u32 = 456;
-
-/// How many blocks the tables have: 32 of the inode map, and 16 of usage.
-const TABLE_BLOCKS: u32 = 48;
+const CHUNK: u32 = CHUNK_BLOCKS as u32;
 
 /// How many blocks of files a cleaning pass may bring into memory: with all blocks of the tables, a
 /// chunk for each of an eighth of the segments.
 fn most_cleaned(segments: u32) -> u32
     requires { IsSegmentCount segments }
-    ensures blocks { result + 48 ≡ 63 * (segments / 8) }
-    ensures least { 456 ≤ result }
+    ensures blocks { result + TABLE_BLOCKS ≡ CHUNK_BLOCKS * (segments / 8) }
+    ensures least { MOST_UNSAVED ≤ result }
 {
-    63 * (segments / 8) - TABLE_BLOCKS
+    CHUNK * (segments / 8) - TABLE_BLOCKS
 }
 
 /// What a mount takes into memory.
@@ -58,7 +55,7 @@ pub fn open_memory(alloc: Global, tables: Tables) -> Result<OpenedLog, AllocErro
     ensures meta_blocks { IfOk result (λ r. r.totals.meta_blocks ≡ tables.meta_blocks) }
 {
     let before = SavedTables::with_segments(alloc, tables.segments)?;
-    let dirty = DirtyTable::new(alloc, most_cleaned(tables.segments), MOST_DIRTY)?;
+    let dirty = DirtyTable::new(alloc, most_cleaned(tables.segments), MOST_UNSAVED)?;
     Ok(OpenedLog {
         memory: LogMemory {
             map: tables.map,

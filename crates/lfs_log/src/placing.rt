@@ -9,6 +9,7 @@ ghost use Rattle.lfs_memory.specs.Memory.{IsMemory, IsMemoryUpTo, HasRoom, Goes,
 ghost use Rattle.lfs_memory.specs.segments.Chunk.{room_in};
 ghost use Rattle.lfs_memory.specs.segments.Early.{early_in};
 ghost use Rattle.lfs_log.specs.Early.{GoesEarly, IsBegunFresh, IsFresh};
+ghost use Rattle.lfs_log.specs.Keeping.{OnlyChunk};
 ghost use Rattle.lfs_log.specs.Telling.{orders_due};
 
 use lfs_device::{DeviceFault, SectorDevice};
@@ -24,9 +25,7 @@ pub fn seal<D: SectorDevice>(device: &mut D, memory: &mut LogMemory) -> Result<(
     ensures done { OnOk result (Goes (D.state device.old) (D.state device.new) memory.old memory.new
         (room_in memory.old.chunk)) }
     ensures stopped { OnErr result (Stops (D.state device.old) (D.state device.new) memory.old) }
-    ensures map { memory.new.map ≡ memory.old.map }
-    ensures dirty { memory.new.dirty ≡ memory.old.dirty }
-    ensures usage { memory.new.usage ≡ memory.old.usage }
+    ensures only { OnlyChunk memory.old memory.new }
     ensures ended { OnOk result (memory.new.chunk.names ≡ []) }
     ensures segment { memory.new.chunk.segment ≡ memory.old.chunk.segment }
     ensures kept { OnErr result (memory.new.chunk ≡ memory.old.chunk) }
@@ -43,9 +42,7 @@ pub fn seal_full<D: SectorDevice>(device: &mut D, memory: &mut LogMemory) -> Res
     ensures done { OnOk result (Goes (D.state device.old) (D.state device.new) memory.old memory.new
         0) }
     ensures stopped { OnErr result (Stops (D.state device.old) (D.state device.new) memory.old) }
-    ensures map { memory.new.map ≡ memory.old.map }
-    ensures dirty { memory.new.dirty ≡ memory.old.dirty }
-    ensures usage { memory.new.usage ≡ memory.old.usage }
+    ensures only { OnlyChunk memory.old memory.new }
     ensures room { room_of memory.old ≤ room_of memory.new }
     ensures tells { OnOk result (orders_due (D.state device.new) memory.new
         ≤ orders_due (D.state device.old) memory.old) }

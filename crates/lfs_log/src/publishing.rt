@@ -3,6 +3,7 @@ ghost use Rattle.std.specs.Prelude.{◌≡◌, ◌<◌, ◌≤◌, ◌+◌, ◌^
 ghost use Rattle.lfs_model.specs.Device.{Only};
 ghost use Rattle.lfs_memory.specs.segments.Table.{address_of};
 ghost use Rattle.lfs_memory.specs.Memory.{IsMemory, HasRoom};
+ghost use Rattle.lfs_log.specs.Keeping.{OnlyTable};
 ghost use Rattle.lfs_log.specs.Versions.{number_of};
 ghost use Rattle.lfs_log.specs.Publishing.{IsAllOut, IsNext, LeavesEither, Publishes, PublishFails, Syncs};
 
@@ -11,14 +12,17 @@ use lfs_device::{DeviceFault, SectorDevice};
 use lfs_layout::Checkpoint;
 use lfs_memory::LogMemory;
 use lfs_memory::segments::Usage;
+use lfs_model::limits::USAGE_BLOCKS;
 use lfs_verify::root::replace;
 
+const BLOCKS: usize = USAGE_BLOCKS as usize;
+
 /// The addresses of the blocks of the usage table.
-fn usage_blocks(usage: &Usage) -> [u32; 16]
-    ensures { (j : ℕ) → j < 16 → get_or result j 0 ≡ address_of usage.now j }
+fn usage_blocks(usage: &Usage) -> [u32; BLOCKS]
+    ensures { (j : ℕ) → j < USAGE_BLOCKS → get_or result j 0 ≡ address_of usage.now j }
 {
-    let mut blocks = [0; 16];
-    for index in 0..16u32 {
+    let mut blocks = [0; BLOCKS];
+    for index in 0..USAGE_BLOCKS {
         blocks[index as usize] = usage.block(index).address;
     }
     blocks
@@ -75,9 +79,7 @@ pub fn publish<D: SectorDevice>(
         memory.old (number_of version) number) }
     ensures moment { LeavesEither (D.state device.old) (D.state device.new) memory.old
         (number_of version) number }
-    ensures map { memory.new.map ≡ memory.old.map }
-    ensures dirty { memory.new.dirty ≡ memory.old.dirty }
-    ensures chunk { memory.new.chunk ≡ memory.old.chunk }
+    ensures only { OnlyTable memory.old memory.new }
     ensures told { length (D.state device.new).told ≤ length (D.state device.old).told + 3 }
 {
     make_durable(device)?;

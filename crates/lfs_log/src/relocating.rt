@@ -22,6 +22,9 @@ use lfs_memory::lifting::{LiftFault, has_block, is_counted, lift_child, lift_ino
 use lfs_memory::present::present_word;
 use lfs_memory::segments::Usage;
 use lfs_model::BlockKind;
+use lfs_model::limits::{
+    CHECKPOINT_SLOTS, MAP_BLOCKS, MOST_SEGMENTS, SEGMENT_SECTORS, USAGE_BLOCKS,
+};
 
 /// The address at which a block of a file stands: 0 where it isn't stored, `IN_MEMORY` for one in
 /// memory.
@@ -193,7 +196,7 @@ fn relocate_file_block<D: SectorDevice>(
     address: u32,
 ) -> Result<(), LiftFault>
     requires memory { IsMemory memory.old }
-    requires above { 2 ≤ address }
+    requires above { CHECKPOINT_SLOTS ≤ address }
     ensures relocates { Relocates (D.state device.old) (D.state device.new) memory.old memory.new }
     ensures left { OnOk result (HasLeft (D.state device.old) (D.state device.new) memory.old
         memory.new (entry_of key) address) }
@@ -229,8 +232,8 @@ fn relocate_file_block<D: SectorDevice>(
 ///
 /// Where it isn't counted there.
 fn relocate_map(memory: &mut LogMemory, index: u32, address: u32) -> Result<(), DeviceFault>
-    requires index { index ≤ 31 }
-    requires above { 2 ≤ address }
+    requires index { index < MAP_BLOCKS }
+    requires above { CHECKPOINT_SLOTS ≤ address }
     ensures done { OnOk result ((memory.new ≡ memory.old) ⊎ MapLifts memory.old memory.new index) }
     ensures left { OnOk result (block_in memory.new.map index ≡ address → ⊥) }
     ensures same { OnErr result (memory.new ≡ memory.old) }
@@ -248,8 +251,8 @@ fn relocate_map(memory: &mut LogMemory, index: u32, address: u32) -> Result<(), 
 ///
 /// Where it isn't counted there.
 fn leave_usage(usage: &mut Usage, index: u32, address: u32) -> Result<(), DeviceFault>
-    requires index { index ≤ 15 }
-    requires above { 2 ≤ address }
+    requires index { index < USAGE_BLOCKS }
+    requires above { CHECKPOINT_SLOTS ≤ address }
     requires at { address_of usage.old index ≡ address }
     ensures left { OnOk result (UsageLeaves usage.old usage.new index) }
     ensures same { OnErr result (usage.new ≡ usage.old) }
@@ -269,8 +272,8 @@ fn leave_usage(usage: &mut Usage, index: u32, address: u32) -> Result<(), Device
 ///
 /// Where it isn't counted there.
 fn relocate_usage(memory: &mut LogMemory, index: u32, address: u32) -> Result<(), DeviceFault>
-    requires index { index ≤ 15 }
-    requires above { 2 ≤ address }
+    requires index { index < USAGE_BLOCKS }
+    requires above { CHECKPOINT_SLOTS ≤ address }
     ensures done { OnOk result ((memory.new ≡ memory.old)
         ⊎ UsageLeavesIn memory.old memory.new index) }
     ensures left { OnOk result (address_of memory.new.usage index ≡ address → ⊥) }
@@ -314,7 +317,7 @@ fn relocate_block<D: SectorDevice>(
 ) -> Result<(), LiftFault>
     requires memory { IsMemory memory.old }
     requires placed { IsPlaced name.kind name.file name.index }
-    requires above { 2 ≤ address }
+    requires above { CHECKPOINT_SLOTS ≤ address }
     ensures relocates { Relocates (D.state device.old) (D.state device.new) memory.old memory.new }
     ensures left { OnOk result (HasLeft (D.state device.old) (D.state device.new) memory.old
         memory.new (entry.entry_of name) address) }
@@ -356,8 +359,8 @@ fn relocate_chunk<D: SectorDevice>(
 ) -> Result<(), LiftFault>
     requires memory { IsMemory memory.old }
     requires fits { FitsSummary names.now }
-    requires above { 2 ≤ first }
-    requires few { first ≤ 65602 }
+    requires above { CHECKPOINT_SLOTS ≤ first }
+    requires few { first ≤ CHECKPOINT_SLOTS + SEGMENT_SECTORS * (MOST_SEGMENTS + 1) }
     ensures relocates { Relocates (D.state device.old) (D.state device.new) memory.old memory.new }
     ensures left { OnOk result (LeavesNames (D.state device.old) (D.state device.new) memory.old
         memory.new names.now first (length names.now)) }

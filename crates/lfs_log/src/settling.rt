@@ -4,6 +4,7 @@ ghost use Rattle.std.specs.Prelude.{◌≡◌, ◌≢◌, ◌<◌, ◌≤◌, �
 ghost use Rattle.lfs_memory.specs.segments.Chunk.{due_in};
 ghost use Rattle.lfs_memory.specs.segments.Table.{address_of, stale_of, used_of, clean_in};
 ghost use Rattle.lfs_memory.specs.Memory.{IsMemory, IsMemoryUpTo, HasRoom, Goes, Stops, room_of};
+ghost use Rattle.lfs_log.specs.Keeping.{OnlyPlaces, OnlyUsage};
 ghost use Rattle.lfs_log.specs.Telling.{orders_due};
 ghost use Rattle.lfs_log.specs.Settling.{IsNowhere, Leaves, Resettles, IsResettled, IsAnew, AreAnew, IsFilled, blocks_in};
 
@@ -14,11 +15,12 @@ use lfs_memory::LogMemory;
 use lfs_memory::inodes::IN_MEMORY;
 use lfs_memory::segments::{Usage, write};
 use lfs_model::BlockKind;
+use lfs_model::limits::USAGE_BLOCKS;
 
 /// The usage block lives no more at its address, which it may have left before. Only under a device
 /// that broke its word it doesn't live there.
 fn leave(usage: &mut Usage, index: u32) -> Result<(), DeviceFault>
-    requires { index < 16 }
+    requires { index < USAGE_BLOCKS }
     ensures left { OnOk result (Leaves usage.old usage.new index) }
     ensures nowhere { OnErr result (IsNowhere usage.old index) }
     ensures same { OnErr result (usage.new ≡ usage.old) }
@@ -50,8 +52,7 @@ fn resettle(memory: &mut LogMemory, index: u32, age: u32) -> Result<(), DeviceFa
     requires index { index < blocks_in memory.old.usage }
     ensures done { OnOk result (Resettles memory.old memory.new index age) }
     ensures nowhere { OnErr result (IsNowhere memory.old.usage index) }
-    ensures map { memory.new.map ≡ memory.old.map }
-    ensures dirty { memory.new.dirty ≡ memory.old.dirty }
+    ensures only { OnlyUsage memory.old memory.new }
     ensures due { OnOk result (due_in memory.new.chunk memory.new.usage
         + clean_in memory.new.usage.segments
         ≤ due_in memory.old.chunk memory.old.usage + clean_in memory.old.usage.segments) }
@@ -89,8 +90,7 @@ pub fn settle_block<D: SectorDevice>(
         1) }
     ensures stopped { OnErr result (Stops (D.state device.old) (D.state device.new) memory.old) }
     ensures moved { OnOk result (IsResettled memory.old.usage memory.new.usage index) }
-    ensures map { memory.new.map ≡ memory.old.map }
-    ensures dirty { memory.new.dirty ≡ memory.old.dirty }
+    ensures only { OnlyUsage memory.old memory.new }
     ensures room { room_of memory.old ≤ room_of memory.new + 1 }
     ensures tells { OnOk result (orders_due (D.state device.new) memory.new
         ≤ orders_due (D.state device.old) memory.old) }
@@ -103,7 +103,7 @@ pub fn settle_block<D: SectorDevice>(
 
 /// Whether the usage block stands where the acknowledged checkpoint needs nothing.
 fn is_anew(usage: &Usage, index: u32) -> bool
-    requires { index < 16 }
+    requires { index < USAGE_BLOCKS }
     ensures yes { result ≡ true → IsAnew usage.now index }
     ensures no { result ≢ true → IsAnew usage.now index → ⊥ }
 {
@@ -145,20 +145,19 @@ pub fn settle_usage<D: SectorDevice>(
 ) -> Result<(), DeviceFault>
     requires memory { IsMemory memory.old }
     requires size { HasRoom (D.state device.old) memory.old }
-    requires room { 16 ≤ room_of memory.old }
+    requires room { USAGE_BLOCKS ≤ room_of memory.old }
     ensures done { OnOk result (Goes (D.state device.old) (D.state device.new) memory.old memory.new
-        16) }
+        USAGE_BLOCKS) }
     ensures stopped { OnErr result (Stops (D.state device.old) (D.state device.new) memory.old) }
     ensures anew { OnOk result (AreAnew memory.new.usage) }
-    ensures map { memory.new.map ≡ memory.old.map }
-    ensures dirty { memory.new.dirty ≡ memory.old.dirty }
-    ensures room { room_of memory.old ≤ room_of memory.new + 16 }
+    ensures only { OnlyUsage memory.old memory.new }
+    ensures room { room_of memory.old ≤ room_of memory.new + USAGE_BLOCKS }
     ensures tells { OnOk result (orders_due (D.state device.new) memory.new
         ≤ orders_due (D.state device.old) memory.old) }
     ensures most { orders_due (D.state device.new) memory.new
         ≤ orders_due (D.state device.old) memory.old + 1 }
 {
-    for round in 0..16u32 {
+    for round in 0..USAGE_BLOCKS {
         let Some(index) = next_out(&memory.usage) else {
             return Ok(());
         };
@@ -181,10 +180,7 @@ fn fill_block<D: SectorDevice>(
         0) }
     ensures stopped { OnErr result (Stops (D.state device.old) (D.state device.new) memory.old) }
     ensures filled { OnOk result (IsFilled memory.old.usage memory.new.usage index) }
-    ensures map { memory.new.map ≡ memory.old.map }
-    ensures dirty { memory.new.dirty ≡ memory.old.dirty }
-    ensures chunk { memory.new.chunk ≡ memory.old.chunk }
-    ensures segments { memory.new.usage.segments ≡ memory.old.usage.segments }
+    ensures only { OnlyPlaces memory.old memory.new }
     ensures told { length (D.state device.new).told ≤ length (D.state device.old).told + 1 }
 {
     let place = memory.usage.block(index);
@@ -214,13 +210,10 @@ pub fn fill_usage<D: SectorDevice>(
     ensures stopped { OnErr result (Stops (D.state device.old) (D.state device.new) memory.old) }
     ensures fresh { OnOk result ((j : ℕ) → j < blocks_in memory.new.usage
         → stale_of memory.new.usage j ≡ false) }
-    ensures segments { memory.new.usage.segments ≡ memory.old.usage.segments }
     ensures address { OnOk result ((j : ℕ)
         → address_of memory.new.usage j ≡ address_of memory.old.usage j) }
-    ensures map { memory.new.map ≡ memory.old.map }
-    ensures dirty { memory.new.dirty ≡ memory.old.dirty }
-    ensures chunk { memory.new.chunk ≡ memory.old.chunk }
-    ensures told { length (D.state device.new).told ≤ length (D.state device.old).told + 16 }
+    ensures only { OnlyPlaces memory.old memory.new }
+    ensures told { length (D.state device.new).told ≤ length (D.state device.old).told + USAGE_BLOCKS }
 {
     for index in 0..(memory.usage.segments() + 63) / 64 {
         fill_block(device, memory, index)?;

@@ -31,11 +31,11 @@ returns-in_err-publish-clause-stopped g c =
 pub returns-clause-done : goal.returns-clause-done
 returns-clause-done g c =
     let out = c.in_ok-write_out.ensures.out in
-    let dirty = c.in_ok-publish.ensures.dirty in
+    let dirty = c.in_ok-publish.ensures.only.dirty in
     commits (g.D.SectorDevice.state c.args.device.now) (g.D.SectorDevice.state c.write_out.new.device)
     (g.D.SectorDevice.state c.publish.new.device)
     c.args.memory.now c.write_out.new.memory c.publish.new.memory _ (number_of c.args.version) c.args.number c.in_ok-write_out.ensures.done
     c.in_ok-publish.ensures.done c.in_ok-write_out.ensures.taken c.requires.spare
-    (ap (λ (x : Chunk). x.names) c.in_ok-publish.ensures.chunk ∙ out.chunk) (ap (λ (t : TableValue). t.blocks) dirty ∙ out.dirty)
+    (ap (λ (x : Chunk). x.names) c.in_ok-publish.ensures.only.chunk ∙ out.chunk) (ap (λ (t : TableValue). t.blocks) dirty ∙ out.dirty)
     (ap (λ (t : TableValue). t.capacity) dirty ∙ c.in_ok-write_out.ensures.capacity)
     c.write_out.ensures.told c.publish.ensures.told

@@ -57,7 +57,7 @@ returns-in_err-seal_rest-clause-most g c =
     let tells = c.in_ok-save_chunk.ensures.tells in
     let told = c.seal_rest.ensures.told in
     let before = ap (λ (u : UsageTable). clean_in u.segments) c.end_last.ensures in
-    let after = ap (λ (u : UsageTable). clean_in u.segments) c.seal_rest.ensures.usage in
+    let after = ap (λ (u : UsageTable). clean_in u.segments) c.seal_rest.ensures.only.usage in
     let room = c.save_chunk.ensures.room in
     let le = chunk_told c.args.memory.now c.save_chunk.new.memory c.end_last.new.self
     (length (g.D.SectorDevice.state c.args.device.now).told) (length (g.D.SectorDevice.state c.seal_rest.new.device).told) 63
@@ -76,21 +76,21 @@ returns-clause-done g c =
     c.in_ok-seal_rest.ensures.done
 
 pub returns-clause-fewer : goal.returns-clause-fewer
-returns-clause-fewer g c = ap (λ (t : TableValue). length t.blocks + 63) c.seal_rest.ensures.dirty ∙ c.in_ok-save_chunk.ensures.early.fewer
+returns-clause-fewer g c = ap (λ (t : TableValue). length t.blocks + 63) c.seal_rest.ensures.only.dirty ∙ c.in_ok-save_chunk.ensures.early.fewer
 
 pub returns-clause-due : goal.returns-clause-due
 returns-clause-due g c =
     chunk_due c.args.memory.now c.save_chunk.new.memory c.seal_rest.new.memory c.end_last.new.self c.end_last.ensures
-    c.seal_rest.ensures.dirty c.seal_rest.ensures.usage c.in_ok-save_chunk.ensures.early.due
+    c.seal_rest.ensures.only.dirty c.seal_rest.ensures.only.usage c.in_ok-save_chunk.ensures.early.due
 
 pub returns-clause-capacity : goal.returns-clause-capacity
-returns-clause-capacity g c = ap (λ (t : TableValue). t.capacity) c.seal_rest.ensures.dirty ∙ c.in_ok-save_chunk.ensures.capacity
+returns-clause-capacity g c = ap (λ (t : TableValue). t.capacity) c.seal_rest.ensures.only.dirty ∙ c.in_ok-save_chunk.ensures.capacity
 
 pub returns-clause-taken : goal.returns-clause-taken
 returns-clause-taken g c =
     let room = c.save_chunk.ensures.room in
     let before = ap (λ (u : UsageTable). clean_in u.segments) c.end_last.ensures in
-    let after = ap (λ (u : UsageTable). clean_in u.segments) c.seal_rest.ensures.usage in
+    let after = ap (λ (u : UsageTable). clean_in u.segments) c.seal_rest.ensures.only.usage in
     let one = one_segment c.args.memory.now c.save_chunk.new.memory c.requires.closed (omega (arith, before, room)) in
     omega (arith, one, after)
 
@@ -99,7 +99,7 @@ returns-clause-told g c =
     let tells = c.in_ok-save_chunk.ensures.tells in
     let told = c.seal_rest.ensures.told in
     let before = ap (λ (u : UsageTable). clean_in u.segments) c.end_last.ensures in
-    let after = ap (λ (u : UsageTable). clean_in u.segments) c.seal_rest.ensures.usage in
+    let after = ap (λ (u : UsageTable). clean_in u.segments) c.seal_rest.ensures.only.usage in
     let room = c.save_chunk.ensures.room in
     chunk_told c.args.memory.now c.save_chunk.new.memory c.end_last.new.self (length (g.D.SectorDevice.state c.args.device.now).told)
     (length (g.D.SectorDevice.state c.seal_rest.new.device).told) 63
@@ -109,5 +109,5 @@ pub returns-clause-most : goal.returns-clause-most
 returns-clause-most g c = let told = returns-clause-told g c in omega (arith, told)
 
 pub returns-clause-data_blocks : goal.returns-clause-data_blocks
-returns-clause-data_blocks g c = ap (λ (t : TableValue). data_count t + 63) c.seal_rest.ensures.dirty
+returns-clause-data_blocks g c = ap (λ (t : TableValue). data_count t + 63) c.seal_rest.ensures.only.dirty
     ∙ c.in_ok-save_chunk.ensures.data_blocks

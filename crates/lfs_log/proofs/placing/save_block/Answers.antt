@@ -26,8 +26,8 @@ pub returns-clause-early : goal.returns-clause-early
 returns-clause-early g c fresh =
     goes_early c.args.memory.now c.write_block.new.memory c.seal_full.new.memory
     (c.in_ok-seal_full.ensures.fresh (c.in_ok-write_block.ensures.fresh fresh)) c.in_ok-write_block.ensures.fewer
-    c.seal_full.ensures.dirty c.seal_full.ensures.usage (c.in_ok-write_block.ensures.early fresh)
+    c.seal_full.ensures.only.dirty c.seal_full.ensures.only.usage (c.in_ok-write_block.ensures.early fresh)
 
 pub returns-clause-data_blocks : goal.returns-clause-data_blocks
 returns-clause-data_blocks g c kind =
-    ap (λ (t : TableValue). data_count t + 1) c.seal_full.ensures.dirty ∙ c.in_ok-write_block.ensures.data_blocks kind
+    ap (λ (t : TableValue). data_count t + 1) c.seal_full.ensures.only.dirty ∙ c.in_ok-write_block.ensures.data_blocks kind

@@ -38,9 +38,9 @@ loop-index-preserved g c =
       fresh = filled_fresh c.loop-index.memory.usage c.fill_block.new.memory.usage c.loop-index.index filled so_far.fresh;
       segments = filled.segments ∙ so_far.segments;
       address = λ j. filled.address j ∙ so_far.address j;
-      map = c.fill_block.ensures.map ∙ so_far.map;
-      dirty = c.fill_block.ensures.dirty ∙ so_far.dirty;
-      chunk = c.fill_block.ensures.chunk ∙ so_far.chunk;
+      map = c.fill_block.ensures.only.map ∙ so_far.map;
+      dirty = c.fill_block.ensures.only.dirty ∙ so_far.dirty;
+      chunk = c.fill_block.ensures.only.chunk ∙ so_far.chunk;
       told = let told = so_far.told in let more = c.fill_block.ensures.told in omega (arith, told, more);
     }
 

@@ -31,7 +31,7 @@ returns-clause-stopped g c =
 
 pub returns-clause-moved : goal.returns-clause-moved
 returns-clause-moved g c =
-    all_ok _ _ (subst (λ (u : UsageTable). IsResettled c.args.memory.now.usage u c.args.index) (sym c.seal_full.ensures.usage)
+    all_ok _ _ (subst (λ (u : UsageTable). IsResettled c.args.memory.now.usage u c.args.index) (sym c.seal_full.ensures.only.usage)
     (resettled_usage c.args.memory.now c.resettle.new.memory c.args.index c.args.age c.requires.memory c.requires.stale
     c.in_ok-resettle.ensures.done))
 

@@ -35,8 +35,8 @@ loop-round-preserved g c =
           c.args.memory.now c.loop-round.memory c.settle_block.new.memory c.loop-round.round 1 c.loop-round.invariant.goes
           c.in_ok-settle_block.ensures.done;
       left = omega arith;
-      map = c.settle_block.ensures.map ∙ c.loop-round.invariant.map;
-      dirty = c.settle_block.ensures.dirty ∙ c.loop-round.invariant.dirty;
+      map = c.settle_block.ensures.only.map ∙ c.loop-round.invariant.map;
+      dirty = c.settle_block.ensures.only.dirty ∙ c.loop-round.invariant.dirty;
       tells = let told = c.loop-round.invariant.tells in let more = c.in_ok-settle_block.ensures.tells in omega (arith, told, more);
     }
 
