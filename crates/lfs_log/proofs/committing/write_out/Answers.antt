@@ -51,7 +51,8 @@ pub returns-clause-taken : goal.returns-clause-taken
 returns-clause-taken g c =
     let taken = segments_taken c.args.memory.now c.place_all.new.memory (length c.args.memory.now.dirty.blocks) c.requires.closed
     c.in_ok-place_all.ensures.done.memory c.in_ok-place_all.ensures.done.room in
-    let same = ap clean_in (c.in_ok-fill_usage.ensures.only.segments ∙ ap (λ (u : UsageTable). u.segments) c.seal_rest.ensures.only.usage) in
+    let same =
+    ap clean_in (c.in_ok-fill_usage.ensures.only.segments ∙ ap (λ (u : UsageTable). u.segments) c.seal_rest.ensures.only.usage) in
     omega (arith, taken, same)
 
 pub returns-clause-out : goal.returns-clause-out
@@ -59,7 +60,8 @@ returns-clause-out g c =
     let goes = returns-clause-done g c in
     record {
       chunk = ap (λ (x : Chunk). x.names) c.fill_usage.ensures.only.chunk ∙ c.in_ok-seal_rest.ensures.ended;
-      dirty = ap (λ (t : TableValue). t.blocks) (c.fill_usage.ensures.only.dirty ∙ c.seal_rest.ensures.only.dirty) ∙ c.in_ok-place_all.ensures.dirty;
+      dirty = ap (λ (t : TableValue). t.blocks) (c.fill_usage.ensures.only.dirty ∙ c.seal_rest.ensures.only.dirty)
+          ∙ c.in_ok-place_all.ensures.dirty;
       maps = subst AreMapsOut (sym (c.fill_usage.ensures.only.map ∙ c.seal_rest.ensures.only.map)) c.in_ok-place_all.ensures.maps;
       fresh = c.in_ok-fill_usage.ensures.fresh;
       many = many_spare c.args.memory.now c.fill_usage.new.memory (length c.args.memory.now.dirty.blocks) goes.segments goes.emptied

@@ -76,7 +76,8 @@ returns-clause-done g c =
     c.in_ok-seal_rest.ensures.done
 
 pub returns-clause-fewer : goal.returns-clause-fewer
-returns-clause-fewer g c = ap (λ (t : TableValue). length t.blocks + 63) c.seal_rest.ensures.only.dirty ∙ c.in_ok-save_chunk.ensures.early.fewer
+returns-clause-fewer g c = ap (λ (t : TableValue). length t.blocks + 63) c.seal_rest.ensures.only.dirty
+    ∙ c.in_ok-save_chunk.ensures.early.fewer
 
 pub returns-clause-due : goal.returns-clause-due
 returns-clause-due g c =

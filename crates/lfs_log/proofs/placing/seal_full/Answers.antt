@@ -13,7 +13,8 @@ returns-else-is_full-clause-done g c =
 
 pub returns-in_ok-seal-clause-fresh : goal.returns-in_ok-seal-clause-fresh
 returns-in_ok-seal-clause-fresh g c is =
-    sealed_fresh c.args.memory.now c.seal.new.memory c.requires.memory is.0 (c.is_full.ensures.yes c.if-is_full.true) c.seal.ensures.only.usage
+    sealed_fresh c.args.memory.now c.seal.new.memory c.requires.memory is.0
+    (c.is_full.ensures.yes c.if-is_full.true) c.seal.ensures.only.usage
     c.in_ok-seal.ensures.ended
 
 pub returns-else-is_full-clause-fresh : goal.returns-else-is_full-clause-fresh
