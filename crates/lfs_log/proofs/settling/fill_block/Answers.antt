@@ -17,7 +17,7 @@ returns-clause-done g c =
     (c.requires.anew c.args.index c.requires.index stale) at c.set_block.ensures
     (g.D.SectorDevice.state c.args.device.now) (g.D.SectorDevice.state c.write.new.device) c.spelled-bytes.result.now
     c.spelled-bytes.ensures (g.met.D.SectorDevice.lawful c.args.device.now)
-    e.written e.crash e.no_failure e.carries e.time
+    e.written e.crash e.asks.no_failure e.asks.carries e.asks.time
 
 pub returns-in_err-write-clause-stopped : goal.returns-in_err-write-clause-stopped
 returns-in_err-write-clause-stopped g c =
@@ -26,5 +26,5 @@ returns-in_err-write-clause-stopped g c =
     let e = c.in_err-write.ensures in
     on_err _ _ (write_stops_at (g.D.SectorDevice.state c.args.device.now) (g.D.SectorDevice.state c.write.new.device) c.args.memory.now
     c.args.index c.place.inside.address c.spelled-bytes.result.now
-    (g.met.D.SectorDevice.lawful c.args.device.now) (c.requires.anew c.args.index c.requires.index stale) at e.failed_write e.crash e.failed
-    e.carries e.time)
+    (g.met.D.SectorDevice.lawful c.args.device.now) (c.requires.anew c.args.index c.requires.index stale) at e.failed_write e.crash e.asks.failed
+    e.asks.carries e.asks.time)

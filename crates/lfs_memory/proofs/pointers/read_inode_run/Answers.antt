@@ -9,10 +9,10 @@ returns-in-Ok-clause-read g c =
     inode_run (g.D.SectorDevice.state c.args.device.now) (g.D.SectorDevice.state c.present_pointers.new.device) c.args.memory.now
     c.args.number c.args.address _
     (record {
-      untouched = c.present_pointers.ensures.untouched;
-      carries = c.present_pointers.ensures.carries;
-      time = c.present_pointers.ensures.time;
-      told = c.present_pointers.ensures.told;
+      untouched = c.present_pointers.ensures.follows.looks.untouched;
+      carries = c.present_pointers.ensures.follows.looks.carries;
+      time = c.present_pointers.ensures.follows.looks.time;
+      told = c.present_pointers.ensures.follows.looks.told;
     })
     c.requires.inode.number.some c.requires.inode.is c.requires.inode.there c.inode-inode.ensures c.in-Ok.pointers c.in-Ok.ensures.value
 
@@ -24,19 +24,19 @@ returns-in-Err-clause-looks g c =
           c.args.memory.now
           c.args.number c.args.address _
           (record {
-            untouched = c.present_pointers.ensures.untouched;
-            carries = c.present_pointers.ensures.carries;
-            time = c.present_pointers.ensures.time;
-            told = c.present_pointers.ensures.told;
+            untouched = c.present_pointers.ensures.follows.looks.untouched;
+            carries = c.present_pointers.ensures.follows.looks.carries;
+            time = c.present_pointers.ensures.follows.looks.time;
+            told = c.present_pointers.ensures.follows.looks.told;
           })
           c.requires.inode.number.some c.requires.inode.is c.requires.inode.there c.inode-inode.ensures c.in-Err.field-0
-          (λ is. c.in-Err.ensures.unreadable (ap Err is)) (λ is. c.in-Err.ensures.failed (ap Err is));
+          (λ is. c.in-Err.ensures.unreadable (ap Err is)) (λ is. c.in-Err.ensures.follows.failed (ap Err is));
       no_failure = tt;
       looks = record {
-        untouched = c.present_pointers.ensures.untouched;
-        carries = c.present_pointers.ensures.carries;
-        time = c.present_pointers.ensures.time;
-        told = c.present_pointers.ensures.told;
+        untouched = c.present_pointers.ensures.follows.looks.untouched;
+        carries = c.present_pointers.ensures.follows.looks.carries;
+        time = c.present_pointers.ensures.follows.looks.time;
+        told = c.present_pointers.ensures.follows.looks.told;
       };
     }
 

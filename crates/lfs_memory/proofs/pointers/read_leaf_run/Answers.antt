@@ -13,10 +13,10 @@ returns-in-Ok-clause-read g c =
     (g.D.SectorDevice.state c.leaf_pointers.new.device) c.args.memory.now c.args.number c.args.leaf
     c.args.address c.in_ok-first.first _ read.shown c.in_ok-first.ensures.looks
     (record {
-      untouched = c.leaf_pointers.ensures.untouched;
-      carries = c.leaf_pointers.ensures.carries;
-      time = c.leaf_pointers.ensures.time;
-      told = c.leaf_pointers.ensures.told;
+      untouched = c.leaf_pointers.ensures.follows.looks.untouched;
+      carries = c.leaf_pointers.ensures.follows.looks.carries;
+      time = c.leaf_pointers.ensures.follows.looks.time;
+      told = c.leaf_pointers.ensures.follows.looks.told;
     })
     c.requires.inode.number.some c.requires.inode.is c.requires.inode.there c.inode-inode.ensures c.requires.leaf read.value
     (read.is ∙ ap (word read.shown) c.first_of_leaf.ensures.value)
@@ -44,10 +44,10 @@ returns-in-Err-clause-looks g c =
           (g.D.SectorDevice.state c.leaf_pointers.new.device) c.args.memory.now c.args.number c.args.leaf
           c.args.address c.in_ok-first.first _ read.shown c.in_ok-first.ensures.looks
           (record {
-            untouched = c.leaf_pointers.ensures.untouched;
-            carries = c.leaf_pointers.ensures.carries;
-            time = c.leaf_pointers.ensures.time;
-            told = c.leaf_pointers.ensures.told;
+            untouched = c.leaf_pointers.ensures.follows.looks.untouched;
+            carries = c.leaf_pointers.ensures.follows.looks.carries;
+            time = c.leaf_pointers.ensures.follows.looks.time;
+            told = c.leaf_pointers.ensures.follows.looks.told;
           })
           c.requires.inode.number.some c.requires.inode.is c.requires.inode.there c.inode-inode.ensures c.requires.leaf read.value
           (read.is ∙ ap (word read.shown) c.first_of_leaf.ensures.value)

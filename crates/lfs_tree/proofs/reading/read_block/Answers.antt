@@ -24,8 +24,8 @@ returns-clause-answer g c = on_ok_weaker c.read_sector.result (λ read k m n see
     let old = g.D.SectorDevice.state c.args.device.now in
     let mid = g.D.SectorDevice.state c.locate.new.device in
     let new = g.D.SectorDevice.state c.read_sector.new.device in
-    let looks = looks_call old mid (g.met.D.SectorDevice.lawful c.args.device.now) c.locate.ensures.carries c.locate.ensures.untouched
-    c.locate.ensures.time in
+    let looks = looks_call old mid (g.met.D.SectorDevice.lawful c.args.device.now) c.locate.ensures.follows.looks.carries c.locate.ensures.follows.looks.untouched
+    c.locate.ensures.follows.looks.time in
     let before = sees_first old mid new k m sees c.read_sector.ensures.keeps.looks in
     let some = c.if-address-eq0.false in
     block_there old.content k m sees.sized sees.holds n c.args.index c.in-Ok.address c.read_sector.new.out
@@ -39,8 +39,8 @@ returns-clause-failed g c = on_err_weaker c.read_sector.result (λ fails k m n s
     let old = g.D.SectorDevice.state c.args.device.now in
     let mid = g.D.SectorDevice.state c.locate.new.device in
     let new = g.D.SectorDevice.state c.read_sector.new.device in
-    let looks = looks_call old mid (g.met.D.SectorDevice.lawful c.args.device.now) c.locate.ensures.carries c.locate.ensures.untouched
-    c.locate.ensures.time in
+    let looks = looks_call old mid (g.met.D.SectorDevice.lawful c.args.device.now) c.locate.ensures.follows.looks.carries c.locate.ensures.follows.looks.untouched
+    c.locate.ensures.follows.looks.time in
     let before = sees_first old mid new k m sees c.read_sector.ensures.keeps.looks in
     let some = c.if-address-eq0.false in
     let at = c.in-Ok.ensures.value before.keeps ∙ data_is old.content k m sees.sized sees.holds n c.args.index c.args.inode.now is in
