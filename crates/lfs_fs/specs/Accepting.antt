@@ -1,5 +1,6 @@
 -- What becomes of a call's draft: it is staged where the volume has the space for it, or it isn't.
 use Rattle.std.specs.Prelude.{◌≡◌, ◌⊎◌, ◌<◌, ◌≤◌, ◌+◌, ◌*◌, ◌^◌, ℕ, length}
+use Rattle.lfs_model.specs.declared.limits.TheConstants.{LEAST_NEED, NEED_OF_META, NEED_OF_SEGMENT}
 use Rattle.lfs_model.specs.Device.{DeviceState}
 use Rattle.lfs_store.specs.cleaner.Room.{HaltsLater, room_orders}
 use Rattle.lfs_store.specs.log.Held.{Held}
@@ -13,10 +14,10 @@ use Rattle.lfs_fs.specs.Volume.{TellsAtMost}
 
 -- what the tree needs with the draft, and the most that it may need
 abbrev pub need_of : {D : Type 0} → Fs D → ℕ
-need_of f = f.store.drafted.data_blocks + 7 * f.store.drafted.meta_blocks + 720
+need_of f = f.store.drafted.data_blocks + NEED_OF_META * f.store.drafted.meta_blocks + LEAST_NEED
 
 abbrev pub limit_of : {D : Type 0} → Fs D → ℕ
-limit_of f = 47 * length f.store.log.memory.usage.segments
+limit_of f = NEED_OF_SEGMENT * length f.store.log.memory.usage.segments
 
 module _ {D : Type 0} (state : D → DeviceState) where
   -- The device is given no more orders than where room is made, and no more than in a commit where enough segments are clean for two.

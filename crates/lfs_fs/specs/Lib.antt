@@ -3,6 +3,7 @@ pub mod Faults
 pub mod Handles
 pub mod Volume
 pub mod Seen
+pub mod Sizes
 pub mod Accepting
 pub mod Answers
 pub mod Mounting

@@ -1,9 +1,10 @@
 -- What the steps of the calls of paths do, each for itself.
-use Rattle.std.specs.Prelude.{◌≡◌, ◌≢◌, ◌⊎◌, ◌≤◌, ◌<◌, ◌+◌, ◌*◌, ◌&&◌, not, ℕ, Bool, true, false, List, [], length, Option, Some, None}
+use Rattle.std.specs.Prelude.{◌≡◌, ◌≢◌, ◌⊎◌, ◌≤◌, ◌<◌, ◌+◌, ◌-◌, ◌*◌, ◌&&◌, not, ℕ, Bool, true, false, List, [], length, Option, Some, None}
 use Rattle.std.specs.Ordering.{nat_cmp}
 use Rattle.std.specs.FinMap.{find, put}
 use Rattle.lfs_model.specs.Image.{new_form}
 use Rattle.lfs_model.specs.declared.Kind.{Kind}
+use Rattle.lfs_model.specs.declared.limits.TheConstants.{MOST_ENTRIES, MOST_HANDLES}
 use Rattle.lfs_model.specs.declared.Kind.TheVariants as kind
 use Rattle.lfs_model.specs.Bytes.{AreBytes}
 use Rattle.lfs_model.specs.Checkpoint.{CheckpointValue}
@@ -34,6 +35,7 @@ use Rattle.lfs_fs.specs.Accepting.{StagesDraft, TurnsDown}
 use Rattle.lfs_fs.specs.Handles.{handles_of}
 use Rattle.lfs_fs.specs.Reading.{LacksObject, TellsStat}
 use Rattle.lfs_fs.specs.Seen.{HasHeader, OnlyReads, seen}
+use Rattle.lfs_fs.specs.Sizes.{HasRoom}
 use Rattle.lfs_fs.specs.declared.rows.Stat.{Stat}
 use Rattle.lfs_fs.specs.Volume.{IsIn, IsStill, Mounted}
 
@@ -99,7 +101,7 @@ module _ {D : Type 0} (state : D → DeviceState) where
     pub reads : OnlyReads state old mid
     pub looked : IsNoDirectory old mid n
     pub store : new.store ≡ mid.store
-    pub few : handle < 64
+    pub few : handle < MOST_HANDLES
     pub first : least_handle (handles_of mid.handles.numbers.items) ≡ handle
     pub opened : n ≢ 0 → handles_of new.handles.numbers.items ≡ put nat_cmp handle n (handles_of mid.handles.numbers.items)
 
@@ -112,7 +114,7 @@ module _ {D : Type 0} (state : D → DeviceState) where
   -- why it gets none: it is a directory, or all handles are open, or nothing is told of it
   abbrev pub OpensNone : Fs D → Fs D → ℕ → FsError → Type 0
   OpensNone old new n fault = OnlyReads state old new × (((fault ≡ error.IsDir) × IsDirectoryTold old new n)
-      ⊎ (((fault ≡ error.TooManyOpen) × IsNoDirectory old new n × (64 ≤ least_handle (handles_of new.handles.numbers.items)))
+      ⊎ (((fault ≡ error.TooManyOpen) × IsNoDirectory old new n × (MOST_HANDLES ≤ least_handle (handles_of new.handles.numbers.items)))
       ⊎ LacksObject state old new n fault))
 
   -- ---- a name is looked up in directory d
@@ -150,7 +152,7 @@ module _ {D : Type 0} (state : D → DeviceState) where
     pub named : is_dots name ≡ false
     pub is_name : IsName (name_len head.form) name
     pub plain : (ends && not is_mkdir) ≡ false
-    pub room : head.size ≤ 1023 * slot_len head.form
+    pub room : HasRoom head
 
   -- why it doesn't
   abbrev pub RefusesEntry : Fs D → Fs D → ℕ → List ℕ → Bool → Bool → FsError → Type 0
@@ -168,7 +170,7 @@ module _ {D : Type 0} (state : D → DeviceState) where
   RefusesEntry old new d name ends is_mkdir error.DirFull = (is_dots name ≡ false)
       × ((ends && not is_mkdir) ≡ false)
       × ((head : Header) × (length name ≤ name_len head.form)
-      × (1023 * slot_len head.form < head.size) × LooksUp old new d name head None)
+      × ((MOST_ENTRIES - 1) * slot_len head.form < head.size) × LooksUp old new d name head None)
   RefusesEntry old new d name ends is_mkdir error.Halted = old.store.log.halted ≡ true
   RefusesEntry old new d name ends is_mkdir error.Device = FailsLook old new d
   RefusesEntry old new d name ends is_mkdir _ = ⊥

@@ -2,6 +2,7 @@
 use Rattle.std.specs.Prelude.{◌≡◌, ◌≢◌, ◌⊎◌, ◌<◌, ◌+◌, ◌-◌, ℕ, zero, suc, Bool, true, false, List, [], ◌∷◌, ◌++◌, map, min, Some, None}
 use Rattle.lfs_model.specs.declared.Kind.{Kind}
 use Rattle.lfs_model.specs.declared.Kind.TheVariants as kinds
+use Rattle.lfs_model.specs.declared.limits.TheConstants.{LAST_NUMBER, LONGEST_PATH}
 use Rattle.lfs_model.specs.Bytes.{part}
 use Rattle.lfs_model.specs.Checkpoint.{CheckpointValue}
 use Rattle.lfs_model.specs.Device.{DeviceState}
@@ -83,7 +84,7 @@ module _ {D : Type 0} (state : D → DeviceState) where
 
   -- why nothing is told of it: no object has such a number, or it has no header
   abbrev pub LacksObject : Fs D → Fs D → ℕ → FsError → Type 0
-  LacksObject old new n fault = ((fault ≡ error.Device) × (4095 < n)) ⊎ LacksHeader state old new n fault
+  LacksObject old new n fault = ((fault ≡ error.Device) × (LAST_NUMBER < n)) ⊎ LacksHeader state old new n fault
 
   -- or memory was refused
   abbrev pub LacksBytes : Fs D → Fs D → ℕ → FsError → Type 0
@@ -113,7 +114,7 @@ module _ {D : Type 0} (state : D → DeviceState) where
   abbrev pub ReadsHead : Fs D → Fs D → ℕ → Kind → List ℕ → Type 0
   ReadsHead old new n kinds.File out = ReadsFile old new n 0 16 out
   ReadsHead old new n kinds.Directory out = out ≡ []
-  ReadsHead old new n kinds.Link out = ReadsFile old new n 0 1023 out
+  ReadsHead old new n kinds.Link out = ReadsFile old new n 0 LONGEST_PATH out
 
   -- the row of a name of directory d
   abbrev pub TellsRow : Fs D → Fs D → ℕ → Entry → TreeRow → Type 0

@@ -3,6 +3,7 @@ use Rattle.std.specs.Prelude.{◌≡◌, ◌≢◌, ◌⊎◌, ◌≤◌, ◌<�
 use Rattle.std.specs.Prelude.{if◌then◌else◌, Option, Some, None, is_some, is_none}
 use Rattle.std.specs.FinMap.{find}
 use Rattle.lfs_model.specs.declared.Kind.{Kind}
+use Rattle.lfs_model.specs.declared.limits.TheConstants.{LAST_NUMBER, MOST_ENTRIES, MOST_LINKS}
 use Rattle.lfs_model.specs.declared.Kind.TheVariants as kind
 use Rattle.lfs_model.specs.Bytes.{AreBytes}
 use Rattle.lfs_model.specs.Checkpoint.{CheckpointValue}
@@ -41,6 +42,7 @@ use Rattle.lfs_fs.specs.declared.moving.Object.{Object}
 use Rattle.lfs_fs.specs.declared.moving.Source.{Source}
 use Rattle.lfs_fs.specs.declared.moving.Target.{Target}
 use Rattle.lfs_fs.specs.Seen.{HasHeader, seen}
+use Rattle.lfs_fs.specs.Sizes.{HasRoom, IsSmall}
 use Rattle.lfs_fs.specs.Volume.{IsIn, IsStill, Mounted}
 
 -- ---- kinds
@@ -71,7 +73,7 @@ pub record LooksAt (m : LogMap) (d : ℕ) (name : List ℕ) (head : Header) (fou
 -- A number that an object of a volume has.
 pub record IsObject (m : LogMap) (n : ℕ) : Type 0 where
   pub first : 1 ≤ n
-  pub last : n ≤ 4095
+  pub last : n ≤ LAST_NUMBER
   pub there : m.header n ≢ None
 
 -- Directory d is as one of a volume, where this name is looked up.
@@ -79,7 +81,7 @@ pub record MayLook (m : LogMap) (d : ℕ) (name : List ℕ) : Type 0 where
   pub some : d ≢ 0
   pub there : m.header d ≢ None
   pub formed : (head : Header) → m.header d ≡ Some (as_header head) → IsDirectory m d (as_header head)
-  pub small : (head : Header) → m.header d ≡ Some (as_header head) → head.size ≤ 1024 * slot_len head.form
+  pub small : (head : Header) → m.header d ≡ Some (as_header head) → IsSmall head
   pub linked : (head : Header) → m.header d ≡ Some (as_header head) → 2 ≤ head.links
   pub gives : (head : Header) (n : ℕ) → m.header d ≡ Some (as_header head)
       → find byte_cmp name (names_at m d head) ≡ Some n → IsObject m n
@@ -125,12 +127,12 @@ RefusesReplaced k replaced error.NotEmpty = (is_directory replaced.kind ≡ true
 RefusesReplaced k replaced _ = ⊥
 
 pub record FitsRoom (k : Kind) (holder : Header) : Type 0 where
-  pub size : holder.size ≤ 1023 * slot_len holder.form
-  pub links : is_directory k ≡ true → holder.links < 1000
+  pub size : HasRoom holder
+  pub links : is_directory k ≡ true → holder.links < MOST_LINKS
 
 abbrev pub RefusesRoom : Kind → Header → FsError → Type 0
-RefusesRoom k holder error.DirFull = 1023 * slot_len holder.form < holder.size
-RefusesRoom k holder error.TooManyLinks = (holder.size ≤ 1023 * slot_len holder.form) × (is_directory k ≡ true) × (1000 ≤ holder.links)
+RefusesRoom k holder error.DirFull = (MOST_ENTRIES - 1) * slot_len holder.form < holder.size
+RefusesRoom k holder error.TooManyLinks = (HasRoom holder) × (is_directory k ≡ true) × (MOST_LINKS ≤ holder.links)
 RefusesRoom k holder _ = ⊥
 
 -- the same by what is replaced, if anything is
@@ -187,9 +189,9 @@ second_holder source target = if source.directory.value == target.directory.valu
 
 -- Sizes and links are those of a volume.
 pub record MayMove (source : Source) (target : Target) : Type 0 where
-  pub from_size : source.holder.size ≤ 1024 * slot_len source.holder.form
+  pub from_size : IsSmall source.holder
   pub from_links : 2 ≤ source.holder.links
-  pub to_size : target.holder.size ≤ 1024 * slot_len target.holder.form
+  pub to_size : IsSmall target.holder
   pub name : IsName (name_len target.holder.form) target.name.now
   pub form : HaveOneForm source target
   pub fits : FitsTarget source target
@@ -231,7 +233,7 @@ module _ {D : Type 0} (state : D → DeviceState) where
     pub there : InLog old new (λ m. m.header n ≡ Some (as_header o.header))
 
   pub record FindsName (old new : Fs D) (d : ℕ) (name : List ℕ) (head : Header) (found : Option Object) : Type 0 where
-    pub size : head.size ≤ 1024 * slot_len head.form
+    pub size : IsSmall head
     pub looks : InLog old new (λ m. LooksAt m d name head found)
 
   -- ---- the first name

@@ -3,6 +3,7 @@ use Rattle.std.specs.Prelude.{◌≡◌, ◌⊎◌, ◌<◌, ℕ, true, false, L
 use Rattle.std.specs.Ordering.{nat_cmp}
 use Rattle.std.specs.FinMap.{find}
 use Rattle.lfs_model.specs.Call.{Answer, Refuse}
+use Rattle.lfs_model.specs.declared.limits.TheConstants.{LAST_NUMBER}
 use Rattle.lfs_model.specs.Device.{DeviceState}
 use Rattle.lfs_store.specs.log.Held.{Holds, IsReadFault}
 use Rattle.lfs_model.specs.Checkpoint.{CheckpointValue}
@@ -48,7 +49,7 @@ pub record Begins {D : Type 0} (old new : Fs D) : Type 0 where
 -- why a handle gives no file: it isn't open, or gives a number that no file has
 abbrev pub GivesNone : List ℕ → ℕ → FsError → Type 0
 GivesNone table handle fault = ((fault ≡ error.BadHandle) × (find nat_cmp handle (handles_of table) ≡ None))
-    ⊎ ((fault ≡ error.Device) × ((n : ℕ) × (find nat_cmp handle (handles_of table) ≡ Some n) × (4095 < n)))
+    ⊎ ((fault ≡ error.Device) × ((n : ℕ) × (find nat_cmp handle (handles_of table) ≡ Some n) × (LAST_NUMBER < n)))
 
 module _ {D : Type 0} (state : D → DeviceState) where
   -- the header of what stands at a number, where the log holds a log map; or nothing does

@@ -2,6 +2,7 @@
 use Rattle.std.specs.Prelude.{◌≡◌, ◌≢◌, ◌⊎◌, ◌≤◌, ◌<◌, ◌-◌, ◌*◌, ℕ, Bool, true, false, List, length, Some, None}
 use Rattle.std.specs.FinMap.{find}
 use Rattle.lfs_model.specs.declared.Kind.TheVariants as kind
+use Rattle.lfs_model.specs.declared.limits.TheConstants.{MOST_ENTRIES}
 use Rattle.lfs_model.specs.Checkpoint.{CheckpointValue}
 use Rattle.lfs_model.specs.Device.{DeviceState}
 use Rattle.lfs_model.specs.Encodes.{IsLogMap}
@@ -56,7 +57,7 @@ module _ {D : Type 0} (state : D → DeviceState) where
   abbrev pub FailsEntry : Fs D → Fs D → ℕ → List ℕ → Type 0
   FailsEntry old new d name = FailsLook state old new d
       ⊎ ((head : Header) × (n : ℕ) × LooksUp state old new d name head (Some n)
-      × ((1024 * slot_len head.form < head.size) ⊎ ((n ≡ 0) ⊎ LacksHeader state old new n error.Device)))
+      × ((MOST_ENTRIES * slot_len head.form < head.size) ⊎ ((n ≡ 0) ⊎ LacksHeader state old new n error.Device)))
 
   -- why it gives none
   abbrev pub RefusesOld : Fs D → Fs D → ℕ → List ℕ → Bool → FsError → Type 0

@@ -13,6 +13,7 @@ use crate::error::FsError;
 use crate::fs::Fs;
 use lfs_device::SectorDevice;
 use lfs_model::FileNumber;
+use lfs_model::limits::MOST_HANDLES;
 
 impl<D: SectorDevice> Fs<D> {
     /// Closes a handle, which is free then. With its last handle a file without a name goes for
@@ -25,14 +26,8 @@ impl<D: SectorDevice> Fs<D> {
         ensures { Serves D.SectorDevice.state (seen self.old) (seen self.new) (Close handle)
             (answer_by (λ _. Done) result) }
     {
-        match self.begin() {
-            Ok(()) => {}
-            Err(fault) => return Err(fault),
-        }
-        let number = match self.file(handle) {
-            Ok(number) => number,
-            Err(fault) => return Err(fault),
-        };
+        self.begin()?;
+        let number = self.file(handle)?;
         if self.handles.is_shared(handle, number) {
             self.handles.close(handle);
             return Ok(());
@@ -42,7 +37,7 @@ impl<D: SectorDevice> Fs<D> {
 
     /// Closes the last handle of a file.
     fn close_last(&mut self, handle: u32, number: FileNumber) -> Result<(), FsError>
-        requires place { handle < 64 }
+        requires place { handle < MOST_HANDLES }
         requires running { self.old.store.log.halted ≡ false }
         requires empty { IsNoChange self.old.store.draft.changes }
         ensures { find nat_cmp handle (handles_of self.old.handles.numbers.items)
@@ -52,10 +47,7 @@ impl<D: SectorDevice> Fs<D> {
             → Serves D.SectorDevice.state (seen self.old) (seen self.new) (Close handle)
             (answer_by (λ _. Done) result) }
     {
-        let header = match self.header(number) {
-            Ok(header) => header,
-            Err(fault) => return Err(fault),
-        };
+        let header = self.header(number)?;
         if header.links > 0 {
             self.handles.close(handle);
             return Ok(());

@@ -98,6 +98,8 @@ impl From<AllocError> for FsError {
 }
 
 impl From<LogFault> for FsError {
+    ghost from_gives = { λ fault error. error ≡ error_of_log fault };
+
     fn from(fault: LogFault) -> FsError
         ensures { result ≡ error_of_log fault }
     {
@@ -111,6 +113,8 @@ impl From<LogFault> for FsError {
 }
 
 impl From<StoreFault> for FsError {
+    ghost from_gives = { λ fault error. error ≡ error_of_store fault };
+
     fn from(fault: StoreFault) -> FsError
         ensures { result ≡ error_of_store fault }
     {
@@ -122,6 +126,8 @@ impl From<StoreFault> for FsError {
 }
 
 impl From<WalkFault> for FsError {
+    ghost from_gives = { λ fault error. error ≡ error_of_walk fault };
+
     fn from(fault: WalkFault) -> FsError
         ensures { result ≡ error_of_walk fault }
     {

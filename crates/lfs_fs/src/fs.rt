@@ -13,6 +13,7 @@ use crate::handles::Handles;
 use crate::rows::Space;
 use lfs_device::SectorDevice;
 use lfs_model::FileNumber;
+use lfs_model::limits::{LEAST_NEED, NEED_OF_META, NEED_OF_SEGMENT};
 use lfs_store::{BlockTotals, Header, Store};
 use std::alloc::Global;
 
@@ -104,16 +105,18 @@ impl<D: SectorDevice> Fs<D> {
     pub(crate) fn space_of(&self, totals: BlockTotals) -> Space
         ensures stored { result.data_blocks ≡ totals.data_blocks }
         ensures above { result.meta_blocks ≡ totals.meta_blocks }
-        ensures need { result.need ≡ totals.data_blocks + 7 * totals.meta_blocks + 720 }
-        ensures limit { result.limit ≡ 47 * length self.now.store.log.memory.usage.segments }
+        ensures need { result.need ≡ totals.data_blocks + NEED_OF_META * totals.meta_blocks
+            + LEAST_NEED }
+        ensures limit { result.limit ≡ NEED_OF_SEGMENT
+            * length self.now.store.log.memory.usage.segments }
     {
         let data_blocks = u64::from(totals.data_blocks);
         let meta_blocks = u64::from(totals.meta_blocks);
         Space {
             data_blocks,
             meta_blocks,
-            need: data_blocks + 7 * meta_blocks + 720,
-            limit: 47 * u64::from(self.store.log.segments()),
+            need: data_blocks + NEED_OF_META * meta_blocks + LEAST_NEED,
+            limit: NEED_OF_SEGMENT * u64::from(self.store.log.segments()),
         }
     }
 

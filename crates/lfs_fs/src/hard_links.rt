@@ -11,12 +11,13 @@ ghost use Rattle.lfs_fs.specs.Volume.{IsStill, Mounted, Serves};
 ghost use Rattle.lfs_fs.specs.Seen.{seen, answer_by};
 ghost use Rattle.lfs_fs.specs.Naming.{DraftsNone, Reaches};
 ghost use Rattle.lfs_fs.specs.HardLinks.{DraftsName, SeesObject};
+ghost use Rattle.lfs_fs.specs.Sizes.{HasRoom};
 
 use crate::error::FsError;
 use crate::fs::Fs;
-use crate::naming::MOST_LINKS;
 use lfs_device::SectorDevice;
 use lfs_model::FileNumber;
+use lfs_model::limits::MOST_LINKS;
 use lfs_path::Last;
 use lfs_path::dirs::add;
 use lfs_path::tree::parent;
@@ -35,14 +36,9 @@ impl<D: SectorDevice> Fs<D> {
         ensures { Serves D.SectorDevice.state (seen self.old) (seen self.new)
             (LinkTo from.now to.now) (answer_by (λ _. Done) result) }
     {
-        match self.begin() {
-            Ok(()) => {}
-            Err(fault) => return Err(fault),
-        }
-        match parent(self.alloc, &mut self.store, from) {
-            Ok(place) => self.link_from(place.chain.directory(), place.last, to),
-            Err(fault) => Err(FsError::from(fault)),
-        }
+        self.begin()?;
+        let place = parent(self.alloc, &mut self.store, from)?;
+        self.link_from(place.chain.directory(), place.last, to)
     }
 
     /// Gives what the last piece of a path names, which stands in this directory, a further name.
@@ -62,21 +58,14 @@ impl<D: SectorDevice> Fs<D> {
         let Some(last) = last else {
             return Err(FsError::Perm);
         };
-        let entry = match self.check_old_entry(directory, last) {
-            Ok(entry) => entry,
-            Err(fault) => return Err(fault),
-        };
-        match parent(self.alloc, &mut self.store, to) {
-            Ok(place) => {
-                self.link_to(
-                    entry.number,
-                    entry.header,
-                    place.chain.directory(),
-                    place.last,
-                )
-            }
-            Err(fault) => Err(FsError::from(fault)),
-        }
+        let entry = self.check_old_entry(directory, last)?;
+        let place = parent(self.alloc, &mut self.store, to)?;
+        self.link_to(
+            entry.number,
+            entry.header,
+            place.chain.directory(),
+            place.last,
+        )
     }
 
     /// Gives an object of this header the last piece of a path, which stands in this directory,
@@ -99,10 +88,7 @@ impl<D: SectorDevice> Fs<D> {
         let Some(last) = last else {
             return Err(FsError::Exist);
         };
-        let holder = match self.check_new_entry(directory, last, false) {
-            Ok(holder) => holder,
-            Err(fault) => return Err(fault),
-        };
+        let holder = self.check_new_entry(directory, last, false)?;
         if header.links >= MOST_LINKS {
             return Err(FsError::TooManyLinks);
         }
@@ -124,8 +110,8 @@ impl<D: SectorDevice> Fs<D> {
         header: Header,
         name: &[u8],
     ) -> Result<(), FsError>
-        requires room { holder.size ≤ 1023 * slot_len holder.form }
-        requires linked { header.links < 1000 }
+        requires room { HasRoom holder }
+        requires linked { header.links < MOST_LINKS }
         requires name { IsName (name_len holder.form) name.now }
         requires running { self.old.store.log.halted ≡ false }
         ensures still { IsStill D.SectorDevice.state (seen self.old) (seen self.new) }

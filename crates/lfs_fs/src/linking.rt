@@ -31,18 +31,10 @@ impl<D: SectorDevice> Fs<D> {
         ensures { Serves D.SectorDevice.state (seen self.old) (seen self.new)
             (Symlink text.now path.now) (answer_by (λ _. Done) result) }
     {
-        match self.begin() {
-            Ok(()) => {}
-            Err(fault) => return Err(fault),
-        }
-        match check_link_text(text) {
-            Ok(()) => {}
-            Err(fault) => return Err(fault),
-        }
-        match parent(self.alloc, &mut self.store, path) {
-            Ok(place) => self.symlink_at(place.chain.directory(), place.last, text),
-            Err(fault) => Err(FsError::from(fault)),
-        }
+        self.begin()?;
+        check_link_text(text)?;
+        let place = parent(self.alloc, &mut self.store, path)?;
+        self.symlink_at(place.chain.directory(), place.last, text)
     }
 
     /// Makes a symbolic link under the last piece of a path, which stands in this directory.
@@ -63,10 +55,7 @@ impl<D: SectorDevice> Fs<D> {
         let Some(last) = last else {
             return Err(FsError::Exist);
         };
-        let header = match self.check_new_entry(directory, last, false) {
-            Ok(header) => header,
-            Err(fault) => return Err(fault),
-        };
+        let header = self.check_new_entry(directory, last, false)?;
         let Some(number) = self.store.least_free() else {
             return Err(FsError::NoNumber);
         };

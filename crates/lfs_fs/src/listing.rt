@@ -26,14 +26,9 @@ impl<D: SectorDevice> Fs<D> {
         ensures { Serves D.SectorDevice.state (seen self.old) (seen self.new) (Readdir path.now)
             (answer_by (λ entries. Entries (map entry_of entries.items)) result) }
     {
-        match self.begin() {
-            Ok(()) => {}
-            Err(fault) => return Err(fault),
-        }
-        match resolve(self.alloc, &mut self.store, path, true) {
-            Ok(number) => self.entries_at(number),
-            Err(fault) => Err(FsError::from(fault)),
-        }
+        self.begin()?;
+        let number = resolve(self.alloc, &mut self.store, path, true)?;
+        self.entries_at(number)
     }
 
     /// The entries of a directory that is there.
@@ -44,14 +39,8 @@ impl<D: SectorDevice> Fs<D> {
         ensures missing { IfErr result (λ fault. LacksNode D.SectorDevice.state self.old self.new
             number.value fault) }
     {
-        let header = match self.header(number) {
-            Ok(header) => header,
-            Err(fault) => return Err(fault),
-        };
-        match check_directory(header.kind) {
-            Ok(()) => {}
-            Err(fault) => return Err(fault),
-        }
+        let header = self.header(number)?;
+        check_directory(header.kind)?;
         self.entries_in(number, header)
     }
 
@@ -81,10 +70,7 @@ impl<D: SectorDevice> Fs<D> {
             return Err(FsError::NoMemory);
         };
         for name in names {
-            match self.push_entry(name, &mut entries) {
-                Ok(()) => {}
-                Err(fault) => return Err(fault),
-            }
+            self.push_entry(name, &mut entries)?;
         }
         Ok(entries)
     }
@@ -97,10 +83,7 @@ impl<D: SectorDevice> Fs<D> {
         ensures missing { IfErr result (λ fault. LacksEntry D.SectorDevice.state self.old self.new
             name fault) }
     {
-        let stat = match self.stat_of(name.number) {
-            Ok(stat) => stat,
-            Err(fault) => return Err(fault),
-        };
+        let stat = self.stat_of(name.number)?;
         let entry = Entry {
             name: name.name,
             number: stat.number,

@@ -14,11 +14,13 @@ ghost use Rattle.lfs_fs.specs.Renaming.{DraftsLinks, DraftsMove, DropsFound, Dro
 ghost use Rattle.lfs_fs.specs.Seen.{seen};
 ghost use Rattle.lfs_fs.specs.Unlinking.{TakesOut};
 ghost use Rattle.lfs_fs.specs.Volume.{IsStill};
+ghost use Rattle.lfs_fs.specs.Sizes.{HasRoom, IsSmall};
 
 use crate::error::FsError;
 use crate::fs::Fs;
 use lfs_device::SectorDevice;
 use lfs_layout::slot_len;
+use lfs_model::limits::MOST_LINKS;
 use lfs_model::{FileNumber, Kind};
 use lfs_path::dirs::{add, repoint, take};
 use lfs_store::Header;
@@ -90,14 +92,8 @@ impl<D: SectorDevice> Fs<D> {
         ensures refused { IfErr result (FailsMove D.SectorDevice.state self.old self.new
             source.entry target.entry) }
     {
-        let (from, to) = match self.draft_links(source, target) {
-            Ok(holders) => holders,
-            Err(fault) => return Err(fault),
-        };
-        match self.take_name(source.directory, from, source.name, source.object.place) {
-            Ok(()) => {}
-            Err(fault) => return Err(fault),
-        }
+        let (from, to) = self.draft_links(source, target)?;
+        self.take_name(source.directory, from, source.name, source.object.place)?;
         let holder = later_holder(source.directory, target.directory, from, to);
         self.draft_target(target, holder, source.object.number)
     }
@@ -123,10 +119,7 @@ impl<D: SectorDevice> Fs<D> {
         ensures refused { IfErr result (FailsMove D.SectorDevice.state self.old self.new
             source.entry target.entry) }
     {
-        match self.drop_replaced(target.replaced) {
-            Ok(()) => {}
-            Err(fault) => return Err(fault),
-        }
+        self.drop_replaced(target.replaced)?;
         match self.relink_holders(source, target) {
             Ok(holders) => Ok(holders),
             Err(fault) => Err(fault),
@@ -141,7 +134,7 @@ impl<D: SectorDevice> Fs<D> {
         name: &[u8],
         place: u32,
     ) -> Result<(), FsError>
-        requires size { holder.size ≤ 1024 * slot_len holder.form }
+        requires size { IsSmall holder }
         requires running { self.old.store.log.halted ≡ false }
         ensures still { IsStill D.SectorDevice.state (seen self.old) (seen self.new) }
         ensures taken { OnOk result (TakesOut D.SectorDevice.state self.old.store.log
@@ -225,10 +218,7 @@ impl<D: SectorDevice> Fs<D> {
     {
         let loses = loses_directory(source, target);
         let fewer = fewer_links(loses, source.holder.links);
-        let from = match self.relink_where(loses, source.directory, source.holder, fewer) {
-            Ok(header) => header,
-            Err(fault) => return Err(fault),
-        };
+        let from = self.relink_where(loses, source.directory, source.holder, fewer)?;
         let gains = gains_directory(source, target);
         let more = more_links(gains, target.holder.links);
         match self.relink_where(gains, target.directory, target.holder, more) {
@@ -245,8 +235,8 @@ impl<D: SectorDevice> Fs<D> {
         holder: Header,
         number: FileNumber,
     ) -> Result<(), FsError>
-        requires size { holder.size ≤ 1024 * slot_len holder.form }
-        requires room { target.replaced ≡ None → holder.size ≤ 1023 * slot_len holder.form }
+        requires size { IsSmall holder }
+        requires room { target.replaced ≡ None → HasRoom holder }
         requires name { IsName (name_len holder.form) target.name.now }
         requires running { self.old.store.log.halted ≡ false }
         ensures still { IsStill D.SectorDevice.state (seen self.old) (seen self.new) }
@@ -278,7 +268,7 @@ impl<D: SectorDevice> Fs<D> {
         number: FileNumber,
         name: &[u8],
     ) -> Result<(), FsError>
-        requires room { holder.size ≤ 1023 * slot_len holder.form }
+        requires room { HasRoom holder }
         requires name { IsName (name_len holder.form) name.now }
         requires running { self.old.store.log.halted ≡ false }
         ensures still { IsStill D.SectorDevice.state (seen self.old) (seen self.new) }
@@ -307,7 +297,7 @@ impl<D: SectorDevice> Fs<D> {
         name: &[u8],
         place: u32,
     ) -> Result<(), FsError>
-        requires size { holder.size ≤ 1024 * slot_len holder.form }
+        requires size { IsSmall holder }
         requires name { IsName (name_len holder.form) name.now }
         requires running { self.old.store.log.halted ≡ false }
         ensures still { IsStill D.SectorDevice.state (seen self.old) (seen self.new) }
@@ -406,7 +396,7 @@ fn fewer_links(loses: bool, links: u32) -> u32
 
 /// The links of a directory that may have a directory more.
 fn more_links(gains: bool, links: u32) -> u32
-    requires { gains ≡ true → links < 1000 }
+    requires { gains ≡ true → links < MOST_LINKS }
     ensures { result ≡ (if gains then links + 1 else links) }
 {
     if gains { links + 1 } else { links }

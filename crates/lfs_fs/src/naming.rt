@@ -11,6 +11,7 @@ ghost use Rattle.lfs_path.specs.dirs.Finding.{value_of};
 ghost use Rattle.lfs_fs.specs.Volume.{IsStill, Mounted, Serves};
 ghost use Rattle.lfs_fs.specs.Seen.{seen, answer_by, OnlyReads};
 ghost use Rattle.lfs_fs.specs.Naming.{DraftsEmpty, DraftsNew, DraftsNone, DraftsObject, LooksNone, LooksUp, MakesNew, MakesNone, OpensNone, OpensNumber, Reaches, RefusesEntry, RelinksParent, TakesEntry, more_links, new_kind};
+ghost use Rattle.lfs_fs.specs.Sizes.{HasRoom};
 
 use crate::error::FsError;
 use crate::fs::Fs;
@@ -18,15 +19,13 @@ use crate::sizes::is_full;
 use lfs_device::SectorDevice;
 use lfs_files::FIRST_FORM;
 use lfs_layout::is_name;
+use lfs_model::limits::MOST_LINKS;
 use lfs_model::{FileNumber, Kind};
 use lfs_path::Last;
 use lfs_path::dirs::{Found, add, find, longest_name};
 use lfs_path::text::is_dots;
 use lfs_path::tree::{parent, resolve};
 use lfs_store::Header;
-
-/// The most links of an object; a directory has 2, and one for each directory in it.
-pub(crate) const MOST_LINKS: u32 = 1_000;
 
 impl<D: SectorDevice> Fs<D> {
     /// A handle on the file of a path: the least that is free (POSIX.1-2017, open).
@@ -38,14 +37,9 @@ impl<D: SectorDevice> Fs<D> {
         ensures { Serves D.SectorDevice.state (seen self.old) (seen self.new) (Open path.now)
             (answer_by Handle result) }
     {
-        match self.begin() {
-            Ok(()) => {}
-            Err(fault) => return Err(fault),
-        }
-        match resolve(self.alloc, &mut self.store, path, true) {
-            Ok(number) => self.open_number(number),
-            Err(fault) => Err(FsError::from(fault)),
-        }
+        self.begin()?;
+        let number = resolve(self.alloc, &mut self.store, path, true)?;
+        self.open_number(number)
     }
 
     /// A handle on the file of a number.
@@ -55,14 +49,8 @@ impl<D: SectorDevice> Fs<D> {
         ensures refused { IfErr result (OpensNone D.SectorDevice.state self.old self.new
             number.value) }
     {
-        let stat = match self.stat_of(number) {
-            Ok(stat) => stat,
-            Err(fault) => return Err(fault),
-        };
-        match check_file(stat.kind) {
-            Ok(()) => {}
-            Err(fault) => return Err(fault),
-        }
+        let stat = self.stat_of(number)?;
+        check_file(stat.kind)?;
         let Some(handle) = self.handles.least_free() else {
             return Err(FsError::TooManyOpen);
         };
@@ -82,14 +70,9 @@ impl<D: SectorDevice> Fs<D> {
         ensures { Serves D.SectorDevice.state (seen self.old) (seen self.new) (Create path.now)
             (answer_by Handle result) }
     {
-        match self.begin() {
-            Ok(()) => {}
-            Err(fault) => return Err(fault),
-        }
-        match parent(self.alloc, &mut self.store, path) {
-            Ok(place) => self.create_at(place.chain.directory(), place.last),
-            Err(fault) => Err(FsError::from(fault)),
-        }
+        self.begin()?;
+        let place = parent(self.alloc, &mut self.store, path)?;
+        self.create_at(place.chain.directory(), place.last)
     }
 
     /// Makes an empty file under the last piece of a path, which stands in this directory.
@@ -104,20 +87,14 @@ impl<D: SectorDevice> Fs<D> {
         let Some(last) = last else {
             return Err(FsError::Exist);
         };
-        let header = match self.check_new_entry(directory, last, false) {
-            Ok(header) => header,
-            Err(fault) => return Err(fault),
-        };
+        let header = self.check_new_entry(directory, last, false)?;
         let Some(handle) = self.handles.least_free() else {
             return Err(FsError::TooManyOpen);
         };
         let Some(number) = self.store.least_free() else {
             return Err(FsError::NoNumber);
         };
-        match self.make_entry(directory, header, number, Kind::File, &[], last.name) {
-            Ok(()) => {}
-            Err(fault) => return Err(fault),
-        }
+        self.make_entry(directory, header, number, Kind::File, &[], last.name)?;
         self.handles.open(handle, number);
         Ok(handle)
     }
@@ -133,14 +110,9 @@ impl<D: SectorDevice> Fs<D> {
         ensures { Serves D.SectorDevice.state (seen self.old) (seen self.new) (Mkdir path.now)
             (answer_by (λ _. Done) result) }
     {
-        match self.begin() {
-            Ok(()) => {}
-            Err(fault) => return Err(fault),
-        }
-        match parent(self.alloc, &mut self.store, path) {
-            Ok(place) => self.mkdir_at(place.chain.directory(), place.last),
-            Err(fault) => Err(FsError::from(fault)),
-        }
+        self.begin()?;
+        let place = parent(self.alloc, &mut self.store, path)?;
+        self.mkdir_at(place.chain.directory(), place.last)
     }
 
     /// Makes an empty directory under the last piece of a path, which stands in this directory.
@@ -155,10 +127,7 @@ impl<D: SectorDevice> Fs<D> {
         let Some(last) = last else {
             return Err(FsError::Exist);
         };
-        let header = match self.check_new_entry(directory, last, true) {
-            Ok(header) => header,
-            Err(fault) => return Err(fault),
-        };
+        let header = self.check_new_entry(directory, last, true)?;
         if header.links >= MOST_LINKS {
             return Err(FsError::TooManyLinks);
         }
@@ -187,10 +156,7 @@ impl<D: SectorDevice> Fs<D> {
         ensures missing { IfErr result (LooksNone D.SectorDevice.state self.old self.new
             directory.value name.now) }
     {
-        let header = match self.header(directory) {
-            Ok(header) => header,
-            Err(fault) => return Err(fault),
-        };
+        let header = self.header(directory)?;
         let longest = longest_name(header.form);
         if name.len() > longest {
             return Err(FsError::NameTooLong);
@@ -218,10 +184,7 @@ impl<D: SectorDevice> Fs<D> {
         if is_dots(last.name) {
             return Err(FsError::Exist);
         }
-        let (header, found) = match self.look_in(directory, last.name) {
-            Ok(found) => found,
-            Err(fault) => return Err(fault),
-        };
+        let (header, found) = self.look_in(directory, last.name)?;
         // The pieces of a path without a zero byte are names.
         if !is_name(header.form, last.name) {
             return Err(FsError::Inval);
@@ -248,8 +211,8 @@ impl<D: SectorDevice> Fs<D> {
         text: &[u8],
         name: &[u8],
     ) -> Result<(), FsError>
-        requires room { header.size ≤ 1023 * slot_len header.form }
-        requires linked { kind ≡ Kind.Directory → header.links < 1000 }
+        requires room { HasRoom header }
+        requires linked { kind ≡ Kind.Directory → header.links < MOST_LINKS }
         requires text { kind ≡ Kind.Link → text_refusal text.now ≡ None }
         requires name { IsName (name_len header.form) name.now }
         requires running { self.old.store.log.halted ≡ false }
@@ -279,8 +242,8 @@ impl<D: SectorDevice> Fs<D> {
         text: &[u8],
         name: &[u8],
     ) -> Result<(), FsError>
-        requires room { header.size ≤ 1023 * slot_len header.form }
-        requires linked { kind ≡ Kind.Directory → header.links < 1000 }
+        requires room { HasRoom header }
+        requires linked { kind ≡ Kind.Directory → header.links < MOST_LINKS }
         requires text { kind ≡ Kind.Link → text_refusal text.now ≡ None }
         requires name { IsName (name_len header.form) name.now }
         requires running { self.old.store.log.halted ≡ false }
@@ -292,14 +255,8 @@ impl<D: SectorDevice> Fs<D> {
             self.new.store.draft.changes 4 4) }
         ensures refused { IfErr result (DraftsNone D.SectorDevice.state self.old self.new) }
     {
-        match self.draft_object(number, kind, text) {
-            Ok(()) => {}
-            Err(fault) => return Err(fault),
-        }
-        let header = match self.relink_parent(directory, header, kind) {
-            Ok(header) => header,
-            Err(fault) => return Err(fault),
-        };
+        self.draft_object(number, kind, text)?;
+        let header = self.relink_parent(directory, header, kind)?;
         match add(&mut self.store, directory, header, number, name) {
             Ok(()) => Ok(()),
             Err(fault) => Err(FsError::from(fault)),
@@ -352,7 +309,7 @@ impl<D: SectorDevice> Fs<D> {
         header: Header,
         kind: Kind,
     ) -> Result<Header, FsError>
-        requires linked { kind ≡ Kind.Directory → header.links < 1000 }
+        requires linked { kind ≡ Kind.Directory → header.links < MOST_LINKS }
         ensures log { self.new.store.log ≡ self.old.store.log }
         ensures saved { self.new.store.saved ≡ self.old.store.saved }
         ensures drafted { self.new.store.drafted ≡ self.old.store.drafted }
@@ -373,7 +330,7 @@ impl<D: SectorDevice> Fs<D> {
 
     /// Drafts one link more of a directory.
     fn add_link(&mut self, directory: FileNumber, header: Header) -> Result<Header, FsError>
-        requires linked { header.links < 1000 }
+        requires linked { header.links < MOST_LINKS }
         ensures log { self.new.store.log ≡ self.old.store.log }
         ensures saved { self.new.store.saved ≡ self.old.store.saved }
         ensures drafted { self.new.store.drafted ≡ self.old.store.drafted }

@@ -3,6 +3,7 @@ ghost use Rattle.std.specs.Prelude.{◌≡◌, ◌≢◌, ◌≤◌, ◌*◌, If
 ghost use Rattle.lfs_model.specs.Tree.{slot_len};
 ghost use Rattle.lfs_fs.specs.Seen.{OnlyReads};
 ghost use Rattle.lfs_fs.specs.Unlinking.{HasEntry, RefusesOld};
+ghost use Rattle.lfs_fs.specs.Sizes.{IsSmall};
 
 use crate::error::FsError;
 use crate::fs::Fs;
@@ -40,17 +41,14 @@ impl<D: SectorDevice> Fs<D> {
         ensures reads { OnlyReads D.SectorDevice.state self.old self.new }
         ensures has { IfOk result (λ e. HasEntry D.SectorDevice.state self.old self.new
             directory.value last.entry.name.now last.entry.slash e.holder e.number.value e.header) }
-        ensures size { IfOk result (λ e. e.holder.size ≤ 1024 * slot_len e.holder.form) }
+        ensures size { IfOk result (λ e. IsSmall e.holder) }
         ensures refused { IfErr result (RefusesOld D.SectorDevice.state self.old self.new
             directory.value last.entry.name.now last.entry.slash) }
     {
         if is_dots(last.name) {
             return Err(FsError::Perm);
         }
-        let (holder, found) = match self.look_in(directory, last.name) {
-            Ok(found) => found,
-            Err(fault) => return Err(fault),
-        };
+        let (holder, found) = self.look_in(directory, last.name)?;
         let Some(found) = found else {
             return Err(FsError::NoEntry);
         };
@@ -58,10 +56,7 @@ impl<D: SectorDevice> Fs<D> {
         if is_too_large(holder) {
             return Err(FsError::Device);
         }
-        let header = match self.header(found.number) {
-            Ok(header) => header,
-            Err(fault) => return Err(fault),
-        };
+        let header = self.header(found.number)?;
         if is_directory(header.kind) {
             return Err(FsError::Perm);
         }

@@ -11,22 +11,17 @@ use crate::error::FsError;
 use crate::fs::Fs;
 use crate::rows::{Space, Stat, TreeRow};
 use lfs_device::SectorDevice;
+use lfs_model::limits::{FILE_NUMBERS, LONGEST_PATH, LONGEST_TRANSFER};
 use lfs_model::{FileNumber, Kind};
 use lfs_path::dirs::{Entry, list};
 use lfs_path::tree::resolve;
 use lfs_store::Header;
 
-/// The most bytes of one read or write.
-pub const LONGEST_TRANSFER: u32 = 65_536;
-
 /// The most bytes of a file that `tree` shows.
 const LONGEST_HEAD: u32 = 16;
 
 /// The most bytes of a link's text.
-const LONGEST_TEXT: u32 = 1_023;
-
-/// One more than the greatest number of an object.
-const NUMBERS: u16 = 4_096;
+const LONGEST_TEXT: u32 = LONGEST_PATH as u32;
 
 impl<D: SectorDevice> Fs<D> {
     /// The bytes of a file from `offset` on, at most `len`; none at or past its end (POSIX.1-2017,
@@ -39,14 +34,8 @@ impl<D: SectorDevice> Fs<D> {
         ensures { Serves D.SectorDevice.state (seen self.old) (seen self.new)
             (Pread handle offset len) (answer_by (λ bytes. Data bytes.items) result) }
     {
-        match self.begin() {
-            Ok(()) => {}
-            Err(fault) => return Err(fault),
-        }
-        let number = match self.file(handle) {
-            Ok(number) => number,
-            Err(fault) => return Err(fault),
-        };
+        self.begin()?;
+        let number = self.file(handle)?;
         if len > LONGEST_TRANSFER {
             return Err(FsError::Inval);
         }
@@ -112,14 +101,9 @@ impl<D: SectorDevice> Fs<D> {
         ensures { Serves D.SectorDevice.state (seen self.old) (seen self.new)
             (stat_call follow path.now) (answer_by (λ stat. Status (status_of stat)) result) }
     {
-        match self.begin() {
-            Ok(()) => {}
-            Err(fault) => return Err(fault),
-        }
-        match resolve(self.alloc, &mut self.store, path, follow) {
-            Ok(number) => self.stat_of(number),
-            Err(fault) => Err(FsError::from(fault)),
-        }
+        self.begin()?;
+        let number = resolve(self.alloc, &mut self.store, path, follow)?;
+        self.stat_of(number)
     }
 
     /// What is told of an object that is there.
@@ -130,10 +114,7 @@ impl<D: SectorDevice> Fs<D> {
         ensures missing { IfErr result (λ fault. LacksObject D.SectorDevice.state self.old self.new
             number.value fault) }
     {
-        let header = match self.header(number) {
-            Ok(header) => header,
-            Err(fault) => return Err(fault),
-        };
+        let header = self.header(number)?;
         Ok(Stat {
             number: u32::from(number.value),
             kind: header.kind,
@@ -151,14 +132,9 @@ impl<D: SectorDevice> Fs<D> {
         ensures { Serves D.SectorDevice.state (seen self.old) (seen self.new) (Readlink path.now)
             (answer_by (λ text. Text text.items) result) }
     {
-        match self.begin() {
-            Ok(()) => {}
-            Err(fault) => return Err(fault),
-        }
-        match resolve(self.alloc, &mut self.store, path, false) {
-            Ok(number) => self.text_of(number),
-            Err(fault) => Err(FsError::from(fault)),
-        }
+        self.begin()?;
+        let number = resolve(self.alloc, &mut self.store, path, false)?;
+        self.text_of(number)
     }
 
     /// The text of a link that is there.
@@ -169,14 +145,8 @@ impl<D: SectorDevice> Fs<D> {
         ensures missing { IfErr result (λ fault. LacksText D.SectorDevice.state self.old self.new
             number.value fault) }
     {
-        let stat = match self.stat_of(number) {
-            Ok(stat) => stat,
-            Err(fault) => return Err(fault),
-        };
-        match check_link(stat.kind) {
-            Ok(()) => {}
-            Err(fault) => return Err(fault),
-        }
+        let stat = self.stat_of(number)?;
+        check_link(stat.kind)?;
         self.read_file(number, 0, LONGEST_TEXT)
     }
 
@@ -189,10 +159,7 @@ impl<D: SectorDevice> Fs<D> {
         ensures { Serves D.SectorDevice.state (seen self.old) (seen self.new) call.Space
             (answer_by room_of result) }
     {
-        match self.begin() {
-            Ok(()) => {}
-            Err(fault) => return Err(fault),
-        }
+        self.begin()?;
         Ok(self.space_of(self.store.drafted))
     }
 
@@ -205,10 +172,7 @@ impl<D: SectorDevice> Fs<D> {
         ensures { Serves D.SectorDevice.state (seen self.old) (seen self.new) call.Version
             (answer_by FormatVersion result) }
     {
-        match self.begin() {
-            Ok(()) => {}
-            Err(fault) => return Err(fault),
-        }
+        self.begin()?;
         Ok(self.store.log.version())
     }
 
@@ -222,10 +186,7 @@ impl<D: SectorDevice> Fs<D> {
         ensures { Serves D.SectorDevice.state (seen self.old) (seen self.new) ListTree
             (answer_by (λ rows. Rows (map row_of rows.items)) result) }
     {
-        match self.begin() {
-            Ok(()) => {}
-            Err(fault) => return Err(fault),
-        }
+        self.begin()?;
         self.rows()
     }
 
@@ -238,12 +199,9 @@ impl<D: SectorDevice> Fs<D> {
             fault) }
     {
         let mut rows = Vec::new(self.alloc);
-        for number in 1..NUMBERS {
+        for number in 1..FILE_NUMBERS {
             let number = FileNumber { value: number };
-            match self.push_rows(number, &mut rows) {
-                Ok(()) => {}
-                Err(fault) => return Err(fault),
-            }
+            self.push_rows(number, &mut rows)?;
         }
         Ok(rows)
     }
@@ -256,10 +214,7 @@ impl<D: SectorDevice> Fs<D> {
         ensures missing { IfErr result (λ fault. LacksNames D.SectorDevice.state self.old self.new
             fault) }
     {
-        let more = match self.rows_at(number) {
-            Ok(more) => more,
-            Err(fault) => return Err(fault),
-        };
+        let more = self.rows_at(number)?;
         put_rows(rows, more)
     }
 
@@ -312,10 +267,7 @@ impl<D: SectorDevice> Fs<D> {
             return Err(FsError::NoMemory);
         };
         for entry in entries {
-            match self.push_row(directory, entry, &mut rows) {
-                Ok(()) => {}
-                Err(fault) => return Err(fault),
-            }
+            self.push_row(directory, entry, &mut rows)?;
         }
         Ok(rows)
     }
@@ -333,10 +285,7 @@ impl<D: SectorDevice> Fs<D> {
         ensures missing { IfErr result (λ fault. LacksRow D.SectorDevice.state self.old self.new
             directory.value entry fault) }
     {
-        let row = match self.row(directory, entry) {
-            Ok(row) => row,
-            Err(fault) => return Err(fault),
-        };
+        let row = self.row(directory, entry)?;
         put_row(rows, row)
     }
 
@@ -348,14 +297,8 @@ impl<D: SectorDevice> Fs<D> {
         ensures missing { IfErr result (λ fault. LacksRow D.SectorDevice.state self.old self.new
             directory.value entry fault) }
     {
-        let stat = match self.stat_of(entry.number) {
-            Ok(stat) => stat,
-            Err(fault) => return Err(fault),
-        };
-        let head = match self.head_of(entry.number, stat.kind) {
-            Ok(head) => head,
-            Err(fault) => return Err(fault),
-        };
+        let stat = self.stat_of(entry.number)?;
+        let head = self.head_of(entry.number, stat.kind)?;
         Ok(TreeRow {
             directory: u32::from(directory.value),
             name: entry.name,

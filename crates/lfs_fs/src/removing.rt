@@ -11,6 +11,7 @@ ghost use Rattle.lfs_fs.specs.Seen.{seen, answer_by, OnlyReads};
 ghost use Rattle.lfs_fs.specs.Naming.{DraftsNone, Reaches};
 ghost use Rattle.lfs_fs.specs.Unlinking.{FailsUnlink};
 ghost use Rattle.lfs_fs.specs.Removing.{DraftsRmdir, HasEmpty, LosesObject, RefusesEmpty};
+ghost use Rattle.lfs_fs.specs.Sizes.{IsSmall};
 
 use crate::error::FsError;
 use crate::fs::Fs;
@@ -39,14 +40,9 @@ impl<D: SectorDevice> Fs<D> {
         ensures { Serves D.SectorDevice.state (seen self.old) (seen self.new) (Rmdir path.now)
             (answer_by (λ _. Done) result) }
     {
-        match self.begin() {
-            Ok(()) => {}
-            Err(fault) => return Err(fault),
-        }
-        match parent(self.alloc, &mut self.store, path) {
-            Ok(place) => self.rmdir_at(place.chain.directory(), place.last),
-            Err(fault) => Err(FsError::from(fault)),
-        }
+        self.begin()?;
+        let place = parent(self.alloc, &mut self.store, path)?;
+        self.rmdir_at(place.chain.directory(), place.last)
     }
 
     /// Takes the empty directory away that is the last piece of a path, which stands in this
@@ -62,10 +58,7 @@ impl<D: SectorDevice> Fs<D> {
         let Some(last) = last else {
             return Err(FsError::Busy);
         };
-        let entry = match self.check_empty(directory, last.name) {
-            Ok(entry) => entry,
-            Err(fault) => return Err(fault),
-        };
+        let entry = self.check_empty(directory, last.name)?;
         match self.draft_rmdir(directory, entry, last.name) {
             Ok(()) => self.accept(),
             Err(fault) => {
@@ -80,7 +73,7 @@ impl<D: SectorDevice> Fs<D> {
         ensures reads { OnlyReads D.SectorDevice.state self.old self.new }
         ensures has { IfOk result (λ e. HasEmpty D.SectorDevice.state self.old self.new
             directory.value name.now e.holder e.number.value e.header) }
-        ensures size { IfOk result (λ e. e.holder.size ≤ 1024 * slot_len e.holder.form) }
+        ensures size { IfOk result (λ e. IsSmall e.holder) }
         ensures links { IfOk result (λ e. 3 ≤ e.holder.links) }
         ensures refused { IfErr result (RefusesEmpty D.SectorDevice.state self.old self.new
             directory.value name.now) }
@@ -88,10 +81,7 @@ impl<D: SectorDevice> Fs<D> {
         if is_dots(name) {
             return Err(FsError::Inval);
         }
-        let (holder, found) = match self.look_in(directory, name) {
-            Ok(found) => found,
-            Err(fault) => return Err(fault),
-        };
+        let (holder, found) = self.look_in(directory, name)?;
         let Some(found) = found else {
             return Err(FsError::NoEntry);
         };
@@ -99,10 +89,7 @@ impl<D: SectorDevice> Fs<D> {
         if is_too_large(holder) {
             return Err(FsError::Device);
         }
-        let header = match self.header(found.number) {
-            Ok(header) => header,
-            Err(fault) => return Err(fault),
-        };
+        let header = self.header(found.number)?;
         if !is_directory(header.kind) {
             return Err(FsError::NotDir);
         }
@@ -128,7 +115,7 @@ impl<D: SectorDevice> Fs<D> {
         entry: OldEntry,
         name: &[u8],
     ) -> Result<(), FsError>
-        requires size { entry.holder.size ≤ 1024 * slot_len entry.holder.form }
+        requires size { IsSmall entry.holder }
         requires links { 3 ≤ entry.holder.links }
         requires running { self.old.store.log.halted ≡ false }
         requires empty { IsNoChange self.old.store.draft.changes }
@@ -140,14 +127,8 @@ impl<D: SectorDevice> Fs<D> {
         ensures refused { IfErr result (FailsUnlink D.SectorDevice.state self.old self.new
             directory.value entry.holder entry.number.value name.now) }
     {
-        match self.drop_object(entry.number) {
-            Ok(()) => {}
-            Err(fault) => return Err(fault),
-        }
-        let holder = match self.drop_subdirectory(directory, entry.holder) {
-            Ok(holder) => holder,
-            Err(fault) => return Err(fault),
-        };
+        self.drop_object(entry.number)?;
+        let holder = self.drop_subdirectory(directory, entry.holder)?;
         match take(&mut self.store, directory, holder, name, entry.place) {
             Ok(true) => Ok(()),
             // The directory has the name.

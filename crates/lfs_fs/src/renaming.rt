@@ -14,15 +14,13 @@ use crate::moving::{Object, Source, Target, is_directory};
 use crate::sizes::{is_full, is_too_large};
 use lfs_device::SectorDevice;
 use lfs_layout::is_name;
+use lfs_model::limits::MOST_LINKS;
 use lfs_model::{FileNumber, Kind};
 use lfs_path::dirs::Found;
 use lfs_path::text::is_dots;
 use lfs_path::tree::parent;
 use lfs_path::{Chain, Last};
 use lfs_store::Header;
-
-/// The most links of a directory: 2, and one for each directory in it.
-const MOST_LINKS: u32 = 1_000;
 
 impl<D: SectorDevice> Fs<D> {
     /// Gives an object another name, in any directory; what has that name loses it (POSIX.1-2017,
@@ -42,14 +40,9 @@ impl<D: SectorDevice> Fs<D> {
         ensures { Serves D.SectorDevice.state (seen self.old) (seen self.new)
             (Rename from.now to.now) (answer_by (λ _. Done) result) }
     {
-        match self.begin() {
-            Ok(()) => {}
-            Err(fault) => return Err(fault),
-        }
-        match parent(self.alloc, &mut self.store, from) {
-            Ok(place) => self.rename_from(place.chain.directory(), place.last, to),
-            Err(fault) => Err(FsError::from(fault)),
-        }
+        self.begin()?;
+        let place = parent(self.alloc, &mut self.store, from)?;
+        self.rename_from(place.chain.directory(), place.last, to)
     }
 
     /// Renames what the last piece of a path names, which stands in this directory.
@@ -66,10 +59,8 @@ impl<D: SectorDevice> Fs<D> {
             → Serves D.SectorDevice.state v (seen self.new) (Rename from to.now)
             (answer_by (λ _. Done) result) }
     {
-        match parent(self.alloc, &mut self.store, to) {
-            Ok(place) => self.rename_at(directory, last, place.chain, place.last),
-            Err(fault) => Err(FsError::from(fault)),
-        }
+        let place = parent(self.alloc, &mut self.store, to)?;
+        self.rename_at(directory, last, place.chain, place.last)
     }
 
     /// Renames it to the last piece of another path, which stands in the directory of this chain.
@@ -123,14 +114,8 @@ impl<D: SectorDevice> Fs<D> {
             directory.value from.entry.name.now from.entry.slash chain to.entry.name.now
             to.entry.slash) }
     {
-        let source = match self.find_source(directory, from) {
-            Ok(source) => source,
-            Err(fault) => return Err(fault),
-        };
-        let target = match self.find_target(chain.directory(), to, source.object.header.kind) {
-            Ok(target) => target,
-            Err(fault) => return Err(fault),
-        };
+        let source = self.find_source(directory, from)?;
+        let target = self.find_target(chain.directory(), to, source.object.header.kind)?;
         // A directory has one form.
         if has_two_forms(source, target) {
             return Err(FsError::Device);
@@ -160,10 +145,7 @@ impl<D: SectorDevice> Fs<D> {
             (RefusesSource D.SectorDevice.state self.old self.new directory.value
             last.entry.name.now last.entry.slash) }
     {
-        let (holder, found) = match self.look_at(directory, last.name) {
-            Ok(found) => found,
-            Err(fault) => return Err(fault),
-        };
+        let (holder, found) = self.look_at(directory, last.name)?;
         let Some(object) = found else {
             return Err(FsError::NoEntry);
         };
@@ -195,10 +177,7 @@ impl<D: SectorDevice> Fs<D> {
         ensures refused { IfErr result (RefusesNext D.SectorDevice.state self.old self.new
             directory.value last.entry.name.now last.entry.slash kind) }
     {
-        let (holder, replaced) = match self.look_at(directory, last.name) {
-            Ok(found) => found,
-            Err(fault) => return Err(fault),
-        };
+        let (holder, replaced) = self.look_at(directory, last.name)?;
         // The pieces of a path without a zero byte are names.
         if !is_name(holder.form, last.name) {
             return Err(FsError::Device);
@@ -227,10 +206,7 @@ impl<D: SectorDevice> Fs<D> {
         ensures missing { IfErr result (FailsLookAt D.SectorDevice.state self.old self.new
             directory.value name.now) }
     {
-        let (holder, found) = match self.look_in(directory, name) {
-            Ok(found) => found,
-            Err(fault) => return Err(fault),
-        };
+        let (holder, found) = self.look_in(directory, name)?;
         // No volume has such a directory.
         if is_too_large(holder) {
             return Err(FsError::Device);

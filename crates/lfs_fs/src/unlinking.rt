@@ -10,6 +10,7 @@ ghost use Rattle.lfs_fs.specs.Naming.{DraftsNone, Reaches};
 ghost use Rattle.lfs_fs.specs.Seen.{answer_by, seen};
 ghost use Rattle.lfs_fs.specs.Unlinking.{DraftsUnlink, FailsUnlink, LosesLink};
 ghost use Rattle.lfs_fs.specs.Volume.{IsStill, Mounted, Serves};
+ghost use Rattle.lfs_fs.specs.Sizes.{IsSmall};
 
 use crate::error::FsError;
 use crate::fs::Fs;
@@ -34,14 +35,9 @@ impl<D: SectorDevice> Fs<D> {
         ensures { Serves D.SectorDevice.state (seen self.old) (seen self.new) (Unlink path.now)
             (answer_by (λ _. Done) result) }
     {
-        match self.begin() {
-            Ok(()) => {}
-            Err(fault) => return Err(fault),
-        }
-        match parent(self.alloc, &mut self.store, path) {
-            Ok(place) => self.unlink_at(place.chain.directory(), place.last),
-            Err(fault) => Err(FsError::from(fault)),
-        }
+        self.begin()?;
+        let place = parent(self.alloc, &mut self.store, path)?;
+        self.unlink_at(place.chain.directory(), place.last)
     }
 
     /// Takes the name away that is the last piece of a path, which stands in this directory.
@@ -56,10 +52,7 @@ impl<D: SectorDevice> Fs<D> {
         let Some(last) = last else {
             return Err(FsError::Perm);
         };
-        let entry = match self.check_old_entry(directory, last) {
-            Ok(entry) => entry,
-            Err(fault) => return Err(fault),
-        };
+        let entry = self.check_old_entry(directory, last)?;
         match self.draft_unlink(directory, entry, last.name) {
             Ok(()) => self.accept(),
             Err(fault) => {
@@ -77,7 +70,7 @@ impl<D: SectorDevice> Fs<D> {
         entry: OldEntry,
         name: &[u8],
     ) -> Result<(), FsError>
-        requires size { entry.holder.size ≤ 1024 * slot_len entry.holder.form }
+        requires size { IsSmall entry.holder }
         requires running { self.old.store.log.halted ≡ false }
         requires empty { IsNoChange self.old.store.draft.changes }
         ensures still { IsStill D.SectorDevice.state (seen self.old) (seen self.new) }
@@ -88,10 +81,7 @@ impl<D: SectorDevice> Fs<D> {
         ensures refused { IfErr result (FailsUnlink D.SectorDevice.state self.old self.new
             directory.value entry.holder entry.number.value name.now) }
     {
-        match self.drop_link(entry.number, entry.header) {
-            Ok(()) => {}
-            Err(fault) => return Err(fault),
-        }
+        self.drop_link(entry.number, entry.header)?;
         match take(&mut self.store, directory, entry.holder, name, entry.place) {
             Ok(true) => Ok(()),
             // The directory has the name.

@@ -29,10 +29,7 @@ impl<D: SectorDevice> Fs<D> {
         ensures { Serves D.SectorDevice.state (seen self.old) (seen self.new) Upgrade
             (answer_by (λ _. Done) result) }
     {
-        match self.begin() {
-            Ok(()) => {}
-            Err(fault) => return Err(fault),
-        }
+        self.begin()?;
         if self.store.log.version() == 2 {
             return self.check_worn();
         }
@@ -51,14 +48,9 @@ impl<D: SectorDevice> Fs<D> {
         ensures { Serves D.SectorDevice.state (seen self.old) (seen self.new) (Widen path.now)
             (answer_by (λ _. Done) result) }
     {
-        match self.begin() {
-            Ok(()) => {}
-            Err(fault) => return Err(fault),
-        }
-        match resolve(self.alloc, &mut self.store, path, true) {
-            Ok(number) => self.widen_at(number),
-            Err(fault) => Err(FsError::from(fault)),
-        }
+        self.begin()?;
+        let number = resolve(self.alloc, &mut self.store, path, true)?;
+        self.widen_at(number)
     }
 
     /// Gives the directory of a number that form, where one stands there.
@@ -70,10 +62,7 @@ impl<D: SectorDevice> Fs<D> {
             → Serves D.SectorDevice.state v (seen self.new) (Widen path)
             (answer_by (λ _. Done) result) }
     {
-        let header = match self.header(number) {
-            Ok(header) => header,
-            Err(fault) => return Err(fault),
-        };
+        let header = self.header(number)?;
         if !is_directory(header.kind) {
             return Err(FsError::NotDir);
         }

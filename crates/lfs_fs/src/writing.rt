@@ -10,12 +10,12 @@ ghost use Rattle.lfs_fs.specs.Seen.{seen, answer_by};
 
 use crate::error::FsError;
 use crate::fs::Fs;
-use crate::reading::LONGEST_TRANSFER;
 use lfs_device::SectorDevice;
-use lfs_model::FileNumber;
+use lfs_model::limits::LONGEST_TRANSFER;
+use lfs_model::{FileNumber, limits};
 
-/// The most bytes of a file: 16,624 blocks.
-const LARGEST_FILE: u64 = 8_511_488;
+/// The most bytes of a file.
+const LARGEST_FILE: u64 = limits::LARGEST_FILE as u64;
 
 impl<D: SectorDevice> Fs<D> {
     /// Puts bytes into a file at `offset`, all or none, and gives their number. A gap is filled
@@ -29,14 +29,8 @@ impl<D: SectorDevice> Fs<D> {
         ensures { Serves D.SectorDevice.state (seen self.old) (seen self.new)
             (Pwrite handle offset bytes.now) (answer_by Count result) }
     {
-        match self.begin() {
-            Ok(()) => {}
-            Err(fault) => return Err(fault),
-        }
-        let number = match self.file(handle) {
-            Ok(number) => number,
-            Err(fault) => return Err(fault),
-        };
+        self.begin()?;
+        let number = self.file(handle)?;
         if bytes.len() > LONGEST_TRANSFER as usize {
             return Err(FsError::Inval);
         }
@@ -59,20 +53,17 @@ impl<D: SectorDevice> Fs<D> {
     /// Puts bytes into a file, where they end within the greatest size.
     fn write_file(&mut self, number: FileNumber, at: u32, bytes: &[u8]) -> Result<(), FsError>
         requires bytes { 0 < length bytes.now }
-        requires end { at + length bytes.now ≤ 8511488 }
+        requires end { at + length bytes.now ≤ LARGEST_FILE }
         requires running { self.old.store.log.halted ≡ false }
         requires empty { IsNoChange self.old.store.draft.changes }
         requires counted { self.old.store.drafted ≡ self.old.store.log.totals }
-        requires most { length bytes.now ≤ 65536 }
+        requires most { length bytes.now ≤ LONGEST_TRANSFER }
         ensures { (handle : ℕ) → find nat_cmp handle (handles_of self.old.handles.numbers.items)
-            ≡ Some number.value → length bytes.now ≤ 65536
+            ≡ Some number.value → length bytes.now ≤ LONGEST_TRANSFER
             → Serves D.SectorDevice.state (seen self.old) (seen self.new)
             (Pwrite handle at bytes.now) (answer_by (λ _. Count (length bytes.now)) result) }
     {
-        let header = match self.header(number) {
-            Ok(header) => header,
-            Err(fault) => return Err(fault),
-        };
+        let header = self.header(number)?;
         match self.store.write_at(number, header, at, bytes) {
             Ok(()) => self.accept(),
             Err(fault) => {
@@ -91,14 +82,8 @@ impl<D: SectorDevice> Fs<D> {
         ensures { Serves D.SectorDevice.state (seen self.old) (seen self.new) (Truncate handle len)
             (answer_by (λ _. Done) result) }
     {
-        match self.begin() {
-            Ok(()) => {}
-            Err(fault) => return Err(fault),
-        }
-        let number = match self.file(handle) {
-            Ok(number) => number,
-            Err(fault) => return Err(fault),
-        };
+        self.begin()?;
+        let number = self.file(handle)?;
         if len > LARGEST_FILE {
             return Err(FsError::FileTooBig);
         }
@@ -107,7 +92,7 @@ impl<D: SectorDevice> Fs<D> {
 
     /// Cuts a file to a length, or makes it longer.
     fn cut_file(&mut self, number: FileNumber, len: u32) -> Result<(), FsError>
-        requires most { len ≤ 8511488 }
+        requires most { len ≤ LARGEST_FILE }
         requires running { self.old.store.log.halted ≡ false }
         requires empty { IsNoChange self.old.store.draft.changes }
         requires counted { self.old.store.drafted ≡ self.old.store.log.totals }
@@ -115,10 +100,7 @@ impl<D: SectorDevice> Fs<D> {
             ≡ Some number.value → Serves D.SectorDevice.state (seen self.old) (seen self.new)
             (Truncate handle len) (answer_by (λ _. Done) result) }
     {
-        let header = match self.header(number) {
-            Ok(header) => header,
-            Err(fault) => return Err(fault),
-        };
+        let header = self.header(number)?;
         match self.store.set_len(number, header, len) {
             Ok(()) => self.accept(),
             Err(fault) => {

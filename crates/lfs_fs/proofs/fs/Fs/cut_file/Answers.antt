@@ -1,3 +1,4 @@
+use Rattle.std.proofs.lemmas.Result.{err_from_is_err_and}
 use Rattle.std.proofs.Common.{ap, refl, sym, subst, Err}
 use Rattle.lfs_store.specs.declared.draft.Draft.{Draft}
 use Rattle.lfs_store.specs.log.verify.declared.totals.BlockTotals.{BlockTotals}
@@ -10,37 +11,39 @@ use Rattle.lfs_fs.proofs.fs.Fs.cut_file.Goals as goal
 pub set_len-requires-clause-empty : goal.set_len-requires-clause-empty
 set_len-requires-clause-empty g c = subst (λ (d : Draft). IsNoChange d.changes) (sym c.header.ensures.reads.draft) c.requires.empty
 
-pub returns-in-Err : goal.returns-in-Err
-returns-in-Err g c handle opens =
-    headerless_serves g.D.SectorDevice.state g.met.D.SectorDevice.lawful c.args.self.now c.header.new.self _ handle c.args.number.value
+pub returns-in_err-header : goal.returns-in_err-header
+returns-in_err-header g c handle opens =
+    let p = err_from_is_err_and c.from_residual.result c.from_residual.ensures.1 in rw (p.1, p.2)
+    (headerless_serves g.D.SectorDevice.state g.met.D.SectorDevice.lawful c.args.self.now c.header.new.self _ handle c.args.number.value
     opens c.requires.running c.requires.empty
-    c.in-Err.ensures.reads.still refl c.in-Err.fault c.in-Err.ensures.missing
+    c.in_err-header.ensures.reads.still refl c.in_err-header.field-0.0 c.in_err-header.ensures.missing)
 
-pub returns-in-Ok-set_len : goal.returns-in-Ok-set_len
-returns-in-Ok-set_len g c handle opens =
+pub returns-in-Ok : goal.returns-in-Ok
+returns-in-Ok g c handle opens =
     cut_ends g.D.SectorDevice.state g.met.D.SectorDevice.lawful c.args.self.now c.header.new.self
     record { alloc = c.header.new.self.alloc; store = c.set_len.new.self; handles = c.header.new.self.handles }
-    handle c.args.number.value opens c.requires.running c.requires.empty c.requires.counted c.in-Ok.ensures.reads c.in-Ok.header
-    c.in-Ok.ensures.answer
+    handle c.args.number.value opens c.requires.running c.requires.empty c.requires.counted c.in_ok-header.ensures.reads
+    c.in_ok-header.header
+    c.in_ok-header.ensures.answer
     record {
-      reads = c.in-Ok-set_len.ensures.reads;
-      saved = c.in-Ok-set_len.ensures.saved;
-      blocks = ap (λ (t : BlockTotals). t.data_blocks) c.in-Ok-set_len.ensures.reads.totals;
-      others = ap (λ (t : BlockTotals). t.meta_blocks) c.in-Ok-set_len.ensures.reads.totals;
+      reads = c.in-Ok.ensures.reads;
+      saved = c.in-Ok.ensures.saved;
+      blocks = ap (λ (t : BlockTotals). t.data_blocks) c.in-Ok.ensures.reads.totals;
+      others = ap (λ (t : BlockTotals). t.meta_blocks) c.in-Ok.ensures.reads.totals;
       table = refl;
     }
-    c.accept.new.self c.accept.ensures.rest c.accept.result c.accept.ensures.done c.accept.ensures.refused c.in-Ok-set_len.ensures.counted
-    c.args.len c.requires.most c.in-Ok-set_len.ensures.done
+    c.accept.new.self c.accept.ensures.rest c.accept.result c.accept.ensures.done c.accept.ensures.refused c.in-Ok.ensures.counted
+    c.args.len c.requires.most c.in-Ok.ensures.done
 
-pub returns-in-Err-set_len : goal.returns-in-Err-set_len
-returns-in-Err-set_len g c handle opens =
+pub returns-in-Err : goal.returns-in-Err
+returns-in-Err g c handle opens =
     given_up_serves g.D.SectorDevice.state g.met.D.SectorDevice.lawful c.args.self.now c.header.new.self c.set_len.new.self
-    c.give_up.new.self _ c.requires.running c.in-Ok.ensures.reads.still
-    c.in-Err-set_len.ensures.reads c.in-Err-set_len.ensures.saved c.give_up.ensures.log c.give_up.ensures.saved
-    refl refl c.in-Err-set_len.fault c.in-Err-set_len.ensures.failed (λ on. c.in-Err-set_len.ensures.halted (ap Err on))
-    (λ full. c.in-Err-set_len.ensures.other (ap Err full)) c.from.result c.from.ensures
+    c.give_up.new.self _ c.requires.running c.in_ok-header.ensures.reads.still
+    c.in-Err.ensures.reads c.in-Err.ensures.saved c.give_up.ensures.log c.give_up.ensures.saved
+    refl refl c.in-Err.fault c.in-Err.ensures.failed (λ on. c.in-Err.ensures.halted (ap Err on))
+    (λ full. c.in-Err.ensures.other (ap Err full)) c.from.result c.from.ensures
 
 pub accept-requires-clause-room : goal.accept-requires-clause-room
 accept-requires-clause-room g c =
     cut_fits g.D.SectorDevice.state c.header.new.self.store.log c.set_len.new.self.log c.set_len.new.self.draft.changes c.args.number.value
-    c.in-Ok.header c.args.len c.in-Ok-set_len.ensures.done
+    c.in_ok-header.header c.args.len c.in-Ok.ensures.done

@@ -1,3 +1,4 @@
+use Rattle.std.proofs.lemmas.Result.{err_from_is_err_and}
 use Rattle.std.proofs.Common.{◌≤◌, ◌+◌, ◌*◌, Err, inl, ap, arith, subst, sym, ◌∙◌}
 use Rattle.lfs_model.specs.declared.Kind.{Kind}
 use Rattle.lfs_model.specs.Slot.{IsName}
@@ -22,22 +23,22 @@ use Rattle.lfs_fs.proofs.fs.Fs.draft_entry.Goals as goal
 
 pub add-requires-clause-room : goal.add-requires-clause-room
 add-requires-clause-room g c =
-    subst (λ (h : Header). h.size + slot_len h.form ≤ 1024 * slot_len h.form) (sym c.in-Ok-relink_parent.ensures.header)
+    subst (λ (h : Header). h.size + slot_len h.form ≤ 1024 * slot_len h.form) (sym c.in_ok-header.ensures.header)
     (let room = c.requires.room in omega (arith, room))
 
 pub add-requires-clause-name : goal.add-requires-clause-name
 add-requires-clause-name g c =
-    subst (λ (h : Header). IsName (name_len h.form) c.args.name.now) (sym c.in-Ok-relink_parent.ensures.header) c.requires.name
+    subst (λ (h : Header). IsName (name_len h.form) c.args.name.now) (sym c.in_ok-header.ensures.header) c.requires.name
 
-pub returns-in-Ok-add-clause-drafted : goal.returns-in-Ok-add-clause-drafted
-returns-in-Ok-add-clause-drafted g c =
+pub returns-in-Ok-clause-drafted : goal.returns-in-Ok-clause-drafted
+returns-in-Ok-clause-drafted g c =
     let state = g.D.SectorDevice.state in
-    let made = c.in-Ok.ensures in
-    let links = c.in-Ok-relink_parent.ensures in
+    let made = c.in_ok-draft_object.ensures in
+    let links = c.in_ok-header.ensures in
     let object = c.draft_object.new.self.store in
     let store = c.relink_parent.new.self.store in
     let files = c.add.new.files in
-    let added = c.in-Ok-add.ensures in
+    let added = c.in-Ok.ensures in
     let back = sym (kind_back c.args.self.now.store.log.version c.args.kind c.args.text.now) in
     let later : Reads state object.log files.log =
     subst (λ (h : Held g.row.D.Denot). Reads state h files.log) links.log (log_redrafts state store files c.add.ensures.redrafts) in
@@ -60,8 +61,8 @@ returns-in-Ok-add-clause-drafted g c =
           (subst (λ (h : Header). Adds state object.log files.log store.draft.changes files.draft.changes c.args.directory.value h
           c.args.number.value c.args.name.now) links.header
           (subst (λ (h : Held g.row.D.Denot). Adds state h files.log store.draft.changes files.draft.changes c.args.directory.value
-          c.in-Ok-relink_parent.header c.args.number.value c.args.name.now) links.log
-          (log_adds state store files c.args.directory.value c.in-Ok-relink_parent.header c.args.number.value c.args.name.now
+          c.in_ok-header.header c.args.number.value c.args.name.now) links.log
+          (log_adds state store files c.args.directory.value c.in_ok-header.header c.args.number.value c.args.name.now
           added.done))));
       recounts = counts_after state c.args.self.now.store.log object.log files.log made.still.reads store.draft.changes files.draft.changes
           object.drafted files.drafted
@@ -72,58 +73,60 @@ returns-in-Ok-add-clause-drafted g c =
           (log_counts state store files c.add.ensures.redrafts added.counted)));
     }
 
-pub returns-in-Err-add-clause-refused : goal.returns-in-Err-add-clause-refused
-returns-in-Err-add-clause-refused g c =
+pub returns-in-Err-clause-refused : goal.returns-in-Err-clause-refused
+returns-in-Err-clause-refused g c =
     let state = g.D.SectorDevice.state in
-    let made = c.in-Ok.ensures in
-    let links = c.in-Ok-relink_parent.ensures in
-    let failed = c.in-Err-add.ensures in
+    let made = c.in_ok-draft_object.ensures in
+    let links = c.in_ok-header.ensures in
+    let failed = c.in-Err.ensures in
     none_drafted state c.args.self.now record {
       alloc = c.relink_parent.new.self.alloc;
       store = c.add.new.files;
       handles = c.relink_parent.new.self.handles;
-    } c.requires.running c.in-Err-add.fault
+    } c.requires.running c.in-Err.fault
     (λ device. fault_more state c.args.self.now.store.log c.draft_object.new.self.store.log c.add.new.files.log made.still.reads
     (subst (λ (h : Held g.row.D.Denot). IsReadFault state h c.add.new.files.log) links.log
     (store_failed state c.relink_parent.new.self.store c.add.new.files (failed.failed device))))
     (λ on. sym made.still.reads.halted ∙ sym (ap (λ (h : Held g.row.D.Denot). h.halted) links.log) ∙ failed.halted (ap Err on))
     (λ full. failed.other (ap Err full)) c.from.result c.from.ensures
 
-pub returns-in-Ok-add-clause-still : goal.returns-in-Ok-add-clause-still
-returns-in-Ok-add-clause-still g c =
-    let made = c.in-Ok.ensures in
-    let links = c.in-Ok-relink_parent.ensures in
+pub returns-in-Ok-clause-still : goal.returns-in-Ok-clause-still
+returns-in-Ok-clause-still g c =
+    let made = c.in_ok-draft_object.ensures in
+    let links = c.in_ok-header.ensures in
     still_more g.D.SectorDevice.state (seen c.args.self.now) (seen c.draft_object.new.self) _
     (g.met.D.SectorDevice.lawful c.args.self.now.store.log.device) made.still
     (still_with g.D.SectorDevice.state c.draft_object.new.self c.relink_parent.new.self c.add.new.files links.handles
     (still_drafted g.D.SectorDevice.state c.draft_object.new.self c.relink_parent.new.self.store c.add.new.files links.log links.saved
     c.add.ensures.redrafts))
 
-pub returns-in-Err-add-clause-still : goal.returns-in-Err-add-clause-still
-returns-in-Err-add-clause-still g c =
-    let made = c.in-Ok.ensures in
-    let links = c.in-Ok-relink_parent.ensures in
+pub returns-in-Err-clause-still : goal.returns-in-Err-clause-still
+returns-in-Err-clause-still g c =
+    let made = c.in_ok-draft_object.ensures in
+    let links = c.in_ok-header.ensures in
     still_more g.D.SectorDevice.state (seen c.args.self.now) (seen c.draft_object.new.self) _
     (g.met.D.SectorDevice.lawful c.args.self.now.store.log.device) made.still
     (still_with g.D.SectorDevice.state c.draft_object.new.self c.relink_parent.new.self c.add.new.files links.handles
     (still_drafted g.D.SectorDevice.state c.draft_object.new.self c.relink_parent.new.self.store c.add.new.files links.log links.saved
     c.add.ensures.redrafts))
 
-pub returns-in-Err-relink_parent-clause-still : goal.returns-in-Err-relink_parent-clause-still
-returns-in-Err-relink_parent-clause-still g c =
-    let made = c.in-Ok.ensures in
-    let links = c.in-Err-relink_parent.ensures in
+pub returns-in_err-header-clause-still : goal.returns-in_err-header-clause-still
+returns-in_err-header-clause-still g c =
+    let made = c.in_ok-draft_object.ensures in
+    let links = c.in_err-header.ensures in
     still_more g.D.SectorDevice.state (seen c.args.self.now) (seen c.draft_object.new.self) (seen c.relink_parent.new.self)
     (g.met.D.SectorDevice.lawful c.args.self.now.store.log.device) made.still
     (still_logged g.D.SectorDevice.state c.draft_object.new.self c.relink_parent.new.self links.log links.saved links.handles)
 
-pub returns-in-Err-relink_parent-clause-refused : goal.returns-in-Err-relink_parent-clause-refused
-returns-in-Err-relink_parent-clause-refused g c = inl c.in-Err-relink_parent.ensures.fault
+pub returns-in_err-header-clause-refused : goal.returns-in_err-header-clause-refused
+returns-in_err-header-clause-refused g c =
+    let p = err_from_is_err_and c.from_residual-in_err-header.result c.from_residual-in_err-header.ensures.1 in rw (p.1, p.2)
+    (inl c.in_err-header.ensures.fault)
 
-pub returns-in-Ok-add-clause-small : goal.returns-in-Ok-add-clause-small
-returns-in-Ok-add-clause-small g c =
+pub returns-in-Ok-clause-small : goal.returns-in-Ok-clause-small
+returns-in-Ok-clause-small g c =
     let object = c.draft_object.new.self.store.draft.changes in
     let linked = c.relink_parent.new.self.store in
     grows_then c.args.self.now.store.draft.changes linked.draft.changes c.add.new.files.draft.changes 3 2 1 2 (grows_then
-    c.args.self.now.store.draft.changes object linked.draft.changes 2 2 1 0 c.in-Ok.ensures.small c.in-Ok-relink_parent.ensures.small)
-    (adds_grow g.D.SectorDevice.state linked c.add.new.files 1 2 c.in-Ok-add.ensures.small)
+    c.args.self.now.store.draft.changes object linked.draft.changes 2 2 1 0 c.in_ok-draft_object.ensures.small c.in_ok-header.ensures.small)
+    (adds_grow g.D.SectorDevice.state linked c.add.new.files 1 2 c.in-Ok.ensures.small)

@@ -1,3 +1,4 @@
+use Rattle.std.proofs.lemmas.Result.{err_from_is_err_and}
 use Rattle.std.proofs.Common.{◌≤◌, ◌*◌, ◌∙◌, Err, ap, arith, inl, inr, refl, subst, sym}
 use Rattle.lfs_model.specs.Tree.{slot_len}
 use Rattle.lfs_files.specs.declared.header.Header.{Header}
@@ -20,20 +21,21 @@ use Rattle.lfs_fs.proofs.fs.Fs.draft_rmdir.Goals as goal
 
 pub take-requires : goal.take-requires
 take-requires g c =
-    record { size = subst (λ (h : Header). h.size ≤ 1024 * slot_len h.form) (sym c.in-Ok-drop_subdirectory.ensures.header) c.requires.size }
+    record { size = subst (λ (h : Header). h.size ≤ 1024 * slot_len h.form) (sym c.in_ok-holder.ensures.header) c.requires.size }
 
 -- ---- the object stays
-pub returns-in-Err-clause-refused : goal.returns-in-Err-clause-refused
-returns-in-Err-clause-refused g c =
-    none_lost g.D.SectorDevice.state c.args.self.now c.drop_object.new.self c.args.directory.value
-    c.args.entry.holder c.args.entry.number.value c.args.name.now c.in-Err.fault c.in-Err.ensures.refused
+pub returns-in_err-drop_object-clause-refused : goal.returns-in_err-drop_object-clause-refused
+returns-in_err-drop_object-clause-refused g c =
+    let p = err_from_is_err_and c.from_residual.result c.from_residual.ensures.1 in rw (p.1, p.2)
+    (none_lost g.D.SectorDevice.state c.args.self.now c.drop_object.new.self c.args.directory.value
+    c.args.entry.holder c.args.entry.number.value c.args.name.now c.in_err-drop_object.field-0.0 c.in_err-drop_object.ensures.refused)
 
 -- ---- the directory keeps its links
-pub returns-in-Err-drop_subdirectory-clause-still :
-    goal.returns-in-Err-drop_subdirectory-clause-still
-returns-in-Err-drop_subdirectory-clause-still g c =
-    let lost = c.in-Ok.ensures in
-    let links = c.in-Err-drop_subdirectory.ensures in
+pub returns-in_err-holder-clause-still :
+    goal.returns-in_err-holder-clause-still
+returns-in_err-holder-clause-still g c =
+    let lost = c.in_ok-drop_object.ensures in
+    let links = c.in_err-holder.ensures in
     still_more g.D.SectorDevice.state (seen c.args.self.now) (seen c.drop_object.new.self)
     (seen c.drop_subdirectory.new.self) (g.met.D.SectorDevice.lawful
     c.args.self.now.store.log.device)
@@ -42,16 +44,18 @@ returns-in-Err-drop_subdirectory-clause-still g c =
     links.log
     links.saved links.handles)
 
-pub returns-in-Err-drop_subdirectory-clause-refused :
-    goal.returns-in-Err-drop_subdirectory-clause-refused
-returns-in-Err-drop_subdirectory-clause-refused g c = inl c.in-Err-drop_subdirectory.ensures.fault
+pub returns-in_err-holder-clause-refused :
+    goal.returns-in_err-holder-clause-refused
+returns-in_err-holder-clause-refused g c =
+    let p = err_from_is_err_and c.from_residual-in_err-holder.result c.from_residual-in_err-holder.ensures.1 in rw (p.1, p.2)
+    (inl c.in_err-holder.ensures.fault)
 
 -- ---- the name
 pub returns-in-Ok-true-clause-drafted : goal.returns-in-Ok-true-clause-drafted
 returns-in-Ok-true-clause-drafted g c =
     let state = g.D.SectorDevice.state in
-    let lost = c.in-Ok.ensures in
-    let links = c.in-Ok-drop_subdirectory.ensures in
+    let lost = c.in_ok-drop_object.ensures in
+    let links = c.in_ok-holder.ensures in
     let gone = c.drop_object.new.self.store in
     let store = c.drop_subdirectory.new.self.store in
     let files = c.take.new.files in
@@ -76,21 +80,21 @@ returns-in-Ok-true-clause-drafted g c =
           files.draft.changes c.args.directory.value h c.args.name.now gone.drafted files.drafted)
           links.header
           (subst (λ (t : BlockTotals). TakesOut state gone.log files.log store.draft.changes
-          files.draft.changes c.args.directory.value c.in-Ok-drop_subdirectory.holder c.args.name.now t
+          files.draft.changes c.args.directory.value c.in_ok-holder.holder c.args.name.now t
           files.drafted) links.drafted
           (subst (λ (h : Held g.row.D.Denot). TakesOut state h files.log store.draft.changes
-          files.draft.changes c.args.directory.value c.in-Ok-drop_subdirectory.holder c.args.name.now
+          files.draft.changes c.args.directory.value c.in_ok-holder.holder c.args.name.now
           store.drafted files.drafted) links.log
           (log_takes state store files c.take.ensures.redrafts c.args.directory.value
-          c.in-Ok-drop_subdirectory.holder c.args.name.now (taken.done c.in-Ok-true.field-0-test)
+          c.in_ok-holder.holder c.args.name.now (taken.done c.in-Ok-true.field-0-test)
           (taken.counted c.in-Ok-true.field-0-test)))));
     }
 
 pub returns-in-Ok-false-clause-refused : goal.returns-in-Ok-false-clause-refused
 returns-in-Ok-false-clause-refused g c =
     let state = g.D.SectorDevice.state in
-    let lost = c.in-Ok.ensures in
-    let links = c.in-Ok-drop_subdirectory.ensures in
+    let lost = c.in_ok-drop_object.ensures in
+    let links = c.in_ok-holder.ensures in
     let gone = c.drop_object.new.self.store in
     let store = c.drop_subdirectory.new.self.store in
     let files = c.take.new.files in
@@ -113,15 +117,15 @@ returns-in-Ok-false-clause-refused g c =
           c.args.name.now) links.header (c.in-Ok-false.ensures.none c.in-Ok-false.field-0-test)),
     )
 
-pub returns-in-Err-take-clause-refused : goal.returns-in-Err-take-clause-refused
-returns-in-Err-take-clause-refused g c =
+pub returns-in-Err-clause-refused : goal.returns-in-Err-clause-refused
+returns-in-Err-clause-refused g c =
     let state = g.D.SectorDevice.state in
-    let lost = c.in-Ok.ensures in
-    let links = c.in-Ok-drop_subdirectory.ensures in
+    let lost = c.in_ok-drop_object.ensures in
+    let links = c.in_ok-holder.ensures in
     let gone = c.drop_object.new.self.store in
     let store = c.drop_subdirectory.new.self.store in
     let files = c.take.new.files in
-    let failed = c.in-Err-take.ensures in
+    let failed = c.in-Err.ensures in
     let new : Fs g.row.D.Denot = record {
       alloc = c.drop_subdirectory.new.self.alloc;
       store = files;
@@ -132,7 +136,7 @@ returns-in-Err-take-clause-refused g c =
     lost.still.reads in
     fails_rmdir state c.args.self.now new store gone.draft.changes store.draft.changes
     c.args.entry.number.value c.args.directory.value c.args.entry.holder lost.lost.removes links.done refl reads
-    c.args.name.now c.in-Err-take.fault (reads.halted ∙ c.requires.running)
+    c.args.name.now c.in-Err.fault (reads.halted ∙ c.requires.running)
     (λ device. subst (λ (h : Header). IsDirectoryFault (files_of state store) (files_of state files)
     c.args.directory.value h) links.header (failed.failed device))
     (λ on. failed.halted (ap Err on)) (λ full. failed.other (ap Err full)) c.from.result
@@ -143,7 +147,7 @@ returns-in-Ok-true-clause-small g c =
     let gone = c.drop_object.new.self.store.draft.changes in
     let mid = c.drop_subdirectory.new.self.store in
     grows_then c.args.self.now.store.draft.changes mid.draft.changes c.take.new.files.draft.changes 1 0 2 2
-    (grows_then c.args.self.now.store.draft.changes gone mid.draft.changes 0 0 1 0 c.in-Ok.ensures.small
-    c.in-Ok-drop_subdirectory.ensures.small)
-    (takes_grow g.D.SectorDevice.state mid c.take.new.files c.args.directory.value c.in-Ok-drop_subdirectory.holder c.args.name.now
+    (grows_then c.args.self.now.store.draft.changes gone mid.draft.changes 0 0 1 0 c.in_ok-drop_object.ensures.small
+    c.in_ok-holder.ensures.small)
+    (takes_grow g.D.SectorDevice.state mid c.take.new.files c.args.directory.value c.in_ok-holder.holder c.args.name.now
     (c.in-Ok-true.ensures.done c.in-Ok-true.field-0-test))

@@ -1,3 +1,4 @@
+use Rattle.std.proofs.lemmas.Result.{err_from_is_err_and}
 use Rattle.std.proofs.Common.{◌∙◌, ap, sym, length, arith}
 use Rattle.std.specs.Vec.Iter.{into_iter_items, into_iter_len}
 use Rattle.lfs_fs.proofs.PathEnds.{reads_again}
@@ -14,24 +15,26 @@ loop-name-init g c =
 pub loop-name-preserved : goal.loop-name-preserved
 loop-name-preserved g c =
     let at = c.loop-name in
-    let put = c.in-Ok-push_entry.ensures.answer in
+    let put = c.in_ok-push_entry.ensures.answer in
     entries_more g.D.SectorDevice.state c.args.self.now at.self c.push_entry.new.self c.args.names.items at.yielded
     (into_iter_items at.name-iterator) (into_iter_items c.next.new.self) (into_iter_len at.name-iterator)
     at.entries.items at.invariant c.in-Some.name c.in-Some.ensures.steps.0 (g.met.D.SectorDevice.lawful c.args.self.now.store.log.device)
-    c.in-Ok-push_entry.ensures.reads (into_iter_len c.next.new.self) (let gone = c.in-Some.ensures.steps.1 in omega (arith, gone)) put.0
+    c.in_ok-push_entry.ensures.reads (into_iter_len c.next.new.self) (let gone = c.in-Some.ensures.steps.1 in omega (arith, gone)) put.0
     c.push_entry.new.entries.items put.1 put.2
 
-pub returns-in-Err-clause-reads : goal.returns-in-Err-clause-reads
-returns-in-Err-clause-reads g c =
+pub returns-in_err-push_entry-clause-reads : goal.returns-in_err-push_entry-clause-reads
+returns-in_err-push_entry-clause-reads g c =
     reads_again g.D.SectorDevice.state c.args.self.now c.loop-name.self c.push_entry.new.self c.loop-name.invariant.reads
-    (g.met.D.SectorDevice.lawful c.args.self.now.store.log.device) c.in-Err.ensures.reads
+    (g.met.D.SectorDevice.lawful c.args.self.now.store.log.device) c.in_err-push_entry.ensures.reads
 
-pub returns-in-Err-clause-missing : goal.returns-in-Err-clause-missing
-returns-in-Err-clause-missing g c =
-    let at = c.loop-name in
+pub returns-in_err-push_entry-clause-missing : goal.returns-in_err-push_entry-clause-missing
+returns-in_err-push_entry-clause-missing g c =
+    let p = err_from_is_err_and c.from_residual.result c.from_residual.ensures.1 in rw (p.1, p.2)
+    (let at = c.loop-name in
     entries_lack g.D.SectorDevice.state c.args.self.now at.self c.push_entry.new.self c.args.names.items at.yielded
     (into_iter_items at.name-iterator) (into_iter_items c.next.new.self) (into_iter_len at.name-iterator)
-    at.entries.items at.invariant c.in-Some.name c.in-Some.ensures.steps.0 c.in-Err.fault c.in-Err.ensures.reads c.in-Err.ensures.missing
+    at.entries.items at.invariant c.in-Some.name c.in-Some.ensures.steps.0 c.in_err-push_entry.field-0.0 c.in_err-push_entry.ensures.reads
+    c.in_err-push_entry.ensures.missing)
 
 pub returns-clause-reads : goal.returns-clause-reads
 returns-clause-reads g c = c.loop-name.invariant.reads

@@ -1,3 +1,4 @@
+use Rattle.std.proofs.lemmas.Result.{err_from_is_err_and}
 use Rattle.std.proofs.Common.{◌∙◌, ap, sym, length, arith}
 use Rattle.std.specs.Vec.Iter.{into_iter_items, into_iter_len}
 use Rattle.lfs_fs.proofs.PathEnds.{reads_again}
@@ -14,24 +15,26 @@ loop-entry-init g c =
 pub loop-entry-preserved : goal.loop-entry-preserved
 loop-entry-preserved g c =
     let at = c.loop-entry in
-    let put = c.in-Ok-push_row.ensures.answer in
+    let put = c.in_ok-push_row.ensures.answer in
     rows_more g.D.SectorDevice.state c.args.self.now at.self c.push_row.new.self c.args.directory.value c.args.entries.items at.yielded
     (into_iter_items at.entry-iterator) (into_iter_items c.next.new.self) (into_iter_len at.entry-iterator)
     at.rows.items at.invariant c.in-Some.entry c.in-Some.ensures.steps.0 (g.met.D.SectorDevice.lawful c.args.self.now.store.log.device)
-    c.in-Ok-push_row.ensures.reads (into_iter_len c.next.new.self) (let gone = c.in-Some.ensures.steps.1 in omega (arith, gone)) put.0
+    c.in_ok-push_row.ensures.reads (into_iter_len c.next.new.self) (let gone = c.in-Some.ensures.steps.1 in omega (arith, gone)) put.0
     c.push_row.new.rows.items put.1 put.2
 
-pub returns-in-Err-clause-reads : goal.returns-in-Err-clause-reads
-returns-in-Err-clause-reads g c =
+pub returns-in_err-push_row-clause-reads : goal.returns-in_err-push_row-clause-reads
+returns-in_err-push_row-clause-reads g c =
     reads_again g.D.SectorDevice.state c.args.self.now c.loop-entry.self c.push_row.new.self c.loop-entry.invariant.reads
-    (g.met.D.SectorDevice.lawful c.args.self.now.store.log.device) c.in-Err.ensures.reads
+    (g.met.D.SectorDevice.lawful c.args.self.now.store.log.device) c.in_err-push_row.ensures.reads
 
-pub returns-in-Err-clause-missing : goal.returns-in-Err-clause-missing
-returns-in-Err-clause-missing g c =
-    let at = c.loop-entry in
+pub returns-in_err-push_row-clause-missing : goal.returns-in_err-push_row-clause-missing
+returns-in_err-push_row-clause-missing g c =
+    let p = err_from_is_err_and c.from_residual.result c.from_residual.ensures.1 in rw (p.1, p.2)
+    (let at = c.loop-entry in
     rows_lack g.D.SectorDevice.state c.args.self.now at.self c.push_row.new.self c.args.directory.value c.args.entries.items at.yielded
     (into_iter_items at.entry-iterator) (into_iter_items c.next.new.self) (into_iter_len at.entry-iterator)
-    at.rows.items at.invariant c.in-Some.entry c.in-Some.ensures.steps.0 c.in-Err.fault c.in-Err.ensures.reads c.in-Err.ensures.missing
+    at.rows.items at.invariant c.in-Some.entry c.in-Some.ensures.steps.0 c.in_err-push_row.field-0.0 c.in_err-push_row.ensures.reads
+    c.in_err-push_row.ensures.missing)
 
 pub returns-clause-reads : goal.returns-clause-reads
 returns-clause-reads g c = c.loop-entry.invariant.reads

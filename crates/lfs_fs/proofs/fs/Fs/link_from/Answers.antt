@@ -1,3 +1,4 @@
+use Rattle.std.proofs.lemmas.Result.{err_from_is_err_and}
 use Rattle.std.proofs.Common.{ap, refl, Err, subst, sym, ◌∙◌}
 use Rattle.lfs_model.specs.Call.{LinkTo}
 use Rattle.lfs_path.specs.Reaching.{EndsParent}
@@ -22,21 +23,22 @@ returns-in_default g c v from reached =
     (link_call (segments_of v) from c.args.to.now c.args.directory.value) c.args.last reached
     c.requires.running c.in_default.is
 
-pub returns-in-Err : goal.returns-in-Err
-returns-in-Err g c v from reached =
-    entry_refused g.D.SectorDevice.state g.met.D.SectorDevice.lawful v c.args.self.now from
+pub returns-in_err-entry : goal.returns-in_err-entry
+returns-in_err-entry g c v from reached =
+    let p = err_from_is_err_and c.from_residual.result c.from_residual.ensures.1 in rw (p.1, p.2)
+    (entry_refused g.D.SectorDevice.state g.met.D.SectorDevice.lawful v c.args.self.now from
     c.args.directory.value (LinkTo from c.args.to.now)
     (link_call (segments_of v) from c.args.to.now c.args.directory.value) c.args.last reached
     c.requires.running
-    c.in-Some.last c.in-Some.is c.check_old_entry.new.self c.in-Err.ensures.reads c.in-Err.fault
-    c.in-Err.ensures.refused
+    c.in-Some.last c.in-Some.is c.check_old_entry.new.self c.in_err-entry.ensures.reads c.in_err-entry.field-0.0
+    c.in_err-entry.ensures.refused)
 
-pub returns-in-Ok-parent : goal.returns-in-Ok-parent
-returns-in-Ok-parent g c v from reached =
+pub returns : goal.returns
+returns g c v from reached =
     let state = g.D.SectorDevice.state in
     let mid : Fs g.row.D.Denot = c.check_old_entry.new.self in
-    let entry = c.in-Ok.entry in
-    let walk = c.in-Ok-parent.ensures in
+    let entry = c.in_ok-entry.entry in
+    let walk = c.in_ok-place.ensures in
     let next : Fs g.row.D.Denot
     = record { alloc = mid.alloc; store = c.parent.new.files; handles = mid.handles } in
     let later : OnlyReads state mid next = store_reads state mid next
@@ -45,22 +47,23 @@ returns-in-Ok-parent g c v from reached =
     (same_drafted state mid.store c.parent.new.files walk.reads) refl in
     c.link_to.ensures v from c.args.to.now c.args.directory.value
     (sees_object state g.met.D.SectorDevice.lawful v c.args.self.now from c.args.directory.value
-    c.args.last reached c.requires.running c.in-Some.last c.in-Some.is mid c.in-Ok.ensures.reads
-    entry.holder entry.number.value entry.header c.in-Ok.ensures.has next later)
+    c.args.last reached c.requires.running c.in-Some.last c.in-Some.is mid c.in_ok-entry.ensures.reads
+    entry.holder entry.number.value entry.header c.in_ok-entry.ensures.has next later)
     (second_reaches state g.met.D.SectorDevice.lawful v c.args.self.now from c.args.directory.value
-    c.args.last reached c.requires.running c.in-Some.last c.in-Some.is mid c.in-Ok.ensures.reads
-    entry.holder entry.number.value entry.header c.in-Ok.ensures.has next later
+    c.args.last reached c.requires.running c.in-Some.last c.in-Some.is mid c.in_ok-entry.ensures.reads
+    entry.holder entry.number.value entry.header c.in_ok-entry.ensures.has next later
     c.args.to.now (bytes_of c.args.to.now c.type_inv.to) c.directory.result.value
-    c.in-Ok-parent.place.last walk.last
+    c.in_ok-place.place.last walk.last
     (ends_parent state mid.store c.parent.new.files c.args.to.now
-    c.in-Ok-parent.place.chain c.directory.result.value c.directory.ensures.value walk.answer))
+    c.in_ok-place.place.chain c.directory.result.value c.directory.ensures.value walk.answer))
 
-pub returns-in-Err-parent : goal.returns-in-Err-parent
-returns-in-Err-parent g c v from reached =
-    let state = g.D.SectorDevice.state in
+pub returns-in_err-place : goal.returns-in_err-place
+returns-in_err-place g c v from reached =
+    let p = err_from_is_err_and c.from_residual-in_err-place.result c.from_residual-in_err-place.ensures.1 in rw (p.1)
+    (let state = g.D.SectorDevice.state in
     let mid : Fs g.row.D.Denot = c.check_old_entry.new.self in
-    let entry = c.in-Ok.entry in
-    let walk = c.in-Err-parent.ensures in
+    let entry = c.in_ok-entry.entry in
+    let walk = c.in_err-place.ensures in
     let next : Fs g.row.D.Denot
     = record { alloc = mid.alloc; store = c.parent.new.files; handles = mid.handles } in
     let later : OnlyReads state mid next = store_reads state mid next
@@ -68,12 +71,13 @@ returns-in-Err-parent g c v from reached =
     (same_totals state mid.store c.parent.new.files walk.reads)
     (same_drafted state mid.store c.parent.new.files walk.reads) refl in
     second_ends state g.met.D.SectorDevice.lawful v c.args.self.now from c.args.directory.value
-    c.args.last reached c.requires.running c.in-Some.last c.in-Some.is mid c.in-Ok.ensures.reads
-    entry.holder entry.number.value entry.header c.in-Ok.ensures.has next later
-    c.args.to.now c.in-Err-parent.fault c.from.result c.from.ensures
+    c.args.last reached c.requires.running c.in-Some.last c.in-Some.is mid c.in_ok-entry.ensures.reads
+    entry.holder entry.number.value entry.header c.in_ok-entry.ensures.has next later
+    c.args.to.now c.in_err-place.field-0.0 p.0 p.2
     (ends_refused state mid.store c.parent.new.files (EndsParent c.args.to.now)
-    c.in-Err-parent.fault walk.refused) (λ e. walk.halted (ap Err e)) (λ e. walk.other (ap Err e))
+    c.in_err-place.field-0.0 walk.refused) (λ e. walk.halted (ap Err e)) (λ e. walk.other (ap Err e)))
 
 pub link_to-requires-clause-empty : goal.link_to-requires-clause-empty
 link_to-requires-clause-empty g c =
-    subst (λ (d : Draft). IsNoChange d.changes) (sym (c.in-Ok-parent.ensures.reads.draft ∙ c.in-Ok.ensures.reads.draft)) c.requires.empty
+    subst (λ (d : Draft). IsNoChange d.changes) (sym (c.in_ok-place.ensures.reads.draft ∙ c.in_ok-entry.ensures.reads.draft))
+    c.requires.empty

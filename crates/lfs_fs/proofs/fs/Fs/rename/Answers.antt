@@ -1,3 +1,4 @@
+use Rattle.std.proofs.lemmas.Result.{err_from_is_err_and}
 use Rattle.std.proofs.Common.{ap, refl, subst, sym, Err}
 use Rattle.lfs_model.specs.Call.{Done, Refuse, Rename}
 use Rattle.lfs_store.specs.declared.draft.Draft.{Draft}
@@ -16,19 +17,20 @@ use Rattle.lfs_fs.proofs.RenamePaths.{first_refused}
 use Rattle.lfs_fs.proofs.StoreCalls.{ends_parent, ends_refused, log_reads, same_drafted, same_totals}
 use Rattle.lfs_fs.proofs.fs.Fs.rename.Goals as goal
 
-pub returns-in-Err : goal.returns-in-Err
-returns-in-Err g c =
-    halted_serves g.D.SectorDevice.state c.args.self.now c.begin.new.self
-    (Rename c.args.from.now c.args.to.now) c.in-Err.fault
-    (g.met.D.SectorDevice.lawful c.args.self.now.store.log.device) c.in-Err.ensures.same
-    c.in-Err.ensures.halted
-    c.in-Err.ensures.fault
+pub returns-in_err-begin : goal.returns-in_err-begin
+returns-in_err-begin g c =
+    let p = err_from_is_err_and c.from_residual.result c.from_residual.ensures.1 in rw (p.1, p.2)
+    (halted_serves g.D.SectorDevice.state c.args.self.now c.begin.new.self
+    (Rename c.args.from.now c.args.to.now) c.in_err-begin.field-0.0
+    (g.met.D.SectorDevice.lawful c.args.self.now.store.log.device) c.in_err-begin.ensures.same
+    c.in_err-begin.ensures.halted
+    c.in_err-begin.ensures.fault)
 
-pub returns-in-Ok-parent : goal.returns-in-Ok-parent
-returns-in-Ok-parent g c =
+pub returns : goal.returns
+returns g c =
     let state = g.D.SectorDevice.state in
-    let begun = c.in-Ok.ensures.done in
-    let walk = c.in-Ok-parent.ensures in
+    let begun = c.in_ok-begin.ensures.done in
+    let walk = c.in_ok-place.ensures in
     let reads = log_reads state c.begin.new.self.store c.parent.new.files walk.reads in
     let totals = same_totals state c.begin.new.self.store c.parent.new.files walk.reads in
     let drafted = same_drafted state c.begin.new.self.store c.parent.new.files walk.reads in
@@ -38,15 +40,16 @@ returns-in-Ok-parent g c =
     (reaches state g.met.D.SectorDevice.lawful c.args.self.now c.begin.new.self begun
     c.parent.new.files reads walk.reads.saved totals walk.reads.draft drafted
     c.args.from.now (bytes_of c.args.from.now c.type_inv.from) c.directory.result.value
-    c.in-Ok-parent.place.last walk.last
+    c.in_ok-place.place.last walk.last
     (ends_parent state c.begin.new.self.store c.parent.new.files c.args.from.now
-    c.in-Ok-parent.place.chain c.directory.result.value c.directory.ensures.value walk.answer)))
+    c.in_ok-place.place.chain c.directory.result.value c.directory.ensures.value walk.answer)))
 
-pub returns-in-Err-parent : goal.returns-in-Err-parent
-returns-in-Err-parent g c =
-    let state = g.D.SectorDevice.state in
-    let begun = c.in-Ok.ensures.done in
-    let walk = c.in-Err-parent.ensures in
+pub returns-in_err-place : goal.returns-in_err-place
+returns-in_err-place g c =
+    let p = err_from_is_err_and c.from_residual-in_err-place.result c.from_residual-in_err-place.ensures.1 in rw (p.1)
+    (let state = g.D.SectorDevice.state in
+    let begun = c.in_ok-begin.ensures.done in
+    let walk = c.in_err-place.ensures in
     let next : Fs g.row.D.Denot = record {
       alloc = c.begin.new.self.alloc;
       store = c.parent.new.files;
@@ -57,18 +60,18 @@ returns-in-Err-parent g c =
     walk.reads.saved (same_totals state c.begin.new.self.store c.parent.new.files walk.reads)
     (same_drafted state c.begin.new.self.store c.parent.new.files walk.reads) refl in
     begun_serves state c.args.self.now c.begin.new.self (seen next)
-    (Rename c.args.from.now c.args.to.now) (Refuse (refusal_of c.from.result)) begun
+    (Rename c.args.from.now c.args.to.now) (Refuse (refusal_of p.0)) begun
     (later_refused state g.met.D.SectorDevice.lawful (seen c.begin.new.self) c.begin.new.self next
     (only_none state c.begin.new.self).still
     (begun_running state c.args.self.now c.begin.new.self begun) begun.empty first
     (EndsParent c.args.from.now) (Rename c.args.from.now c.args.to.now) refl refl refl
     (λ k m0 m s keeps is r w. first_refused (segments_of (seen c.begin.new.self)) s
     c.args.from.now c.args.to.now is.log.sound.named r w)
-    c.in-Err-parent.fault c.from.result c.from.ensures
+    c.in_err-place.field-0.0 p.0 p.2
     (ends_refused state c.begin.new.self.store c.parent.new.files (EndsParent c.args.from.now)
-    c.in-Err-parent.fault walk.refused) (λ e. walk.halted (ap Err e)) (λ e. walk.other (ap Err e)))
+    c.in_err-place.field-0.0 walk.refused) (λ e. walk.halted (ap Err e)) (λ e. walk.other (ap Err e))))
 
 pub rename_from-requires-clause-empty : goal.rename_from-requires-clause-empty
 rename_from-requires-clause-empty g c =
-    subst (λ (x : Draft). IsNoChange x.changes) (sym c.in-Ok-parent.ensures.reads.draft)
-    c.in-Ok.ensures.done.empty
+    subst (λ (x : Draft). IsNoChange x.changes) (sym c.in_ok-place.ensures.reads.draft)
+    c.in_ok-begin.ensures.done.empty

@@ -1,3 +1,4 @@
+use Rattle.std.proofs.lemmas.Result.{err_from_is_err_and}
 use Rattle.std.proofs.Common.{ap, refl, subst, sym, Err}
 use Rattle.lfs_store.specs.declared.draft.Draft.{Draft}
 use Rattle.lfs_store.specs.memory.Batch.{IsNoChange}
@@ -10,11 +11,11 @@ use Rattle.lfs_fs.proofs.RenamePaths.{ends_chain, reaches_both, second_ends}
 use Rattle.lfs_fs.proofs.StoreCalls.{ends_refused, log_reads, same_drafted, same_totals}
 use Rattle.lfs_fs.proofs.fs.Fs.rename_from.Goals as goal
 
-pub returns-in-Ok : goal.returns-in-Ok
-returns-in-Ok g c v from reached =
+pub returns : goal.returns
+returns g c v from reached =
     let state = g.D.SectorDevice.state in
     let old : Fs g.row.D.Denot = c.args.self.now in
-    let walk = c.in-Ok.ensures in
+    let walk = c.in_ok-place.ensures in
     let next : Fs g.row.D.Denot
     = record { alloc = old.alloc; store = c.parent.new.files; handles = old.handles } in
     let later : OnlyReads state old next = store_reads state old next
@@ -24,15 +25,16 @@ returns-in-Ok g c v from reached =
     c.rename_at.ensures v from c.args.to.now
     (reaches_both state g.met.D.SectorDevice.lawful v old from c.args.directory.value c.args.last
     reached c.requires.running next later
-    c.args.to.now (bytes_of c.args.to.now c.type_inv.to) c.in-Ok.place.chain c.in-Ok.place.last
+    c.args.to.now (bytes_of c.args.to.now c.type_inv.to) c.in_ok-place.place.chain c.in_ok-place.place.last
     walk.last
-    (ends_chain state old.store c.parent.new.files c.args.to.now c.in-Ok.place.chain walk.answer))
+    (ends_chain state old.store c.parent.new.files c.args.to.now c.in_ok-place.place.chain walk.answer))
 
-pub returns-in-Err : goal.returns-in-Err
-returns-in-Err g c v from reached =
-    let state = g.D.SectorDevice.state in
+pub returns-in_err-place : goal.returns-in_err-place
+returns-in_err-place g c v from reached =
+    let p = err_from_is_err_and c.from_residual.result c.from_residual.ensures.1 in rw (p.1)
+    (let state = g.D.SectorDevice.state in
     let old : Fs g.row.D.Denot = c.args.self.now in
-    let walk = c.in-Err.ensures in
+    let walk = c.in_err-place.ensures in
     let next : Fs g.row.D.Denot
     = record { alloc = old.alloc; store = c.parent.new.files; handles = old.handles } in
     let later : OnlyReads state old next = store_reads state old next
@@ -41,11 +43,11 @@ returns-in-Err g c v from reached =
     (same_drafted state old.store c.parent.new.files walk.reads) refl in
     second_ends state g.met.D.SectorDevice.lawful v old from c.args.directory.value c.args.last
     reached c.requires.running next later
-    c.args.to.now c.in-Err.fault c.from.result c.from.ensures
+    c.args.to.now c.in_err-place.field-0.0 p.0 p.2
     (ends_refused state old.store c.parent.new.files (EndsParent c.args.to.now)
-    c.in-Err.fault walk.refused) (λ e. walk.halted (ap Err e)) (λ e. walk.other (ap Err e))
+    c.in_err-place.field-0.0 walk.refused) (λ e. walk.halted (ap Err e)) (λ e. walk.other (ap Err e)))
 
 pub rename_at-requires-clause-empty : goal.rename_at-requires-clause-empty
 rename_at-requires-clause-empty g c =
-    subst (λ (x : Draft). IsNoChange x.changes) (sym c.in-Ok.ensures.reads.draft)
+    subst (λ (x : Draft). IsNoChange x.changes) (sym c.in_ok-place.ensures.reads.draft)
     c.requires.empty

@@ -1,3 +1,4 @@
+use Rattle.std.proofs.lemmas.Result.{err_from_is_err_and}
 use Rattle.std.proofs.Common.{ap, refl, Err}
 use Rattle.lfs_model.specs.Call.{Status, Refuse}
 use Rattle.lfs_path.specs.Reaching.{EndsResolve}
@@ -12,17 +13,19 @@ use Rattle.lfs_fs.proofs.ReadingEnds.{begun_running, begun_serves, halted_serves
 use Rattle.lfs_fs.proofs.StoreCalls.{each_drafted, ends_refused, log_reads, same_drafted, same_totals}
 use Rattle.lfs_fs.proofs.fs.Fs.status.Goals as goal
 
-pub returns-in-Err : goal.returns-in-Err
-returns-in-Err g c =
-    halted_serves g.D.SectorDevice.state c.args.self.now c.begin.new.self (stat_call c.args.follow c.args.path.now) c.in-Err.fault
-    (g.met.D.SectorDevice.lawful c.args.self.now.store.log.device) c.in-Err.ensures.same c.in-Err.ensures.halted
-    c.in-Err.ensures.fault
+pub returns-in_err-begin : goal.returns-in_err-begin
+returns-in_err-begin g c =
+    let p = err_from_is_err_and c.from_residual.result c.from_residual.ensures.1 in rw (p.1, p.2)
+    (halted_serves g.D.SectorDevice.state c.args.self.now c.begin.new.self
+    (stat_call c.args.follow c.args.path.now) c.in_err-begin.field-0.0
+    (g.met.D.SectorDevice.lawful c.args.self.now.store.log.device) c.in_err-begin.ensures.same c.in_err-begin.ensures.halted
+    c.in_err-begin.ensures.fault)
 
-pub returns-in-Ok-resolve : goal.returns-in-Ok-resolve
-returns-in-Ok-resolve g c =
+pub returns : goal.returns
+returns g c =
     let state = g.D.SectorDevice.state in
-    let begun = c.in-Ok.ensures.done in
-    let walk = c.in-Ok-resolve.ensures in
+    let begun = c.in_ok-begin.ensures.done in
+    let walk = c.in_ok-number.ensures in
     let mid : Fs g.row.D.Denot =
     record { alloc = c.begin.new.self.alloc; store = c.resolve.new.files; handles = c.begin.new.self.handles } in
     let first = store_reads state c.begin.new.self mid (log_reads state c.begin.new.self.store c.resolve.new.files walk.reads)
@@ -32,25 +35,26 @@ returns-in-Ok-resolve g c =
     (answer_by (λ stat. Status (status_of stat)) c.stat_of.result) begun
     (stat_ends state c.begin.new.self mid (g.met.D.SectorDevice.lawful c.begin.new.self.store.log.device)
     (begun_running state c.args.self.now c.begin.new.self begun) begun.empty first c.args.path.now c.args.follow
-    c.in-Ok-resolve.number.value (each_drafted state c.begin.new.self.store c.resolve.new.files _ walk.answer) c.stat_of.new.self
+    c.in_ok-number.number.value (each_drafted state c.begin.new.self.store c.resolve.new.files _ walk.answer) c.stat_of.new.self
     c.stat_of.ensures.reads c.stat_of.result c.stat_of.ensures.answer c.stat_of.ensures.missing)
 
-pub returns-in-Err-resolve : goal.returns-in-Err-resolve
-returns-in-Err-resolve g c =
-    let state = g.D.SectorDevice.state in
-    let begun = c.in-Ok.ensures.done in
-    let walk = c.in-Err-resolve.ensures in
+pub returns-in_err-number : goal.returns-in_err-number
+returns-in_err-number g c =
+    let p = err_from_is_err_and c.from_residual-in_err-number.result c.from_residual-in_err-number.ensures.1 in rw (p.1)
+    (let state = g.D.SectorDevice.state in
+    let begun = c.in_ok-begin.ensures.done in
+    let walk = c.in_err-number.ensures in
     let mid : Fs g.row.D.Denot =
     record { alloc = c.begin.new.self.alloc; store = c.resolve.new.files; handles = c.begin.new.self.handles } in
     let first = store_reads state c.begin.new.self mid (log_reads state c.begin.new.self.store c.resolve.new.files walk.reads)
     walk.reads.draft walk.reads.saved (same_totals state c.begin.new.self.store c.resolve.new.files walk.reads)
     (same_drafted state c.begin.new.self.store c.resolve.new.files walk.reads) refl in
     begun_serves state c.args.self.now c.begin.new.self (seen mid) (stat_call c.args.follow c.args.path.now)
-    (Refuse (refusal_of c.from.result)) begun
+    (Refuse (refusal_of p.0)) begun
     (path_without state c.begin.new.self mid (g.met.D.SectorDevice.lawful c.begin.new.self.store.log.device)
     (begun_running state c.args.self.now c.begin.new.self begun) begun.empty first
     (EndsResolve c.args.path.now c.args.follow) (stat_call c.args.follow c.args.path.now) (stat_may_fail c.args.follow c.args.path.now)
     (stat_cleans c.args.follow c.args.path.now)
     (stat_memory c.args.follow c.args.path.now) (λ N s r w. stat_refused N s c.args.path.now c.args.follow r w)
-    c.in-Err-resolve.fault c.from.result c.from.ensures (ends_refused state c.begin.new.self.store c.resolve.new.files (EndsResolve
-    c.args.path.now c.args.follow) c.in-Err-resolve.fault walk.refused) (λ e. walk.halted (ap Err e)) (λ e. walk.other (ap Err e)))
+    c.in_err-number.field-0.0 p.0 p.2 (ends_refused state c.begin.new.self.store c.resolve.new.files (EndsResolve
+    c.args.path.now c.args.follow) c.in_err-number.field-0.0 walk.refused) (λ e. walk.halted (ap Err e)) (λ e. walk.other (ap Err e))))

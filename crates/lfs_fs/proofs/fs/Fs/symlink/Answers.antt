@@ -1,3 +1,4 @@
+use Rattle.std.proofs.lemmas.Result.{err_from_is_err_and}
 use Rattle.std.proofs.Common.{ap, refl, Err, subst, sym}
 use Rattle.lfs_model.specs.Call.{Done, Refuse, Symlink}
 use Rattle.lfs_path.specs.Reaching.{EndsParent}
@@ -13,25 +14,30 @@ use Rattle.lfs_store.specs.declared.draft.Draft.{Draft}
 use Rattle.lfs_store.specs.memory.Batch.{IsNoChange}
 use Rattle.lfs_fs.proofs.fs.Fs.symlink.Goals as goal
 
-pub returns-in-Err : goal.returns-in-Err
-returns-in-Err g c =
-    halted_serves g.D.SectorDevice.state c.args.self.now c.begin.new.self (Symlink c.args.text.now c.args.path.now) c.in-Err.fault
-    (g.met.D.SectorDevice.lawful c.args.self.now.store.log.device) c.in-Err.ensures.same c.in-Err.ensures.halted
-    c.in-Err.ensures.fault
+pub returns-in_err-begin : goal.returns-in_err-begin
+returns-in_err-begin g c =
+    let p = err_from_is_err_and c.from_residual.result c.from_residual.ensures.1 in rw (p.1, p.2)
+    (halted_serves g.D.SectorDevice.state c.args.self.now c.begin.new.self
+    (Symlink c.args.text.now c.args.path.now) c.in_err-begin.field-0.0
+    (g.met.D.SectorDevice.lawful c.args.self.now.store.log.device) c.in_err-begin.ensures.same c.in_err-begin.ensures.halted
+    c.in_err-begin.ensures.fault)
 
 -- the text is refused
-pub returns-in-Err-check_link_text : goal.returns-in-Err-check_link_text
-returns-in-Err-check_link_text g c =
-    begun_serves g.D.SectorDevice.state c.args.self.now c.begin.new.self (seen c.begin.new.self) (Symlink c.args.text.now c.args.path.now)
-    (Refuse (refusal_of c.in-Err-check_link_text.fault)) c.in-Ok.ensures.done
-    (text_ends g.D.SectorDevice.state g.met.D.SectorDevice.lawful c.args.self.now c.begin.new.self c.in-Ok.ensures.done c.args.text.now
-    c.args.path.now (refusal_of c.in-Err-check_link_text.fault) c.in-Err-check_link_text.ensures.refused)
+pub returns-in_err-check_link_text : goal.returns-in_err-check_link_text
+returns-in_err-check_link_text g c =
+    let p = err_from_is_err_and c.from_residual-in_err-check_link_text.result c.from_residual-in_err-check_link_text.ensures.1 in
+    rw (p.1, p.2)
+    (begun_serves g.D.SectorDevice.state c.args.self.now c.begin.new.self (seen c.begin.new.self) (Symlink c.args.text.now c.args.path.now)
+    (Refuse (refusal_of c.in_err-check_link_text.field-0.0)) c.in_ok-begin.ensures.done
+    (text_ends g.D.SectorDevice.state g.met.D.SectorDevice.lawful c.args.self.now c.begin.new.self c.in_ok-begin.ensures.done
+    c.args.text.now
+    c.args.path.now (refusal_of c.in_err-check_link_text.field-0.0) c.in_err-check_link_text.ensures.refused))
 
-pub returns-in-Ok-parent : goal.returns-in-Ok-parent
-returns-in-Ok-parent g c =
+pub returns : goal.returns
+returns g c =
     let state = g.D.SectorDevice.state in
-    let begun = c.in-Ok.ensures.done in
-    let walk = c.in-Ok-parent.ensures in
+    let begun = c.in_ok-begin.ensures.done in
+    let walk = c.in_ok-place.ensures in
     let reads = log_reads state c.begin.new.self.store c.parent.new.files walk.reads in
     let totals = same_totals state c.begin.new.self.store c.parent.new.files walk.reads in
     let drafted = same_drafted state c.begin.new.self.store c.parent.new.files walk.reads in
@@ -40,29 +46,30 @@ returns-in-Ok-parent g c =
     (c.symlink_at.ensures (seen c.begin.new.self) c.args.path.now
     (reaches state g.met.D.SectorDevice.lawful c.args.self.now c.begin.new.self begun c.parent.new.files reads walk.reads.saved totals
     walk.reads.draft drafted
-    c.args.path.now (bytes_of c.args.path.now c.type_inv.path) c.directory.result.value c.in-Ok-parent.place.last walk.last
-    (ends_parent state c.begin.new.self.store c.parent.new.files c.args.path.now c.in-Ok-parent.place.chain c.directory.result.value
+    c.args.path.now (bytes_of c.args.path.now c.type_inv.path) c.directory.result.value c.in_ok-place.place.last walk.last
+    (ends_parent state c.begin.new.self.store c.parent.new.files c.args.path.now c.in_ok-place.place.chain c.directory.result.value
     c.directory.ensures.value walk.answer)))
 
-pub returns-in-Err-parent : goal.returns-in-Err-parent
-returns-in-Err-parent g c =
-    let state = g.D.SectorDevice.state in
-    let begun = c.in-Ok.ensures.done in
-    let walk = c.in-Err-parent.ensures in
+pub returns-in_err-place : goal.returns-in_err-place
+returns-in_err-place g c =
+    let p = err_from_is_err_and c.from_residual-in_err-place.result c.from_residual-in_err-place.ensures.1 in rw (p.1)
+    (let state = g.D.SectorDevice.state in
+    let begun = c.in_ok-begin.ensures.done in
+    let walk = c.in_err-place.ensures in
     let mid : Fs g.row.D.Denot =
     record { alloc = c.begin.new.self.alloc; store = c.parent.new.files; handles = c.begin.new.self.handles } in
     let first = store_reads state c.begin.new.self mid (log_reads state c.begin.new.self.store c.parent.new.files walk.reads)
     walk.reads.draft walk.reads.saved (same_totals state c.begin.new.self.store c.parent.new.files walk.reads)
     (same_drafted state c.begin.new.self.store c.parent.new.files walk.reads) refl in
     begun_serves state c.args.self.now c.begin.new.self (seen mid) (Symlink c.args.text.now c.args.path.now)
-    (Refuse (refusal_of c.from.result)) begun
+    (Refuse (refusal_of p.0)) begun
     (path_without state c.begin.new.self mid (g.met.D.SectorDevice.lawful c.begin.new.self.store.log.device)
     (begun_running state c.args.self.now c.begin.new.self begun) begun.empty first
     (EndsParent c.args.path.now) (Symlink c.args.text.now c.args.path.now) refl refl refl
-    (λ N s r w. symlink_refused N s c.args.path.now c.args.text.now c.in-Ok-check_link_text.ensures.good r w)
-    c.in-Err-parent.fault c.from.result c.from.ensures (ends_refused state c.begin.new.self.store c.parent.new.files
-    (EndsParent c.args.path.now) c.in-Err-parent.fault walk.refused) (λ e. walk.halted (ap Err e)) (λ e. walk.other (ap Err e)))
+    (λ N s r w. symlink_refused N s c.args.path.now c.args.text.now c.in_ok-check_link_text.ensures.good r w)
+    c.in_err-place.field-0.0 p.0 p.2 (ends_refused state c.begin.new.self.store c.parent.new.files
+    (EndsParent c.args.path.now) c.in_err-place.field-0.0 walk.refused) (λ e. walk.halted (ap Err e)) (λ e. walk.other (ap Err e))))
 
 pub symlink_at-requires-clause-empty : goal.symlink_at-requires-clause-empty
 symlink_at-requires-clause-empty g c =
-    subst (λ (d : Draft). IsNoChange d.changes) (sym c.in-Ok-parent.ensures.reads.draft) c.in-Ok.ensures.done.empty
+    subst (λ (d : Draft). IsNoChange d.changes) (sym c.in_ok-place.ensures.reads.draft) c.in_ok-begin.ensures.done.empty

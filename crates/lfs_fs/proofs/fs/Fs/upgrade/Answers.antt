@@ -1,3 +1,4 @@
+use Rattle.std.proofs.lemmas.Result.{err_from_is_err_and}
 use Rattle.std.proofs.Common.{rules, ◌≡◌, sym, ◌∙◌}
 use Rattle.lfs_model.specs.Call.{Done, Upgrade}
 use Rattle.lfs_fs.specs.Seen.{answer_by, seen}
@@ -5,15 +6,16 @@ use Rattle.lfs_fs.proofs.ReadingEnds.{begun_serves, halted_serves}
 use Rattle.lfs_fs.proofs.UpgradeEnds.{upgrade_ends, upgrade_nothing}
 use Rattle.lfs_fs.proofs.fs.Fs.upgrade.Goals as goal
 
-pub returns-in-Err : goal.returns-in-Err
-returns-in-Err g c =
-    halted_serves g.D.SectorDevice.state c.args.self.now c.begin.new.self Upgrade c.in-Err.fault
-    (g.met.D.SectorDevice.lawful c.args.self.now.store.log.device) c.in-Err.ensures.same c.in-Err.ensures.halted
-    c.in-Err.ensures.fault
+pub returns-in_err-begin : goal.returns-in_err-begin
+returns-in_err-begin g c =
+    let p = err_from_is_err_and c.from_residual.result c.from_residual.ensures.1 in rw (p.1, p.2)
+    (halted_serves g.D.SectorDevice.state c.args.self.now c.begin.new.self Upgrade c.in_err-begin.field-0.0
+    (g.met.D.SectorDevice.lawful c.args.self.now.store.log.device) c.in_err-begin.ensures.same c.in_err-begin.ensures.halted
+    c.in_err-begin.ensures.fault)
 
 pub returns-then-version-eq2 : goal.returns-then-version-eq2
 returns-then-version-eq2 g c =
-    let begun = c.in-Ok.ensures.done in
+    let begun = c.in_ok-begin.ensures.done in
     let two : c.version.result ≡ 2 = search rules in
     begun_serves g.D.SectorDevice.state c.args.self.now c.begin.new.self (seen c.begin.new.self) Upgrade
     (answer_by (λ _. Done) c.check_worn.result) begun
@@ -23,7 +25,7 @@ returns-then-version-eq2 g c =
 
 pub returns : goal.returns
 returns g c =
-    let begun = c.in-Ok.ensures.done in
+    let begun = c.in_ok-begin.ensures.done in
     begun_serves g.D.SectorDevice.state c.args.self.now c.begin.new.self (seen c.accept.new.self) Upgrade
     (answer_by (λ _. Done) c.accept.result) begun
     (upgrade_ends g.D.SectorDevice.state g.met.D.SectorDevice.lawful c.args.self.now c.begin.new.self begun c.upgrade.new.self

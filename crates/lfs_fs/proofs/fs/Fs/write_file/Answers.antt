@@ -1,3 +1,4 @@
+use Rattle.std.proofs.lemmas.Result.{err_from_is_err_and}
 use Rattle.std.proofs.Common.{rules, ap, refl, Err, arith, subst, sym}
 use Rattle.lfs_store.specs.log.verify.declared.totals.BlockTotals.{BlockTotals}
 use Rattle.lfs_fs.proofs.WritingDrafts.{write_ends}
@@ -7,39 +8,41 @@ use Rattle.lfs_store.specs.declared.draft.Draft.{Draft}
 use Rattle.lfs_store.specs.memory.Batch.{IsNoChange}
 use Rattle.lfs_fs.proofs.fs.Fs.write_file.Goals as goal
 
-pub returns-in-Err : goal.returns-in-Err
-returns-in-Err g c handle opens few =
-    headerless_serves g.D.SectorDevice.state g.met.D.SectorDevice.lawful c.args.self.now c.header.new.self _ handle c.args.number.value
+pub returns-in_err-header : goal.returns-in_err-header
+returns-in_err-header g c handle opens few =
+    let p = err_from_is_err_and c.from_residual.result c.from_residual.ensures.1 in rw (p.1, p.2)
+    (headerless_serves g.D.SectorDevice.state g.met.D.SectorDevice.lawful c.args.self.now c.header.new.self _ handle c.args.number.value
     opens c.requires.running c.requires.empty
-    c.in-Err.ensures.reads.still refl c.in-Err.fault c.in-Err.ensures.missing
+    c.in_err-header.ensures.reads.still refl c.in_err-header.field-0.0 c.in_err-header.ensures.missing)
 
-pub returns-in-Ok-write_at : goal.returns-in-Ok-write_at
-returns-in-Ok-write_at g c handle opens few =
+pub returns-in-Ok : goal.returns-in-Ok
+returns-in-Ok g c handle opens few =
     write_ends g.D.SectorDevice.state g.met.D.SectorDevice.lawful c.args.self.now c.header.new.self
     record { alloc = c.header.new.self.alloc; store = c.write_at.new.self; handles = c.header.new.self.handles }
-    handle c.args.number.value opens c.requires.running c.requires.empty c.requires.counted c.in-Ok.ensures.reads c.in-Ok.header
-    c.in-Ok.ensures.answer
+    handle c.args.number.value opens c.requires.running c.requires.empty c.requires.counted c.in_ok-header.ensures.reads
+    c.in_ok-header.header
+    c.in_ok-header.ensures.answer
     record {
-      reads = c.in-Ok-write_at.ensures.reads;
-      saved = c.in-Ok-write_at.ensures.saved;
-      blocks = ap (λ (t : BlockTotals). t.data_blocks) c.in-Ok-write_at.ensures.reads.totals;
-      others = ap (λ (t : BlockTotals). t.meta_blocks) c.in-Ok-write_at.ensures.reads.totals;
+      reads = c.in-Ok.ensures.reads;
+      saved = c.in-Ok.ensures.saved;
+      blocks = ap (λ (t : BlockTotals). t.data_blocks) c.in-Ok.ensures.reads.totals;
+      others = ap (λ (t : BlockTotals). t.meta_blocks) c.in-Ok.ensures.reads.totals;
       table = refl;
     }
-    c.accept.new.self c.accept.ensures.rest c.accept.result c.accept.ensures.done c.accept.ensures.refused c.in-Ok-write_at.ensures.counted
+    c.accept.new.self c.accept.ensures.rest c.accept.result c.accept.ensures.done c.accept.ensures.refused c.in-Ok.ensures.counted
     c.args.at c.args.bytes.now c.requires.bytes few c.requires.end (bytes_of c.args.bytes.now (λ i. search rules))
-    c.in-Ok-write_at.ensures.done
+    c.in-Ok.ensures.done
 
-pub returns-in-Err-write_at : goal.returns-in-Err-write_at
-returns-in-Err-write_at g c handle opens few =
+pub returns-in-Err : goal.returns-in-Err
+returns-in-Err g c handle opens few =
     given_up_serves g.D.SectorDevice.state g.met.D.SectorDevice.lawful c.args.self.now c.header.new.self c.write_at.new.self
-    c.give_up.new.self _ c.requires.running c.in-Ok.ensures.reads.still
-    c.in-Err-write_at.ensures.reads c.in-Err-write_at.ensures.saved c.give_up.ensures.log c.give_up.ensures.saved
-    refl refl c.in-Err-write_at.fault c.in-Err-write_at.ensures.failed (λ on. c.in-Err-write_at.ensures.halted (ap Err on))
-    (λ full. c.in-Err-write_at.ensures.other (ap Err full)) c.from.result c.from.ensures
+    c.give_up.new.self _ c.requires.running c.in_ok-header.ensures.reads.still
+    c.in-Err.ensures.reads c.in-Err.ensures.saved c.give_up.ensures.log c.give_up.ensures.saved
+    refl refl c.in-Err.fault c.in-Err.ensures.failed (λ on. c.in-Err.ensures.halted (ap Err on))
+    (λ full. c.in-Err.ensures.other (ap Err full)) c.from.result c.from.ensures
 
 pub accept-requires-clause-room : goal.accept-requires-clause-room
 accept-requires-clause-room g c =
-    let room = c.in-Ok-write_at.ensures.room
-    (subst (λ (d : Draft). IsNoChange d.changes) (sym c.in-Ok.ensures.reads.draft) c.requires.empty) c.requires.most in
+    let room = c.in-Ok.ensures.room
+    (subst (λ (d : Draft). IsNoChange d.changes) (sym c.in_ok-header.ensures.reads.draft) c.requires.empty) c.requires.most in
     omega (arith, room)

@@ -2,10 +2,10 @@ use Rattle.std.proofs.Common.{sym, arith, ◌≡◌, ◌≢◌, refl, length, ge
 use Rattle.lfs_fs.proofs.HandleTables.{find_open, find_closed, find_past}
 use Rattle.lfs_fs.proofs.handles.Handles.get.Goals as goal
 
-pub returns-then-handle-ge64-clause-file : goal.returns-then-handle-ge64-clause-file
-returns-then-handle-ge64-clause-file c =
+pub returns-then-handle-ge-MOST_HANDLES-clause-file : goal.returns-then-handle-ge-MOST_HANDLES-clause-file
+returns-then-handle-ge-MOST_HANDLES-clause-file c =
     let whole : length c.args.self.now.numbers.items ≡ 64 = search in
-    let past = c.if-handle-ge64.true in
+    let past = c.if-handle-ge-MOST_HANDLES.true in
     sym (find_past c.args.handle c.args.self.now.numbers.items (omega arith))
 
 pub returns-in-0-clause-file : goal.returns-in-0-clause-file
