@@ -52,7 +52,7 @@ returns-in-Err-clause-looks g c =
           c.requires.inode.number.some c.requires.inode.is c.requires.inode.there c.inode-inode.ensures c.requires.leaf read.value
           (read.is ∙ ap (word read.shown) c.first_of_leaf.ensures.value)
           c.in-Err.field-0 (λ is. c.in-Err.ensures.unreadable (ap Err is))
-          (λ is. c.in-Err.ensures.failed (ap Err is));
+          (λ is. c.in-Err.ensures.follows.failed (ap Err is));
       no_failure = tt;
       looks = search rules;
     }
