@@ -4,6 +4,8 @@ pub mod Readings
 pub mod Mounted
 pub mod Acceptings
 pub mod EarlyRoom
+pub mod Endings
+pub mod Keepings
 pub mod Onces
 pub mod PiecesLaid
 pub mod PiecesRead

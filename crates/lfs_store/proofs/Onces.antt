@@ -1,6 +1,8 @@
 -- One pass of the cleaner where it is due, behind a commit of the store.
 use Rattle.std.proofs.Common.{◌≡◌, ◌≤◌, ◌+◌, inl, Bool, true, false, length, refl, subst}
+use Rattle.std.specs.Prelude.{Result, Ok, Err, OnOk}
 use Rattle.lfs_model.specs.Device.{DeviceState}
+use Rattle.lfs_files.specs.declared.fault.LogFault.{LogFault}
 use Rattle.lfs_cleaner.specs.log.Held.{AreAllSaved, Held, Saves}
 use Rattle.lfs_cleaner.specs.log.Saving.{commit_orders, pass_orders}
 use Rattle.lfs_cleaner.specs.Room.{CleansOnce, PassesWhereDue, once_orders}
@@ -12,6 +14,12 @@ module _ {D : Type 0} (state : D → DeviceState) (a b c : Held D) where
       → (AreAllSaved b → PassesWhereDue state b c) → CleansOnce state a c
   store_once true quiet saves once alone = subst (λ (h : Held D). CleansOnce state h c) (quiet refl) once
   store_once false quiet saves once alone = let s = saves refl in once_behind state a b c (inl s) (alone s.empty)
+
+  -- however the pass ends
+  pub store_ends : (saved : Bool) (r : Result Unit LogFault) → (saved ≡ true → b ≡ a) → (saved ≡ false → Saves state a b)
+      → OnOk r (CleansOnce state b c) → (AreAllSaved b → OnOk r (PassesWhereDue state b c)) → OnOk r (CleansOnce state a c)
+  store_ends saved (Ok x) quiet saves once alone = store_once saved quiet saves once alone
+  store_ends saved (Err e) quiet saves once alone = tt
 
   -- and one commit comes in all
   pub store_told : (saved : Bool) → (saved ≡ true → b ≡ a) → (saved ≡ false → Saves state a b)

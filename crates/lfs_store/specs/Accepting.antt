@@ -1,5 +1,6 @@
 -- A store over its log: what it holds from a mount on, as drafts are staged and commits save them.
 use Rattle.std.specs.Prelude.{◌≡◌, ◌⊎◌, ◌<◌, ◌≤◌, ◌+◌, ◌-◌, ◌/◌, ◌^◌, ℕ, Bool, true, false, cond, min, length}
+use Rattle.lfs_model.specs.declared.limits.TheConstants.{MOST_UNSAVED}
 use Rattle.lfs_model.specs.Checkpoint.{CheckpointValue}
 use Rattle.lfs_model.specs.Crash.{StandsOn}
 use Rattle.lfs_model.specs.Device.{DeviceState, Carries, LeavesOnly, AllLeft}
@@ -32,7 +33,7 @@ HasCleanForTwo h = length h.memory.usage.segments / 8 + 16 ≤ clean_in h.memory
 
 -- memory has room for a draft: what it brings fits beside what isn't saved, in what one commit may write
 abbrev pub HasRoomFor : {D : Type 0} → Held D → Changes → Type 0
-HasRoomFor h c = (h.halted ≡ false) × (length h.memory.dirty.blocks + room_for c ≤ 456)
+HasRoomFor h c = (h.halted ≡ false) × (length h.memory.dirty.blocks + room_for c ≤ MOST_UNSAVED)
 
 -- how many checkpoints are written at most as room is made: one where anything isn't saved, and one for each pass of the cleaner
 abbrev pub most_written : {D : Type 0} → Held D → Bool → ℕ

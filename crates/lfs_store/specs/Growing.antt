@@ -9,6 +9,10 @@ pub record GrowsBy (c c' : Changes) (more_headers more_blocks : ℕ) : Type 0 wh
   pub headers : length c'.headers.items ≤ length c.headers.items + more_headers
   pub blocks : length c'.blocks.items ≤ length c.blocks.items + more_blocks
 
+-- how many blocks of memory it asks for where it lays no more bytes over a file than one call gives, and nothing else
+abbrev pub asked_by_transfer : ℕ
+asked_by_transfer = 144
+
 -- A draft that changes no block yet, and one header at most.
 pub record IsLone (c : Changes) : Type 0 where
   pub headers : length c.headers.items ≤ 1

@@ -6,6 +6,8 @@ pub mod Writing
 pub mod Shrinking
 pub mod Making
 pub mod Accepting
+pub mod Keeping
+pub mod Outcomes
 pub mod Measuring
 pub mod Recounting
 pub mod Seen

@@ -1,6 +1,7 @@
 -- What is counted of a draft over a log.
 use Rattle.std.specs.Prelude.{◌≡◌, ◌<◌, ◌≤◌, ◌+◌, ◌*◌, ℕ, Bool, true, false, min, Option, Some, None}
 use Rattle.std.specs.Int.{div_ceil}
+use Rattle.lfs_model.specs.declared.limits.TheConstants.{FILE_LEAVES, SECTOR_LEN}
 use Rattle.lfs_model.specs.Checkpoint.{CheckpointValue}
 use Rattle.lfs_model.specs.Device.{DeviceState}
 use Rattle.lfs_model.specs.Encodes.{IsLogMap}
@@ -45,14 +46,14 @@ StoresLeaf c n q = (m : LogMap) → has_leaf (staged c m) n q ≡ true
 
 -- Leaves first..end are those with a block at the indices from..to, before the end of a file of this size.
 pub record IsLeafRange (size from to first end : ℕ) : Type 0 where
-  pub ends : end ≡ leaf_to (min (div_ceil size 512) to)
+  pub ends : end ≡ leaf_to (min (div_ceil size SECTOR_LEN) to)
   pub begins : first ≡ min (leaf_from from) end
 
 -- ---- over a log: what is counted is the log map that it holds, after the draft
 
 -- file n has no block from a size on
 abbrev pub EndsBy : LogMap → ℕ → ℕ → Type 0
-EndsBy m n size = (i : ℕ) → size ≤ 512 * i → is_stored m n i ≡ false
+EndsBy m n size = (i : ℕ) → size ≤ SECTOR_LEN * i → is_stored m n i ≡ false
 
 module _ {D : Type 0} (state : D → DeviceState) where
   -- whether block i of file n is stored
@@ -79,7 +80,7 @@ module _ {D : Type 0} (state : D → DeviceState) where
   abbrev pub TellsDouble : Held D → Held D → Changes → ℕ → ℕ → Bool → Type 0
   TellsDouble h h' c n size found = (k : CheckpointValue) (m0 m : LogMap) → (state h'.device).keeps_model → Holds state h k m0 m
       → EndsBy (staged c m) n size
-      → one_if found ≡ min (leaves_in (staged c m) n 1 129) 1
+      → one_if found ≡ min (leaves_in (staged c m) n 1 FILE_LEAVES) 1
 
   -- its blocks of pointers with a block at the indices from..to, and its double root, where it has no block from a size on
   abbrev pub CountsPointers : Held D → Held D → Changes → ℕ → ℕ → ℕ → ℕ → ℕ → Type 0

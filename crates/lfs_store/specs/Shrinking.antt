@@ -1,5 +1,6 @@
 -- A file cut in its last block, in a draft over a log.
-use Rattle.std.specs.Prelude.{◌≡◌, ◌<◌, ◌≤◌, ◌+◌, ◌/◌, ℕ, [], length, Some, None}
+use Rattle.std.specs.Prelude.{◌*◌, ◌≡◌, ◌<◌, ◌≤◌, ◌+◌, ◌/◌, ℕ, [], length, Some, None}
+use Rattle.lfs_model.specs.declared.limits.TheConstants.{DIRECT_BLOCKS, SECTOR_LEN}
 use Rattle.lfs_model.specs.Checkpoint.{CheckpointValue}
 use Rattle.lfs_model.specs.Device.{DeviceState}
 use Rattle.lfs_model.specs.Encodes.{IsLogMap}
@@ -20,12 +21,12 @@ use Rattle.lfs_store.specs.Writing.{SizesFile, resized}
 pub record TakesShrink (c : Changes) (m : LogMap) (n : ℕ) (h : Header) (len : ℕ) : Type 0 where
   pub there : (staged c m).header n ≡ Some (as_header h)
   pub apart : IsApart c.loss n
-  pub within : m.header n ≡ None → len < 57344
+  pub within : m.header n ≡ None → len < DIRECT_BLOCKS * SECTOR_LEN
   pub header : FitsHeader h.kind h.form h.links len
 
 -- file n has no block behind the one of this place
 abbrev pub HasNoneBehind : LogMap → ℕ → ℕ → Type 0
-HasNoneBehind m n len = (i : ℕ) → len / 512 < i → m.block n i ≡ []
+HasNoneBehind m n len = (i : ℕ) → len / SECTOR_LEN < i → m.block n i ≡ []
 
 module _ {D : Type 0} (state : D → DeviceState) where
   -- The block of this place ends there, and no other block changes.
@@ -35,8 +36,8 @@ module _ {D : Type 0} (state : D → DeviceState) where
     pub blocks : length c'.blocks.items ≤ length c.blocks.items + 1
     pub header : (m : LogMap) → (staged c' m).header n ≡ (staged c m).header n
     pub only : (m : LogMap) → IsChangedAt (staged c m) n (staged c' m)
-    pub others : (m : LogMap) (i : ℕ) → (i ≡ len / 512 → ⊥) → (staged c' m).block n i ≡ (staged c m).block n i
-    pub fits : (m : LogMap) → FitsBatch m c → TakesBlock c m n (len / 512) → FitsBatch m c'
+    pub others : (m : LogMap) (i : ℕ) → (i ≡ len / SECTOR_LEN → ⊥) → (staged c' m).block n i ≡ (staged c m).block n i
+    pub fits : (m : LogMap) → FitsBatch m c → TakesBlock c m n (len / SECTOR_LEN) → FitsBatch m c'
     pub file : (k : CheckpointValue) (m0 m : LogMap) → (state h'.device).keeps_model → Holds state h k m0 m
         → HasNoneBehind (staged c m) n len → CutBlocks (staged c m) (staged c' m) n len
 
@@ -46,7 +47,7 @@ module _ {D : Type 0} (state : D → DeviceState) where
     pub headers : length c'.headers.items ≤ length c.headers.items + 1
     pub blocks : length c'.blocks.items ≤ length c.blocks.items + 1
     pub only : (m : LogMap) → IsChangedAt (staged c m) n (staged c' m)
-    pub others : (m : LogMap) (i : ℕ) → (i ≡ len / 512 → ⊥) → (staged c' m).block n i ≡ (staged c m).block n i
+    pub others : (m : LogMap) (i : ℕ) → (i ≡ len / SECTOR_LEN → ⊥) → (staged c' m).block n i ≡ (staged c m).block n i
     pub header : (m : LogMap) → (staged c' m).header n ≡ Some (as_header (resized head len))
     pub fits : (m : LogMap) → FitsBatch m c → TakesShrink c m n head len → FitsBatch m c'
     pub file : (k : CheckpointValue) (m0 m : LogMap) → (state h'.device).keeps_model → Holds state h k m0 m

@@ -1,6 +1,7 @@
 -- Bytes written to a file and cut off it, in a draft over a log.
-use Rattle.std.specs.Prelude.{◌≡◌, ◌⊎◌, ◌<◌, ◌≤◌, ◌+◌, ◌-◌, ◌/◌, ℕ, max, List, [], length, Some, None}
+use Rattle.std.specs.Prelude.{◌*◌, ◌≡◌, ◌⊎◌, ◌<◌, ◌≤◌, ◌+◌, ◌-◌, ◌/◌, ℕ, max, List, [], length, Some, None}
 use Rattle.std.specs.Int.{div_ceil}
+use Rattle.lfs_model.specs.declared.limits.TheConstants.{DIRECT_BLOCKS, SECTOR_LEN}
 use Rattle.lfs_model.specs.Checkpoint.{CheckpointValue}
 use Rattle.lfs_model.specs.Device.{DeviceState}
 use Rattle.lfs_model.specs.Encodes.{HasInode}
@@ -26,7 +27,7 @@ use Rattle.lfs_store.specs.Pieces.{IsBeneath, WriteSoFar, CutBlocks}
 pub record TakesWrite (c : Changes) (m : LogMap) (n : ℕ) (h : Header) (at : ℕ) (w : List ℕ) : Type 0 where
   pub there : (staged c m).header n ≡ Some (as_header h)
   pub apart : IsApart c.loss n
-  pub within : m.header n ≡ None → at + length w ≤ 57344
+  pub within : m.header n ≡ None → at + length w ≤ DIRECT_BLOCKS * SECTOR_LEN
   pub header : FitsHeader h.kind h.form h.links (max h.size (at + length w))
 
 module _ {D : Type 0} (state : D → DeviceState) where
@@ -50,8 +51,8 @@ module _ {D : Type 0} (state : D → DeviceState) where
   pub record Writes (h h' : Held D) (c c' : Changes) (n : ℕ) (head : Header) (at : ℕ) (w : List ℕ) : Type 0 where
     pub loss : c'.loss ≡ c.loss
     pub headers : length c'.headers.items ≤ length c.headers.items + 1
-    pub blocks : length c'.blocks.items ≤ length c.blocks.items + (div_ceil (at + length w) 512 - at / 512)
-    pub around : (m : LogMap) (i : ℕ) → (i < at / 512) ⊎ (div_ceil (at + length w) 512 ≤ i)
+    pub blocks : length c'.blocks.items ≤ length c.blocks.items + (div_ceil (at + length w) SECTOR_LEN - at / SECTOR_LEN)
+    pub around : (m : LogMap) (i : ℕ) → (i < at / SECTOR_LEN) ⊎ (div_ceil (at + length w) SECTOR_LEN ≤ i)
         → (staged c' m).block n i ≡ (staged c m).block n i
     pub fits : (m : LogMap) → FitsBatch m c → TakesWrite c m n head at w → FitsBatch m c'
     pub file : (k : CheckpointValue) (m0 m : LogMap) → (state h'.device).keeps_model → Holds state h k m0 m
@@ -68,14 +69,14 @@ pub record LosesFrom (x : Loss) (n first : ℕ) : Type 0 where
 
 -- A draft that does no more than that.
 pub record DraftsCut (c : Changes) (n len : ℕ) : Type 0 where
-  pub lost : LosesFrom c.loss n (div_ceil len 512)
+  pub lost : LosesFrom c.loss n (div_ceil len SECTOR_LEN)
   pub headers : c.headers.items ≡ []
   pub blocks : c.blocks.items ≡ []
 
 module _ {D : Type 0} (state : D → DeviceState) where
   -- A draft that cuts the blocks of file n.
   pub record CutsDraft (h h' : Held D) (c : Changes) (n len : ℕ) : Type 0 where
-    pub loss : LosesFrom c.loss n (div_ceil len 512)
+    pub loss : LosesFrom c.loss n (div_ceil len SECTOR_LEN)
     pub headers : c.headers.items ≡ []
     pub blocks : length c.blocks.items ≤ 1
     pub header : (m : LogMap) → (staged c m).header n ≡ m.header n
@@ -84,7 +85,7 @@ module _ {D : Type 0} (state : D → DeviceState) where
 
   -- One that gives it another size.
   pub record SetsLen (h h' : Held D) (c : Changes) (n : ℕ) (head : Header) (len : ℕ) : Type 0 where
-    pub lost : len < head.size → LosesFrom c.loss n (div_ceil len 512)
+    pub lost : len < head.size → LosesFrom c.loss n (div_ceil len SECTOR_LEN)
     pub kept : head.size ≤ len → c.loss ≡ Nothing
     pub headers : length c.headers.items ≤ 1
     pub blocks : length c.blocks.items ≤ 1

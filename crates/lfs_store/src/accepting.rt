@@ -1,6 +1,6 @@
 //! A store from its mount on: a draft is staged after room is made for it, and a commit saves what
 //! was staged.
-ghost use Rattle.std.specs.Prelude.{◌≡◌, ◌≢◌, ◌<◌, ◌≤◌, ◌+◌, ◌*◌, ◌/◌, true, false, length, IfOk, IfErr, OnOk, OnErr, IsErrOf, ◌⊎◌, MatchResult, IsTrue, IsFalse};
+ghost use Rattle.std.specs.Prelude.{◌≡◌, ◌<◌, ◌≤◌, ◌+◌, ◌/◌, true, false, length, IfOk, IfErr, OnOk, OnErr, IsErrOf, ◌⊎◌, MatchResult, IsTrue, IsFalse};
 ghost use Rattle.lfs_model.specs.Device.{Only, IsUntouched, Carries, LeavesOnly};
 ghost use Rattle.lfs_cleaner.specs.log.segments.Table.{clean_in};
 ghost use Rattle.lfs_cleaner.specs.log.verify.Loading.{HasTables, IsLoaded};
@@ -25,11 +25,13 @@ const MOST_HEADERS: usize = 4;
 const MOST_BLOCKS: usize = 256;
 
 impl<D: SectorDevice> Store<D> {
-    ghost use Rattle.lfs_cleaner.specs.log.Held.{AreAllSaved, Halts, IsFull, Saves, WritesEarly};
+    ghost use Rattle.lfs_cleaner.specs.log.Held.{AreAllSaved, Halts, IsFull, WritesEarly};
     ghost use Rattle.lfs_cleaner.specs.log.Saving.{commit_orders, orders_for};
-    ghost use Rattle.lfs_cleaner.specs.Room.{CleansOnce, HaltsLater, HasQuarter, IsAtRest, IsRoomFault, once_orders, passes_orders, room_orders};
+    ghost use Rattle.lfs_cleaner.specs.Room.{CleansOnce, HasQuarter, once_orders, passes_orders, room_orders};
     ghost use Rattle.lfs_store.specs.Recounting.{MountsTotals};
-    ghost use Rattle.lfs_store.specs.Accepting.{MountsStore, Commits, MakesRoom, Readies, CannotMakeRoom, Accepts, Declines, IsAcceptFault, HasClean, HasCleanForTwo, HasRoomFor, most_written};
+    ghost use Rattle.lfs_store.specs.Accepting.{MountsStore, Readies, HasClean, HasCleanForTwo, HasRoomFor};
+    ghost use Rattle.lfs_store.specs.Keeping.{KeepsDraft, OnlyDrafts};
+    ghost use Rattle.lfs_store.specs.Outcomes.{Accepted, Cleaned, Committed, RoomMade};
 
     /// The volume that the newest checkpoint of the device leads to, with its totals and an empty
     /// draft; else why there is none, and the device. It writes nothing, and takes the memory that
@@ -133,31 +135,7 @@ impl<D: SectorDevice> Store<D> {
     /// As those of `Log::commit`: `Full` where too few segments are clean: nothing changed.
     /// `Halted` where a call of the device failed, here or as the log was written before.
     pub fn commit(&mut self) -> Result<(), LogFault>
-        ensures done { OnOk result (Commits D.SectorDevice.state self.old.log self.old.saved
-            self.new.log) }
-        ensures ready { OnOk result (Readies D.SectorDevice.state self.old.log self.old.saved
-            self.new.log self.new.saved) }
-        ensures saved { OnOk result (self.new.saved ≡ true) }
-        ensures same { OnErr result (self.new.saved ≡ self.old.saved) }
-        ensures draft { self.new.draft ≡ self.old.draft }
-        ensures totals { self.new.log.totals ≡ self.old.log.totals }
-        ensures drafted { self.new.drafted ≡ self.old.drafted }
-        ensures full { IsErrOf result LogFault.Full
-            → (self.new.log ≡ self.old.log) × IsFull self.old.log }
-        ensures unsaved { IsErrOf result LogFault.Full → self.old.saved ≡ false }
-        ensures halted { IsErrOf result LogFault.Halted → self.old.log.halted ≢ true
-            → Halts D.SectorDevice.state self.old.log self.new.log }
-        ensures still { self.old.log.halted ≡ true
-            → (self.new.log ≡ self.old.log) × IsErrOf result LogFault.Halted }
-        ensures other { IsErrOf result LogFault.Device → ⊥ }
-        ensures quiet { self.old.saved ≡ true → self.new.log ≡ self.old.log }
-        ensures told { length (D.state self.new.log.device).told
-            ≤ length (D.state self.old.log.device).told + commit_orders }
-        ensures saves { OnOk result (self.old.saved ≡ false
-            → Saves D.SectorDevice.state self.old.log self.new.log) }
-        ensures tells { length (D.state self.new.log.device).told
-            ≤ length (D.state self.old.log.device).told
-            + orders_for (length self.old.log.memory.dirty.blocks) }
+        ensures { Committed D.SectorDevice.state self.old self.new result }
     {
         if self.log.is_halted() {
             return Err(LogFault::Halted);
@@ -173,8 +151,7 @@ impl<D: SectorDevice> Store<D> {
     /// The draft is empty: what was drafted isn't done.
     pub fn give_up(&mut self)
         ensures draft { IsNoChange self.new.draft.changes }
-        ensures log { self.new.log ≡ self.old.log }
-        ensures saved { self.new.saved ≡ self.old.saved }
+        ensures keeps { OnlyDrafts self.old self.new }
         ensures drafted { self.new.drafted ≡ self.old.log.totals }
     {
         self.draft.changes.clear();
@@ -200,25 +177,8 @@ impl<D: SectorDevice> Store<D> {
     /// pass, `Device` where a call of the device failed before anything more was written. `Halted`
     /// where one failed later, or as the log was written before.
     pub fn clean(&mut self) -> Result<(), LogFault>
-        ensures done { OnOk result (MakesRoom D.SectorDevice.state self.old.log self.old.saved
-            self.new.log self.new.saved) }
+        ensures cleans { Cleaned D.SectorDevice.state self.old self.new result }
         ensures enough { OnOk result (HasQuarter self.new.log) }
-        ensures draft { self.new.draft ≡ self.old.draft }
-        ensures totals { self.new.log.totals ≡ self.old.log.totals }
-        ensures drafted { self.new.drafted ≡ self.old.drafted }
-        ensures full { IsErrOf result LogFault.Full →
-            MakesRoom D.SectorDevice.state self.old.log self.old.saved self.new.log self.new.saved }
-        ensures never { IsErrOf result LogFault.Full
-            → CannotMakeRoom D.SectorDevice.state self.old.log self.old.saved self.new.log }
-        ensures kept { IsErrOf result LogFault.Device →
-            MakesRoom D.SectorDevice.state self.old.log self.old.saved self.new.log self.new.saved }
-        ensures failed { IsErrOf result LogFault.Device
-            → IsRoomFault D.SectorDevice.state self.old.log self.new.log }
-        ensures halted { IsErrOf result LogFault.Halted → self.old.log.halted ≢ true
-            → HaltsLater D.SectorDevice.state self.old.log self.new.log
-            (most_written self.old.log self.old.saved) }
-        ensures still { self.old.log.halted ≡ true → (self.new.log ≡ self.old.log)
-            × (self.new.saved ≡ self.old.saved) × IsErrOf result LogFault.Halted }
         ensures told { length (D.state self.new.log.device).told
             ≤ length (D.state self.old.log.device).told
             + room_orders (length self.old.log.memory.usage.segments) }
@@ -226,8 +186,6 @@ impl<D: SectorDevice> Store<D> {
             → length (D.state self.new.log.device).told
             ≤ length (D.state self.old.log.device).told
             + passes_orders (length self.old.log.memory.usage.segments) }
-        ensures quiet { HasQuarter self.old.log → (self.new.log ≡ self.old.log)
-            × (self.new.saved ≡ self.old.saved) }
         ensures unsaved { (IsErrOf result LogFault.Halted → ⊥) → self.new.saved ≡ false
             → self.new.log ≡ self.old.log }
     {
@@ -237,14 +195,8 @@ impl<D: SectorDevice> Store<D> {
         if has_quarter(&self.log) {
             return Ok(());
         }
-        match self.commit() {
-            Ok(()) => {}
-            Err(fault) => return Err(fault),
-        }
-        match make_room(&mut self.log) {
-            Ok(()) => Ok(()),
-            Err(fault) => Err(fault),
-        }
+        self.commit()?;
+        make_room(&mut self.log)
     }
 
     /// One pass of the cleaner where fewer than a quarter of the segments is clean, and none else: a
@@ -254,30 +206,11 @@ impl<D: SectorDevice> Store<D> {
     ///
     /// As those of `clean`.
     pub fn clean_once(&mut self) -> Result<(), LogFault>
-        ensures done { OnOk result (MakesRoom D.SectorDevice.state self.old.log self.old.saved
-            self.new.log self.new.saved) }
+        ensures cleans { Cleaned D.SectorDevice.state self.old self.new result }
         ensures once { OnOk result (CleansOnce D.SectorDevice.state self.old.log self.new.log) }
-        ensures draft { self.new.draft ≡ self.old.draft }
-        ensures totals { self.new.log.totals ≡ self.old.log.totals }
-        ensures drafted { self.new.drafted ≡ self.old.drafted }
-        ensures full { IsErrOf result LogFault.Full →
-            MakesRoom D.SectorDevice.state self.old.log self.old.saved self.new.log self.new.saved }
-        ensures never { IsErrOf result LogFault.Full
-            → CannotMakeRoom D.SectorDevice.state self.old.log self.old.saved self.new.log }
-        ensures kept { IsErrOf result LogFault.Device →
-            MakesRoom D.SectorDevice.state self.old.log self.old.saved self.new.log self.new.saved }
-        ensures failed { IsErrOf result LogFault.Device
-            → IsRoomFault D.SectorDevice.state self.old.log self.new.log }
-        ensures halted { IsErrOf result LogFault.Halted → self.old.log.halted ≢ true
-            → HaltsLater D.SectorDevice.state self.old.log self.new.log
-            (most_written self.old.log self.old.saved) }
-        ensures still { self.old.log.halted ≡ true → (self.new.log ≡ self.old.log)
-            × (self.new.saved ≡ self.old.saved) × IsErrOf result LogFault.Halted }
         ensures told { length (D.state self.new.log.device).told
             ≤ length (D.state self.old.log.device).told
             + once_orders (length self.old.log.memory.usage.segments) }
-        ensures quiet { HasQuarter self.old.log → (self.new.log ≡ self.old.log)
-            × (self.new.saved ≡ self.old.saved) }
     {
         if self.log.is_halted() {
             return Err(LogFault::Halted);
@@ -285,14 +218,8 @@ impl<D: SectorDevice> Store<D> {
         if !self.is_cleaning_due() {
             return Ok(());
         }
-        match self.commit() {
-            Ok(()) => {}
-            Err(fault) => return Err(fault),
-        }
-        match clean_once(&mut self.log) {
-            Ok(()) => Ok(()),
-            Err(fault) => Err(fault),
-        }
+        self.commit()?;
+        clean_once(&mut self.log)
     }
 
     /// Whether so few segments are clean that a commit might find too few.
@@ -300,8 +227,7 @@ impl<D: SectorDevice> Store<D> {
         ensures few { IsTrue result → IsFull self.now.log }
         ensures lacks { IsTrue result → clean_in self.now.log.memory.usage.segments
             < length self.now.log.memory.usage.segments / 8 + 8 }
-        ensures enough { IsFalse result → length self.now.log.memory.usage.segments / 8 + 8
-            ≤ clean_in self.now.log.memory.usage.segments }
+        ensures enough { IsFalse result → HasClean self.now.log }
     {
         self.log.clean_segments() < self.log.segments() / 8 + 8
     }
@@ -315,9 +241,7 @@ impl<D: SectorDevice> Store<D> {
         ensures early { OnOk result (WritesEarly D.SectorDevice.state self.old.log self.new.log) }
         ensures quiet { self.old.saved ≡ true → self.new.log ≡ self.old.log }
         ensures same { self.new.saved ≡ self.old.saved }
-        ensures draft { self.new.draft ≡ self.old.draft }
-        ensures drafted { self.new.drafted ≡ self.old.drafted }
-        ensures totals { self.new.log.totals ≡ self.old.log.totals }
+        ensures keeps { KeepsDraft self.old self.new }
         ensures halted { IsErrOf result LogFault.Halted →
             Halts D.SectorDevice.state self.old.log self.new.log }
         ensures full { IsErrOf result LogFault.Full → ⊥ }
@@ -329,34 +253,22 @@ impl<D: SectorDevice> Store<D> {
         if self.saved {
             return Ok(());
         }
-        match self.log.write_early() {
-            Ok(()) => Ok(()),
-            Err(fault) => Err(fault),
-        }
+        self.log.write_early()
     }
 
     /// Makes room in memory for the draft where it has none, and only there: by early writes, and by
     /// a commit where these don't suffice.
     fn find_room(&mut self) -> Result<(), LogFault>
         requires { self.old.log.halted ≡ false }
-        ensures done { OnOk result (Readies D.SectorDevice.state self.old.log self.old.saved
+        ensures makes { RoomMade D.SectorDevice.state self.old self.new result }
+        ensures ready { OnOk result (Readies D.SectorDevice.state self.old.log self.old.saved
             self.new.log self.new.saved) }
         ensures room { OnOk result (self.new.saved ≡ false →
             length self.new.log.memory.dirty.blocks + room_for self.new.draft.changes
             ≤ self.new.log.memory.dirty.capacity.limit) }
         ensures quiet { HasRoomFor self.old.log self.old.draft.changes
             → self.new.log ≡ self.old.log }
-        ensures draft { self.new.draft ≡ self.old.draft }
-        ensures drafted { self.new.drafted ≡ self.old.drafted }
-        ensures full { IsErrOf result LogFault.Full →
-            MakesRoom D.SectorDevice.state self.old.log self.old.saved self.new.log self.new.saved }
         ensures lacks { IsErrOf result LogFault.Full → IsFull self.new.log }
-        ensures never { IsErrOf result LogFault.Full
-            → CannotMakeRoom D.SectorDevice.state self.old.log self.old.saved self.new.log }
-        ensures halted { IsErrOf result LogFault.Halted
-            → HaltsLater D.SectorDevice.state self.old.log self.new.log
-            (most_written self.old.log self.old.saved) }
-        ensures totals { self.new.log.totals ≡ self.old.log.totals }
         ensures other { IsErrOf result LogFault.Device → ⊥ }
         ensures once { OnOk result ((self.new.log ≡ self.old.log) ⊎ (HasClean self.new.log
             ⊎ ((self.new.saved ≡ true) × AreAllSaved self.new.log))) }
@@ -369,17 +281,11 @@ impl<D: SectorDevice> Store<D> {
         if self.log.has_room(&self.draft.changes) {
             return Ok(());
         }
-        match self.write_early() {
-            Ok(()) => {}
-            Err(fault) => return Err(fault),
-        }
+        self.write_early()?;
         if self.log.has_room(&self.draft.changes) {
             return Ok(());
         }
-        match self.commit() {
-            Ok(()) => Ok(()),
-            Err(fault) => Err(fault),
-        }
+        self.commit()
     }
 
     /// Tells whether enough segments are clean for a commit.
@@ -400,24 +306,9 @@ impl<D: SectorDevice> Store<D> {
     /// Cleans segments, and tells whether enough are clean for a commit then.
     fn find_segments(&mut self) -> Result<(), LogFault>
         requires { self.old.log.halted ≡ false }
-        ensures done { OnOk result (MakesRoom D.SectorDevice.state self.old.log self.old.saved
-            self.new.log self.new.saved) }
+        ensures makes { RoomMade D.SectorDevice.state self.old self.new result }
         ensures enough { OnOk result (HasClean self.new.log) }
-        ensures draft { self.new.draft ≡ self.old.draft }
-        ensures totals { self.new.log.totals ≡ self.old.log.totals }
-        ensures drafted { self.new.drafted ≡ self.old.drafted }
-        ensures full { IsErrOf result LogFault.Full →
-            MakesRoom D.SectorDevice.state self.old.log self.old.saved self.new.log self.new.saved }
         ensures lacks { IsErrOf result LogFault.Full → IsFull self.new.log }
-        ensures never { IsErrOf result LogFault.Full
-            → CannotMakeRoom D.SectorDevice.state self.old.log self.old.saved self.new.log }
-        ensures kept { IsErrOf result LogFault.Device →
-            MakesRoom D.SectorDevice.state self.old.log self.old.saved self.new.log self.new.saved }
-        ensures failed { IsErrOf result LogFault.Device
-            → IsRoomFault D.SectorDevice.state self.old.log self.new.log }
-        ensures halted { IsErrOf result LogFault.Halted
-            → HaltsLater D.SectorDevice.state self.old.log self.new.log
-            (most_written self.old.log self.old.saved) }
         ensures told { length (D.state self.new.log.device).told
             ≤ length (D.state self.old.log.device).told
             + room_orders (length self.old.log.memory.usage.segments) }
@@ -439,29 +330,14 @@ impl<D: SectorDevice> Store<D> {
     /// commit that saves it, else the cleaner makes them so.
     fn prepare_change(&mut self) -> Result<(), LogFault>
         requires { self.old.log.halted ≡ false }
-        ensures done { OnOk result (MakesRoom D.SectorDevice.state self.old.log self.old.saved
-            self.new.log self.new.saved) }
+        ensures makes { RoomMade D.SectorDevice.state self.old self.new result }
         ensures enough { OnOk result (HasClean self.new.log) }
         ensures room { OnOk result (self.new.saved ≡ false →
             length self.new.log.memory.dirty.blocks + room_for self.new.draft.changes
             ≤ self.new.log.memory.dirty.capacity.limit) }
         ensures quiet { HasRoomFor self.old.log self.old.draft.changes → HasClean self.old.log
             → self.new.log ≡ self.old.log }
-        ensures draft { self.new.draft ≡ self.old.draft }
-        ensures totals { self.new.log.totals ≡ self.old.log.totals }
-        ensures drafted { self.new.drafted ≡ self.old.drafted }
-        ensures full { IsErrOf result LogFault.Full →
-            MakesRoom D.SectorDevice.state self.old.log self.old.saved self.new.log self.new.saved }
         ensures lacks { IsErrOf result LogFault.Full → IsFull self.new.log }
-        ensures never { IsErrOf result LogFault.Full
-            → CannotMakeRoom D.SectorDevice.state self.old.log self.old.saved self.new.log }
-        ensures kept { IsErrOf result LogFault.Device →
-            MakesRoom D.SectorDevice.state self.old.log self.old.saved self.new.log self.new.saved }
-        ensures failed { IsErrOf result LogFault.Device
-            → IsRoomFault D.SectorDevice.state self.old.log self.new.log }
-        ensures halted { IsErrOf result LogFault.Halted
-            → HaltsLater D.SectorDevice.state self.old.log self.new.log
-            (most_written self.old.log self.old.saved) }
         ensures told { length (D.state self.new.log.device).told
             ≤ length (D.state self.old.log.device).told
             + room_orders (length self.old.log.memory.usage.segments) }
@@ -469,59 +345,18 @@ impl<D: SectorDevice> Store<D> {
             → length (D.state self.new.log.device).told
             ≤ length (D.state self.old.log.device).told + commit_orders }
     {
-        match self.find_room() {
-            Ok(()) => {}
-            Err(fault) => return Err(fault),
-        }
+        self.find_room()?;
         if !self.lacks_segments() {
             return Ok(());
         }
-        match self.find_segments() {
-            Ok(()) => Ok(()),
-            Err(fault) => Err(fault),
-        }
+        self.find_segments()
     }
 
     /// Stages the draft, and leaves it as it is.
     fn stage_draft(&mut self) -> Result<(), StoreFault>
-        ensures counted { OnOk result (self.new.log.totals ≡ self.old.drafted) }
-        ensures kept { OnErr result (self.new.log.totals ≡ self.old.log.totals) }
+        ensures accepts { Accepted D.SectorDevice.state self.old self.new.log self.new.saved
+            result }
         ensures drafted { self.new.drafted ≡ self.old.drafted }
-        ensures done { OnOk result (Accepts D.SectorDevice.state self.old.log self.old.saved
-            self.new.log self.new.saved self.old.draft.changes) }
-        ensures full { IsErrOf result (StoreFault.Log LogFault.Full)
-            → Declines D.SectorDevice.state self.old.log self.old.saved self.new.log self.new.saved
-            self.old.draft.changes }
-        ensures lacks { IsErrOf result (StoreFault.Log LogFault.Full) → IsFull self.new.log }
-        ensures never { IsErrOf result (StoreFault.Log LogFault.Full)
-            → CannotMakeRoom D.SectorDevice.state self.old.log self.old.saved self.new.log }
-        ensures memory { IsErrOf result StoreFault.NoMemory
-            → Declines D.SectorDevice.state self.old.log self.old.saved self.new.log self.new.saved
-            self.old.draft.changes }
-        ensures fits { IsErrOf result StoreFault.NoMemory
-            → (self.old.saved ≡ true → IsAtRest self.old.log)
-            → 456 < room_for self.old.draft.changes }
-        ensures device { IsErrOf result (StoreFault.Log LogFault.Device)
-            → Declines D.SectorDevice.state self.old.log self.old.saved self.new.log self.new.saved
-            self.old.draft.changes }
-        ensures failed { IsErrOf result (StoreFault.Log LogFault.Device)
-            → IsAcceptFault D.SectorDevice.state self.old.log self.old.saved self.new.log
-            self.old.draft.changes }
-        ensures halted { IsErrOf result (StoreFault.Log LogFault.Halted)
-            → self.old.log.halted ≢ true
-            → HaltsLater D.SectorDevice.state self.old.log self.new.log
-            (most_written self.old.log self.old.saved) }
-        ensures quiet { HasRoomFor self.old.log self.old.draft.changes → HasClean self.old.log
-            → self.new.log.number ≡ self.old.log.number }
-        ensures still { self.old.log.halted ≡ true
-            → (self.new.log ≡ self.old.log) × (self.new.saved ≡ self.old.saved)
-            × IsErrOf result (StoreFault.Log LogFault.Halted) }
-        ensures told { length (D.state self.new.log.device).told
-            ≤ length (D.state self.old.log.device).told
-            + room_orders (length self.old.log.memory.usage.segments) }
-        ensures one_commit { HasCleanForTwo self.old.log
-            → length (D.state self.new.log.device).told
-            ≤ length (D.state self.old.log.device).told + commit_orders }
     {
         if self.log.is_halted() {
             return Err(StoreFault::Log(LogFault::Halted));
@@ -553,45 +388,10 @@ impl<D: SectorDevice> Store<D> {
     /// where a call of the device failed. `Halted` once a write of the log failed, in this call or
     /// before.
     pub fn accept(&mut self) -> Result<(), StoreFault>
-        ensures counted { OnOk result (self.new.log.totals ≡ self.old.drafted) }
-        ensures kept { OnErr result (self.new.log.totals ≡ self.old.log.totals) }
-        ensures drafted { self.new.drafted ≡ self.new.log.totals }
-        ensures done { OnOk result (Accepts D.SectorDevice.state self.old.log self.old.saved
-            self.new.log self.new.saved self.old.draft.changes) }
+        ensures accepts { Accepted D.SectorDevice.state self.old self.new.log self.new.saved
+            result }
         ensures draft { IsNoChange self.new.draft.changes }
-        ensures full { IsErrOf result (StoreFault.Log LogFault.Full)
-            → Declines D.SectorDevice.state self.old.log self.old.saved self.new.log self.new.saved
-            self.old.draft.changes }
-        ensures lacks { IsErrOf result (StoreFault.Log LogFault.Full) → IsFull self.new.log }
-        ensures never { IsErrOf result (StoreFault.Log LogFault.Full)
-            → CannotMakeRoom D.SectorDevice.state self.old.log self.old.saved self.new.log }
-        ensures memory { IsErrOf result StoreFault.NoMemory
-            → Declines D.SectorDevice.state self.old.log self.old.saved self.new.log self.new.saved
-            self.old.draft.changes }
-        ensures fits { IsErrOf result StoreFault.NoMemory
-            → (self.old.saved ≡ true → IsAtRest self.old.log)
-            → 456 < room_for self.old.draft.changes }
-        ensures device { IsErrOf result (StoreFault.Log LogFault.Device)
-            → Declines D.SectorDevice.state self.old.log self.old.saved self.new.log self.new.saved
-            self.old.draft.changes }
-        ensures failed { IsErrOf result (StoreFault.Log LogFault.Device)
-            → IsAcceptFault D.SectorDevice.state self.old.log self.old.saved self.new.log
-            self.old.draft.changes }
-        ensures halted { IsErrOf result (StoreFault.Log LogFault.Halted)
-            → self.old.log.halted ≢ true
-            → HaltsLater D.SectorDevice.state self.old.log self.new.log
-            (most_written self.old.log self.old.saved) }
-        ensures quiet { HasRoomFor self.old.log self.old.draft.changes → HasClean self.old.log
-            → self.new.log.number ≡ self.old.log.number }
-        ensures still { self.old.log.halted ≡ true
-            → (self.new.log ≡ self.old.log) × (self.new.saved ≡ self.old.saved)
-            × IsErrOf result (StoreFault.Log LogFault.Halted) }
-        ensures told { length (D.state self.new.log.device).told
-            ≤ length (D.state self.old.log.device).told
-            + room_orders (length self.old.log.memory.usage.segments) }
-        ensures one_commit { HasCleanForTwo self.old.log
-            → length (D.state self.new.log.device).told
-            ≤ length (D.state self.old.log.device).told + commit_orders }
+        ensures drafted { self.new.drafted ≡ self.new.log.totals }
     {
         let outcome = self.stage_draft();
         self.give_up();

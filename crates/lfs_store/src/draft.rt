@@ -10,6 +10,7 @@ use crate::losing::{header_after, takes_block};
 use lfs_cleaner::volume_log::{BlockEdit, Changes, Header, HeaderEdit, Loss};
 use lfs_layout::is_zero;
 use lfs_model::FileNumber;
+use lfs_model::limits::{LAST_BLOCK, SECTOR_LEN};
 use std::alloc::{AllocError, Global};
 
 /// The changes of one call. A later change of a header or of a block takes the place of the one
@@ -87,7 +88,7 @@ impl Draft {
         ensures some { IfSome result (λ bytes. DraftsBlock self.now.changes number.value index
             bytes.now) }
         ensures none { IfNone result (LeavesBlock self.now.changes number.value index) }
-        ensures long { IfSome result (λ bytes. length bytes.now ≡ 512) }
+        ensures long { IfSome result (λ bytes. length bytes.now ≡ SECTOR_LEN) }
     {
         let Some(place) = last_block(&self.changes.blocks, number.value, index) else {
             return None;
@@ -106,7 +107,7 @@ impl Draft {
         index: u32,
         bytes: &[u8; 512],
     ) -> Result<(), AllocError>
-        requires low { index ≤ 16623 }
+        requires low { index ≤ LAST_BLOCK }
         ensures done { OnOk result (PutsBlock self.old.changes self.new.changes number.value index
             bytes.now) }
         ensures placed { OnOk result (PlacesBlock self.old.changes self.new.changes number.value
@@ -139,7 +140,7 @@ impl Draft {
     /// `None` where the draft leaves it as it is.
     pub fn block(&self, number: FileNumber, index: u32, out: &mut [u8; 512]) -> Option<bool>
         ensures says { SaysBlock self.now.changes number.value index out.new result }
-        ensures zeros { IfSome result (λ found. IsFalse found → out.new ≡ zeros 512) }
+        ensures zeros { IfSome result (λ found. IsFalse found → out.new ≡ zeros SECTOR_LEN) }
     {
         if let Some(bytes) = self.find_block(number, index) {
             *out = *bytes;
@@ -191,7 +192,7 @@ fn is_block(edit: &BlockEdit, number: u16, index: u32) -> bool
 
 #[tactic(auto, unfolding(lfs_model::specs::Fields::zeros))]
 fn clear(out: &mut [u8; 512])
-    ensures { out.new ≡ zeros 512 }
+    ensures { out.new ≡ zeros SECTOR_LEN }
 {
     *out = [0; 512];
 }

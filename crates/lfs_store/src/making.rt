@@ -5,13 +5,13 @@ ghost use Rattle.lfs_cleaner.specs.log.memory.Batch.{IsNoChange};
 ghost use Rattle.lfs_store.specs.Recounting.{CountsMade, CountsRelinked, CountsUpgraded};
 ghost use Rattle.lfs_store.specs.Making.{Makes, SetsLinks, DraftsRemoval, DraftsUpgrade, first_links, first_header};
 
-use crate::measuring::BLOCKS;
 use crate::recounting::recounted;
 use crate::store::Store;
 use crate::totals::{Measure, NO_BLOCK};
 use lfs_cleaner::volume_log::{Header, LastLink, LogFault, Loss, Removal};
 use lfs_device::SectorDevice;
 use lfs_files::{FIRST_FORM, StoreFault};
+use lfs_model::limits::{FILE_BLOCKS, LARGEST_FILE, LONGEST_PATH};
 use lfs_model::{FileNumber, Kind};
 
 /// The links of a file that is made.
@@ -25,8 +25,9 @@ fn first_links(kind: Kind) -> u32
 }
 
 impl<D: SectorDevice> Store<D> {
-    ghost use Rattle.lfs_cleaner.specs.log.Held.{Reads, IsReadFault, IsVacant, HasAll, IsRemoved, IsKept};
+    ghost use Rattle.lfs_cleaner.specs.log.Held.{IsReadFault, IsVacant, HasAll, IsRemoved, IsKept};
     ghost use Rattle.lfs_store.specs.Accepting.{Forgets};
+    ghost use Rattle.lfs_store.specs.Keeping.{DraftsUncounted, OnlyDrafts, RedraftsStore};
     ghost use Rattle.lfs_store.specs.Recounting.{Counts, CountsGone};
 
     /// The least number that no file has in the log.
@@ -35,10 +36,8 @@ impl<D: SectorDevice> Store<D> {
             number.value) }
         ensures none { IfNone result (HasAll D.SectorDevice.state self.now.log) }
     {
-        match self.log.least_free() {
-            Some(number) => Some(FileNumber { value: number }),
-            None => None,
-        }
+        let number = self.log.least_free()?;
+        Some(FileNumber { value: number })
     }
 
     /// The form of the directories that are made in the volume.
@@ -58,8 +57,7 @@ impl<D: SectorDevice> Store<D> {
     ///
     /// `NoMemory` where memory runs out. What the draft holds then is of no use.
     pub fn create(&mut self, number: FileNumber, kind: Kind, form: u8) -> Result<(), StoreFault>
-        ensures log { self.new.log ≡ self.old.log }
-        ensures saved { self.new.saved ≡ self.old.saved }
+        ensures keeps { OnlyDrafts self.old self.new }
         ensures done { OnOk result (Makes self.old.draft.changes self.new.draft.changes number.value
             (first_header kind form 0)) }
         ensures counted { OnOk result (CountsMade self.old.draft.changes self.new.draft.changes
@@ -76,9 +74,8 @@ impl<D: SectorDevice> Store<D> {
     ///
     /// As those of `create`.
     pub fn create_link(&mut self, number: FileNumber, size: u32) -> Result<(), StoreFault>
-        requires most { size ≤ 1023 }
-        ensures log { self.new.log ≡ self.old.log }
-        ensures saved { self.new.saved ≡ self.old.saved }
+        requires most { size ≤ LONGEST_PATH }
+        ensures keeps { OnlyDrafts self.old self.new }
         ensures done { OnOk result (Makes self.old.draft.changes self.new.draft.changes number.value
             (first_header Kind.Link 0 size)) }
         ensures counted { OnOk result (CountsMade self.old.draft.changes self.new.draft.changes
@@ -96,9 +93,8 @@ impl<D: SectorDevice> Store<D> {
         form: u8,
         size: u32,
     ) -> Result<(), StoreFault>
-        requires most { size ≤ 8511488 }
-        ensures log { self.new.log ≡ self.old.log }
-        ensures saved { self.new.saved ≡ self.old.saved }
+        requires most { size ≤ LARGEST_FILE }
+        ensures keeps { OnlyDrafts self.old self.new }
         ensures done { OnOk result (Makes self.old.draft.changes self.new.draft.changes number.value
             (first_header kind form size)) }
         ensures counted { OnOk result (CountsMade self.old.draft.changes self.new.draft.changes
@@ -134,9 +130,7 @@ impl<D: SectorDevice> Store<D> {
         links: u32,
     ) -> Result<(), StoreFault>
         requires last { links ≡ 0 → IsNoChange self.old.draft.changes }
-        ensures log { self.new.log ≡ self.old.log }
-        ensures saved { self.new.saved ≡ self.old.saved }
-        ensures drafted { self.new.drafted ≡ self.old.drafted }
+        ensures keeps { DraftsUncounted self.old self.new }
         ensures done { OnOk result (SetsLinks self.old.draft.changes self.new.draft.changes
             number.value header links) }
         ensures counted { OnOk result (CountsRelinked self.old.draft.changes self.new.draft.changes
@@ -153,9 +147,7 @@ impl<D: SectorDevice> Store<D> {
     /// A file of this header has no link any more.
     fn lose_link(&mut self, number: FileNumber, header: Header)
         requires empty { IsNoChange self.old.draft.changes }
-        ensures log { self.new.log ≡ self.old.log }
-        ensures saved { self.new.saved ≡ self.old.saved }
-        ensures drafted { self.new.drafted ≡ self.old.drafted }
+        ensures keeps { DraftsUncounted self.old self.new }
         ensures done { SetsLinks self.old.draft.changes self.new.draft.changes number.value
             header 0 }
     {
@@ -170,9 +162,7 @@ impl<D: SectorDevice> Store<D> {
     /// A file of this header has other links, and at least one.
     fn relink(&mut self, number: FileNumber, header: Header, links: u32) -> Result<(), StoreFault>
         requires linked { 1 ≤ links }
-        ensures log { self.new.log ≡ self.old.log }
-        ensures saved { self.new.saved ≡ self.old.saved }
-        ensures drafted { self.new.drafted ≡ self.old.drafted }
+        ensures keeps { DraftsUncounted self.old self.new }
         ensures done { OnOk result (SetsLinks self.old.draft.changes self.new.draft.changes
             number.value header links) }
         ensures failed { IfErr result (λ fault. fault ≡ StoreFault.NoMemory) }
@@ -192,9 +182,7 @@ impl<D: SectorDevice> Store<D> {
     /// Drafts that the volume has the second version of the layout. The draft was empty.
     pub fn upgrade(&mut self)
         requires empty { IsNoChange self.old.draft.changes }
-        ensures log { self.new.log ≡ self.old.log }
-        ensures saved { self.new.saved ≡ self.old.saved }
-        ensures drafted { self.new.drafted ≡ self.old.drafted }
+        ensures keeps { DraftsUncounted self.old self.new }
         ensures done { DraftsUpgrade self.new.draft.changes }
         ensures counted { CountsUpgraded self.new.draft.changes }
     {
@@ -208,8 +196,7 @@ impl<D: SectorDevice> Store<D> {
     /// As those of `header`. What the draft holds then is of no use.
     pub fn remove(&mut self, number: FileNumber) -> Result<(), LogFault>
         requires empty { IsNoChange self.old.draft.changes }
-        ensures reads { Reads D.SectorDevice.state self.old.log self.new.log }
-        ensures saved { self.new.saved ≡ self.old.saved }
+        ensures redrafts { RedraftsStore D.SectorDevice.state self.old self.new }
         ensures done { OnOk result (DraftsRemoval self.new.draft.changes number.value) }
         ensures counted { OnOk result (Counts D.SectorDevice.state self.old.log self.new.log
             self.old.draft.changes self.new.draft.changes self.old.drafted self.new.drafted) }
@@ -217,23 +204,15 @@ impl<D: SectorDevice> Store<D> {
         ensures halted { IsErrOf result LogFault.Halted → self.old.log.halted ≡ true }
         ensures other { IsErrOf result LogFault.Full → ⊥ }
     {
-        let before = match self.measure(number, 0, BLOCKS) {
-            Ok(measure) => measure,
-            Err(fault) => return Err(fault),
-        };
+        let before = self.measure(number, 0, FILE_BLOCKS)?;
         self.lose_file(number);
-        match self.recount(number, 0, BLOCKS, before) {
-            Ok(()) => Ok(()),
-            Err(fault) => Err(fault),
-        }
+        self.recount(number, 0, FILE_BLOCKS, before)
     }
 
     /// A file goes with all its blocks, in the draft.
     fn lose_file(&mut self, number: FileNumber)
         requires empty { IsNoChange self.old.draft.changes }
-        ensures log { self.new.log ≡ self.old.log }
-        ensures saved { self.new.saved ≡ self.old.saved }
-        ensures drafted { self.new.drafted ≡ self.old.drafted }
+        ensures keeps { DraftsUncounted self.old self.new }
         ensures done { DraftsRemoval self.new.draft.changes number.value }
     {
         self.draft.lose(Loss::File(Removal {
@@ -265,15 +244,9 @@ impl<D: SectorDevice> Store<D> {
         ensures halted { IsErrOf result LogFault.Halted → self.old.log.halted ≡ true }
         ensures other { IsErrOf result LogFault.Full → ⊥ }
     {
-        let before = match self.measure(number, 0, BLOCKS) {
-            Ok(measure) => measure,
-            Err(fault) => return Err(fault),
-        };
+        let before = self.measure(number, 0, FILE_BLOCKS)?;
         let totals = recounted(self.log.totals(), before, NO_BLOCK);
-        match self.log.remove(number.value, totals) {
-            Ok(()) => {}
-            Err(fault) => return Err(fault),
-        }
+        self.log.remove(number.value, totals)?;
         self.drafted = totals;
         Ok(())
     }

@@ -1,24 +1,21 @@
 //! How many blocks a file has with the draft.
-ghost use Rattle.std.specs.Prelude.{◌≡◌, ◌<◌, ◌≤◌, ◌-◌, true, IfSome, IfNone, IfOk, OnErr, IsErrOf, IsTrue, IsFalse};
+ghost use Rattle.std.specs.Prelude.{◌≡◌, ◌<◌, ◌≤◌, ◌+◌, ◌-◌, true, IfSome, IfNone, IfOk, OnErr, IsErrOf, IsTrue, IsFalse};
 ghost use Rattle.std.specs.List.{AllByRecursion};
-ghost use Rattle.lfs_cleaner.specs.log.Held.{Reads, IsReadFault};
+ghost use Rattle.lfs_cleaner.specs.log.Held.{IsReadFault};
+ghost use Rattle.lfs_store.specs.Keeping.{ReadsLog};
 ghost use Rattle.lfs_store.specs.Measuring.{SaysStored, IsBetween, IsOff, KeepsBefore, LeavesBlocks, StoresLeaf, IsLeafRange, TellsStored, TellsLeaf, TellsDouble, CountsStored, CountsLeaves, CountsPointers};
 
 use crate::draft::Draft;
 use crate::losing::takes_block;
 use crate::store::Store;
 use crate::totals::Measure;
-use lfs_cleaner::volume_log::memory::inodes::{DIRECT, POINTERS};
 use lfs_cleaner::volume_log::{BlockEdit, Log, LogFault, Loss};
 use lfs_device::SectorDevice;
 use lfs_layout::is_zero;
 use lfs_model::FileNumber;
-
-/// How many blocks a file has at most.
-pub const BLOCKS: u32 = 16_624;
-
-/// How many leaves of pointers a file has at most: the single one, and those below the double root.
-const LEAVES: u32 = 1 + POINTERS;
+use lfs_model::limits::{
+    BLOCK_POINTERS, DIRECT_BLOCKS, FILE_BLOCKS, FILE_LEAVES, FIRST_DOUBLE, LAST_LEAF,
+};
 
 impl<D: SectorDevice> Store<D> {
     ghost use Rattle.lfs_store.specs.Measuring.{Measures};
@@ -32,10 +29,10 @@ impl<D: SectorDevice> Store<D> {
     /// As those of `header`.
     pub fn measure(&mut self, number: FileNumber, from: u32, to: u32) -> Result<Measure, LogFault>
         requires order { from ≤ to }
-        requires low { to ≤ 16624 }
+        requires low { to ≤ FILE_BLOCKS }
         ensures reads { ReadsStore D.SectorDevice.state self.old self.new }
         ensures few { IfOk result (λ found. found.data_blocks ≤ to - from) }
-        ensures few_above { IfOk result (λ found. found.meta_blocks ≤ 131) }
+        ensures few_above { IfOk result (λ found. found.meta_blocks ≤ FILE_LEAVES + 2) }
         ensures answer { IfOk result (Measures D.SectorDevice.state self.old.log self.new.log
             self.old.draft.changes number.value from to) }
         ensures failed { OnErr result (IsReadFault D.SectorDevice.state self.old.log self.new.log) }
@@ -53,20 +50,8 @@ impl<D: SectorDevice> Store<D> {
             Err(fault) => return Err(fault),
         };
         let end = size.div_ceil(512).min(to);
-        let data_blocks = match count_stored(
-            &mut self.log,
-            &self.draft,
-            number,
-            from.min(end),
-            end,
-        ) {
-            Ok(count) => count,
-            Err(fault) => return Err(fault),
-        };
-        let pointers = match count_pointers(&mut self.log, &self.draft, number, size, from, to) {
-            Ok(count) => count,
-            Err(fault) => return Err(fault),
-        };
+        let data_blocks = count_stored(&mut self.log, &self.draft, number, from.min(end), end)?;
+        let pointers = count_pointers(&mut self.log, &self.draft, number, size, from, to)?;
         Ok(Measure {
             data_blocks,
             meta_blocks: 1 + pointers,
@@ -81,12 +66,9 @@ fn is_stored<D: SectorDevice>(
     number: FileNumber,
     index: u32,
 ) -> Result<bool, LogFault>
-    ensures reads { Reads D.state log.old log.new }
+    ensures reads { ReadsLog D.state log.old log.new result }
     ensures answer { IfOk result
         (TellsStored D.state log.old log.new draft.now.changes number.value index) }
-    ensures failed { OnErr result (IsReadFault D.state log.old log.new) }
-    ensures halted { IsErrOf result LogFault.Halted → log.old.halted ≡ true }
-    ensures other { IsErrOf result LogFault.Full → ⊥ }
 {
     match stored_after(draft, number, index) {
         Some(stored) => Ok(stored),
@@ -95,59 +77,37 @@ fn is_stored<D: SectorDevice>(
 }
 
 /// Whether a leaf of pointers of a file is stored, since a block below it is. Where the draft
-/// stores one, nothing is read.
+/// stores one, nothing is read; where it changes one, it looks at each block below, until one is
+/// stored.
 fn has_leaf<D: SectorDevice>(
     log: &mut Log<D>,
     draft: &Draft,
     number: FileNumber,
     leaf: u32,
 ) -> Result<bool, LogFault>
-    requires leaf { leaf ≤ 128 }
-    ensures reads { Reads D.state log.old log.new }
+    requires leaf { leaf ≤ LAST_LEAF }
+    ensures reads { ReadsLog D.state log.old log.new result }
     ensures answer { IfOk result
         (TellsLeaf D.state log.old log.new draft.now.changes number.value leaf) }
-    ensures failed { OnErr result (IsReadFault D.state log.old log.new) }
-    ensures halted { IsErrOf result LogFault.Halted → log.old.halted ≡ true }
-    ensures other { IsErrOf result LogFault.Full → ⊥ }
 {
     if stores_leaf(draft, number, leaf) {
         return Ok(true);
     }
-    let first = DIRECT + POINTERS * leaf;
-    if changes_blocks(draft, number, first, first + POINTERS) {
-        return search_leaf(log, draft, number, leaf);
+    let first = DIRECT_BLOCKS + BLOCK_POINTERS * leaf;
+    if !changes_blocks(draft, number, first, first + BLOCK_POINTERS) {
+        return log.has_leaf(number.value, leaf);
     }
-    log.has_leaf(number.value, leaf)
-}
-
-/// Looks at each block below a leaf of pointers, until one is stored.
-fn search_leaf<D: SectorDevice>(
-    log: &mut Log<D>,
-    draft: &Draft,
-    number: FileNumber,
-    leaf: u32,
-) -> Result<bool, LogFault>
-    requires leaf { leaf ≤ 128 }
-    ensures reads { Reads D.state log.old log.new }
-    ensures answer { IfOk result
-        (TellsLeaf D.state log.old log.new draft.now.changes number.value leaf) }
-    ensures failed { OnErr result (IsReadFault D.state log.old log.new) }
-    ensures halted { IsErrOf result LogFault.Halted → log.old.halted ≡ true }
-    ensures other { IsErrOf result LogFault.Full → ⊥ }
-{
-    let first = DIRECT + POINTERS * leaf;
-    for index in first..first + POINTERS {
-        match is_stored(log, draft, number, index) {
-            Ok(true) => return Ok(true),
-            Ok(false) => {}
-            Err(fault) => return Err(fault),
+    for index in first..first + BLOCK_POINTERS {
+        if is_stored(log, draft, number, index)? {
+            return Ok(true);
         }
     }
     Ok(false)
 }
 
 /// How many blocks of a file are stored at the indices from one on to another. Where they are more
-/// than one, and the draft changes none of them, they are counted by their blocks of pointers.
+/// than one, and the draft changes none of them, they are counted by their blocks of pointers; else
+/// it looks at each.
 fn count_stored<D: SectorDevice>(
     log: &mut Log<D>,
     draft: &Draft,
@@ -156,46 +116,17 @@ fn count_stored<D: SectorDevice>(
     to: u32,
 ) -> Result<u32, LogFault>
     requires order { from ≤ to }
-    ensures reads { Reads D.state log.old log.new }
+    ensures reads { ReadsLog D.state log.old log.new result }
     ensures few { IfOk result (λ count. count ≤ to - from) }
     ensures answer { IfOk result
         (CountsStored D.state log.old log.new draft.now.changes number.value from to) }
-    ensures failed { OnErr result (IsReadFault D.state log.old log.new) }
-    ensures halted { IsErrOf result LogFault.Halted → log.old.halted ≡ true }
-    ensures other { IsErrOf result LogFault.Full → ⊥ }
 {
-    if to - from < 2 {
-        return count_each(log, draft, number, from, to);
+    if to - from > 1 && !changes_blocks(draft, number, from, to) {
+        return log.count_blocks(number.value, from, to);
     }
-    if changes_blocks(draft, number, from, to) {
-        return count_each(log, draft, number, from, to);
-    }
-    log.count_blocks(number.value, from, to)
-}
-
-/// Looks at each block of a file from one index on to another, and counts those that are stored.
-fn count_each<D: SectorDevice>(
-    log: &mut Log<D>,
-    draft: &Draft,
-    number: FileNumber,
-    from: u32,
-    to: u32,
-) -> Result<u32, LogFault>
-    requires order { from ≤ to }
-    ensures reads { Reads D.state log.old log.new }
-    ensures few { IfOk result (λ count. count ≤ to - from) }
-    ensures answer { IfOk result
-        (CountsStored D.state log.old log.new draft.now.changes number.value from to) }
-    ensures failed { OnErr result (IsReadFault D.state log.old log.new) }
-    ensures halted { IsErrOf result LogFault.Halted → log.old.halted ≡ true }
-    ensures other { IsErrOf result LogFault.Full → ⊥ }
-{
     let mut count = 0;
     for index in from..to {
-        match is_stored(log, draft, number, index) {
-            Ok(found) => count += u32::from(found),
-            Err(fault) => return Err(fault),
-        }
+        count += u32::from(is_stored(log, draft, number, index)?);
     }
     Ok(count)
 }
@@ -209,66 +140,42 @@ fn count_leaves<D: SectorDevice>(
     to: u32,
 ) -> Result<u32, LogFault>
     requires order { from ≤ to }
-    requires low { to ≤ 129 }
-    ensures reads { Reads D.state log.old log.new }
+    requires low { to ≤ FILE_LEAVES }
+    ensures reads { ReadsLog D.state log.old log.new result }
     ensures few { IfOk result (λ count. count ≤ to - from) }
     ensures answer { IfOk result
         (CountsLeaves D.state log.old log.new draft.now.changes number.value from to) }
-    ensures failed { OnErr result (IsReadFault D.state log.old log.new) }
-    ensures halted { IsErrOf result LogFault.Halted → log.old.halted ≡ true }
-    ensures other { IsErrOf result LogFault.Full → ⊥ }
 {
     let mut count = 0;
     for leaf in from..to {
-        match has_leaf(log, draft, number, leaf) {
-            Ok(found) => count += u32::from(found),
-            Err(fault) => return Err(fault),
-        }
+        count += u32::from(has_leaf(log, draft, number, leaf)?);
     }
     Ok(count)
 }
 
 /// Whether the double root of pointers of a file of this size is stored, since a leaf below it is.
+/// Where the draft changes a block there, it looks at each leaf below, until one is stored.
 fn has_double<D: SectorDevice>(
     log: &mut Log<D>,
     draft: &Draft,
     number: FileNumber,
     size: u32,
 ) -> Result<bool, LogFault>
-    ensures reads { Reads D.state log.old log.new }
+    ensures reads { ReadsLog D.state log.old log.new result }
     ensures answer { IfOk result
         (TellsDouble D.state log.old log.new draft.now.changes number.value size) }
-    ensures failed { OnErr result (IsReadFault D.state log.old log.new) }
-    ensures halted { IsErrOf result LogFault.Halted → log.old.halted ≡ true }
-    ensures other { IsErrOf result LogFault.Full → ⊥ }
 {
-    if changes_blocks(draft, number, DIRECT + POINTERS, BLOCKS) {
-        return search_double(log, draft, number, size);
+    if !changes_blocks(draft, number, FIRST_DOUBLE, FILE_BLOCKS) {
+        return log.has_double(number.value);
     }
-    log.has_double(number.value)
-}
-
-/// Looks at each leaf of pointers below the double root of a file of this size, until one is stored.
-fn search_double<D: SectorDevice>(
-    log: &mut Log<D>,
-    draft: &Draft,
-    number: FileNumber,
-    size: u32,
-) -> Result<bool, LogFault>
-    ensures reads { Reads D.state log.old log.new }
-    ensures answer { IfOk result
-        (TellsDouble D.state log.old log.new draft.now.changes number.value size) }
-    ensures failed { OnErr result (IsReadFault D.state log.old log.new) }
-    ensures halted { IsErrOf result LogFault.Halted → log.old.halted ≡ true }
-    ensures other { IsErrOf result LogFault.Full → ⊥ }
-{
     let blocks = size.div_ceil(512);
-    let end = blocks.saturating_sub(DIRECT).div_ceil(POINTERS).min(LEAVES);
+    let leaves = blocks
+        .saturating_sub(DIRECT_BLOCKS)
+        .div_ceil(BLOCK_POINTERS);
+    let end = leaves.min(FILE_LEAVES);
     for leaf in 1..end.max(1) {
-        match has_leaf(log, draft, number, leaf) {
-            Ok(true) => return Ok(true),
-            Ok(false) => {}
-            Err(fault) => return Err(fault),
+        if has_leaf(log, draft, number, leaf)? {
+            return Ok(true);
         }
     }
     Ok(false)
@@ -277,14 +184,16 @@ fn search_double<D: SectorDevice>(
 /// The first of the leaves of pointers with a block at the indices from one on to another, before
 /// the end of a file of this size, and where they end.
 fn leaf_range(size: u32, from: u32, to: u32) -> (u32, u32)
-    requires { to ≤ 16624 }
+    requires { to ≤ FILE_BLOCKS }
     ensures range { IsLeafRange size from to result.0 result.1 }
     ensures order { result.0 ≤ result.1 }
-    ensures low { result.1 ≤ 129 }
+    ensures low { result.1 ≤ FILE_LEAVES }
 {
     let blocks = size.div_ceil(512).min(to);
-    let end = blocks.saturating_sub(DIRECT).div_ceil(POINTERS);
-    let first = (from.saturating_sub(DIRECT) / POINTERS).min(end);
+    let end = blocks
+        .saturating_sub(DIRECT_BLOCKS)
+        .div_ceil(BLOCK_POINTERS);
+    let first = (from.saturating_sub(DIRECT_BLOCKS) / BLOCK_POINTERS).min(end);
     (first, end)
 }
 
@@ -299,28 +208,20 @@ fn count_pointers<D: SectorDevice>(
     to: u32,
 ) -> Result<u32, LogFault>
     requires order { from ≤ to }
-    requires low { to ≤ 16624 }
-    ensures reads { Reads D.state log.old log.new }
-    ensures few { IfOk result (λ count. count ≤ 130) }
+    requires low { to ≤ FILE_BLOCKS }
+    ensures reads { ReadsLog D.state log.old log.new result }
+    ensures few { IfOk result (λ count. count ≤ FILE_LEAVES + 1) }
     ensures answer { IfOk result
         (CountsPointers D.state log.old log.new draft.now.changes number.value size from to) }
-    ensures failed { OnErr result (IsReadFault D.state log.old log.new) }
-    ensures halted { IsErrOf result LogFault.Halted → log.old.halted ≡ true }
-    ensures other { IsErrOf result LogFault.Full → ⊥ }
 {
     let (first, end) = leaf_range(size, from, to);
-    let leaves = match count_leaves(log, draft, number, first, end) {
-        Ok(count) => count,
-        Err(fault) => return Err(fault),
-    };
+    let leaves = count_leaves(log, draft, number, first, end)?;
     // A leaf behind the first is below the double root.
     if first > 0 && leaves > 0 {
         return Ok(leaves + 1);
     }
-    match has_double(log, draft, number, size) {
-        Ok(found) => Ok(leaves + u32::from(found)),
-        Err(fault) => Err(fault),
-    }
+    let found = has_double(log, draft, number, size)?;
+    Ok(leaves + u32::from(found))
 }
 
 /// Whether a block of a file is stored after a draft; `None` where the draft leaves it as it is.
@@ -339,12 +240,12 @@ fn stored_after(draft: &Draft, number: FileNumber, index: u32) -> Option<bool>
 /// Whether a draft stores a block below a leaf of pointers of a file: it looks at the last that it
 /// has there.
 fn stores_leaf(draft: &Draft, number: FileNumber, leaf: u32) -> bool
-    requires { leaf ≤ 128 }
+    requires { leaf ≤ LAST_LEAF }
     ensures { IsTrue result → StoresLeaf draft.now.changes number.value leaf }
 {
-    let first = DIRECT + POINTERS * leaf;
+    let first = DIRECT_BLOCKS + BLOCK_POINTERS * leaf;
     let edits = &draft.changes.blocks;
-    let Some(index) = index_between(edits, number.value, first, first + POINTERS) else {
+    let Some(index) = index_between(edits, number.value, first, first + BLOCK_POINTERS) else {
         return false;
     };
     match stored_after(draft, number, index) {

@@ -2,12 +2,13 @@
 ghost use Rattle.std.specs.Prelude.{◌≡◌, ◌≤◌, ◌<◌, ◌+◌, ◌++◌, ℕ, cond, is_ok, length, slice_index};
 ghost use Rattle.lfs_store.specs.Pieces.{BlockOverlays, CutsTail, part_of_block, place_in_block, PartBegins, PartGoesOn, PartEnds, PartRead, WriteBegins, WriteGoesOn, WriteHeads, WriteIsDone, CutBegins, CutHeads, CutBlocksHeads, CutBetween, CutInside, CutNone, CutIsDone};
 
+use lfs_model::limits::{LARGEST_FILE, LAST_BLOCK, SECTOR_LEN};
 use std::alloc::AllocError;
 
 /// Where a place of a file lies in its block at an index: 0 where it lies before, 512 where it lies
 /// behind.
 fn place_in_block(at: u32, index: u32) -> usize
-    requires { index ≤ 16623 }
+    requires { index ≤ LAST_BLOCK }
     ensures { result ≡ place_in_block at index }
 {
     at.saturating_sub(512 * index).min(512) as usize
@@ -15,8 +16,8 @@ fn place_in_block(at: u32, index: u32) -> usize
 
 /// Lays bytes that begin at a place of a file over its block at an index.
 pub fn overlay(block: &mut [u8; 512], index: u32, at: u32, bytes: &[u8])
-    requires low { index ≤ 16623 }
-    requires end { at + length bytes.now ≤ 8511488 }
+    requires low { index ≤ LAST_BLOCK }
+    requires end { at + length bytes.now ≤ LARGEST_FILE }
     ensures { BlockOverlays at bytes.now index block.old block.new }
 {
     let start = place_in_block(at, index);
@@ -30,7 +31,7 @@ pub fn overlay(block: &mut [u8; 512], index: u32, at: u32, bytes: &[u8])
 
 /// Makes the bytes of a block from a place on zeros.
 pub fn cut_tail(block: &mut [u8; 512], from: usize)
-    requires { from ≤ 512 }
+    requires { from ≤ SECTOR_LEN }
     ensures { CutsTail from block.old block.new }
 {
     block[from..512].fill(0);
@@ -44,7 +45,7 @@ pub fn append_part(
     from: u32,
     to: u32,
 ) -> Result<(), AllocError>
-    requires low { index ≤ 16623 }
+    requires low { index ≤ LAST_BLOCK }
     ensures { out.new.items ≡ cond (is_ok result)
         (out.old.items ++ part_of_block from to index block.now) out.old.items }
 {

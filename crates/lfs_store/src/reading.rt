@@ -2,6 +2,7 @@
 ghost use Rattle.std.specs.Prelude.{◌≡◌, ◌<◌, ◌≤◌, ◌+◌, ◌%◌, true, IfOk, IfErr, OnOk, OnErr, IsErrOf, IsFalse, length};
 ghost use Rattle.lfs_model.specs.Fields.{zeros};
 ghost use Rattle.lfs_cleaner.specs.log.Held.{Reads, IsReadFault};
+ghost use Rattle.lfs_store.specs.Keeping.{ReadsLog};
 ghost use Rattle.lfs_store.specs.Reading.{ReadsStore, ReadsBlock, ReadsPart, Appends};
 
 use crate::draft::Draft;
@@ -10,6 +11,7 @@ use lfs_cleaner::volume_log::{Log, LogFault};
 use lfs_device::SectorDevice;
 use lfs_files::StoreFault;
 use lfs_model::FileNumber;
+use lfs_model::limits::SECTOR_LEN;
 use std::alloc::Global;
 
 impl<D: SectorDevice> Store<D> {
@@ -52,13 +54,10 @@ pub fn read_block<D: SectorDevice>(
     index: u32,
     out: &mut [u8; 512],
 ) -> Result<bool, LogFault>
-    ensures reads { Reads D.state log.old log.new }
+    ensures reads { ReadsLog D.state log.old log.new result }
     ensures answer { IfOk result
         (ReadsBlock D.state log.old log.new draft.now.changes number.value index out.new) }
-    ensures zeros { IfOk result (λ found. IsFalse found → out.new ≡ zeros 512) }
-    ensures failed { OnErr result (IsReadFault D.state log.old log.new) }
-    ensures halted { IsErrOf result LogFault.Halted → log.old.halted ≡ true }
-    ensures other { IsErrOf result LogFault.Full → ⊥ }
+    ensures zeros { IfOk result (λ found. IsFalse found → out.new ≡ zeros SECTOR_LEN) }
 {
     match draft.block(number, index, out) {
         Some(stored) => Ok(stored),
@@ -91,10 +90,7 @@ fn read_part<D: SectorDevice>(
     let mut at = from;
     while at < to {
         let len = (to - at).min(512 - at % 512);
-        match append(log, draft, number, at, len, &mut bytes) {
-            Ok(()) => {}
-            Err(fault) => return Err(fault),
-        }
+        append(log, draft, number, at, len, &mut bytes)?;
         at += len;
     }
     Ok(bytes)
@@ -109,7 +105,7 @@ fn append<D: SectorDevice>(
     len: u32,
     bytes: &mut Vec<u8>,
 ) -> Result<(), StoreFault>
-    requires inside { at % 512 + len ≤ 512 }
+    requires inside { at % SECTOR_LEN + len ≤ SECTOR_LEN }
     ensures reads { Reads D.state log.old log.new }
     ensures done { OnOk result (Appends D.state log.old log.new
         draft.now.changes number.value at len bytes.old.items bytes.new.items) }

@@ -7,6 +7,7 @@ use crate::totals::Measure;
 use lfs_cleaner::volume_log::{BlockTotals, LogFault};
 use lfs_device::SectorDevice;
 use lfs_model::FileNumber;
+use lfs_model::limits::FILE_BLOCKS;
 
 /// A total with one share in place of another.
 fn replaced(total: u32, before: u32, after: u32) -> u32
@@ -28,7 +29,8 @@ pub fn recounted(totals: BlockTotals, before: Measure, after: Measure) -> BlockT
 }
 
 impl<D: SectorDevice> Store<D> {
-    ghost use Rattle.lfs_cleaner.specs.log.Held.{Reads, IsReadFault};
+    ghost use Rattle.lfs_cleaner.specs.log.Held.{IsReadFault};
+    ghost use Rattle.lfs_store.specs.Keeping.{OnlyCounts};
     ghost use Rattle.lfs_store.specs.Recounting.{Remeasures};
 
     /// The data blocks, inodes and blocks of pointers of all files, with the draft.
@@ -51,20 +53,15 @@ impl<D: SectorDevice> Store<D> {
         before: Measure,
     ) -> Result<(), LogFault>
         requires order { from ≤ to }
-        requires low { to ≤ 16624 }
-        ensures reads { Reads D.SectorDevice.state self.old.log self.new.log }
-        ensures draft { self.new.draft ≡ self.old.draft }
-        ensures saved { self.new.saved ≡ self.old.saved }
+        requires low { to ≤ FILE_BLOCKS }
+        ensures counts { OnlyCounts D.SectorDevice.state self.old self.new }
         ensures done { OnOk result (Remeasures D.SectorDevice.state self.old.log self.new.log
             self.old.draft.changes number.value from to before self.old.drafted self.new.drafted) }
         ensures failed { OnErr result (IsReadFault D.SectorDevice.state self.old.log self.new.log) }
         ensures halted { IsErrOf result LogFault.Halted → self.old.log.halted ≡ true }
         ensures other { IsErrOf result LogFault.Full → ⊥ }
     {
-        let after = match self.measure(number, from, to) {
-            Ok(measure) => measure,
-            Err(fault) => return Err(fault),
-        };
+        let after = self.measure(number, from, to)?;
         self.drafted = recounted(self.drafted, before, after);
         Ok(())
     }

@@ -1,6 +1,6 @@
 //! A file cut in its last block, into a draft that may hold other changes.
 ghost use Rattle.std.specs.Prelude.{◌≡◌, ◌<◌, ◌≤◌, ◌+◌, ◌*◌, ◌/◌, true, IfErr, OnOk, IsErrOf};
-ghost use Rattle.lfs_cleaner.specs.log.Held.{Reads, IsReadFault};
+ghost use Rattle.lfs_cleaner.specs.log.Held.{IsReadFault};
 
 use crate::pieces::cut_tail;
 use crate::store::Store;
@@ -8,8 +8,10 @@ use lfs_cleaner::volume_log::{Header, LogFault};
 use lfs_device::SectorDevice;
 use lfs_files::StoreFault;
 use lfs_model::FileNumber;
+use lfs_model::limits::{LARGEST_FILE, SECTOR_LEN};
 
 impl<D: SectorDevice> Store<D> {
+    ghost use Rattle.lfs_store.specs.Keeping.{RedraftsStore, RedraftsUncounted};
     ghost use Rattle.lfs_store.specs.Recounting.{Counts};
     ghost use Rattle.lfs_store.specs.Shrinking.{ClearsTail, Shrinks};
 
@@ -21,10 +23,9 @@ impl<D: SectorDevice> Store<D> {
     /// As those of `write_at`.
     pub fn shrink(&mut self, number: FileNumber, header: Header, len: u32) -> Result<(), StoreFault>
         requires less { len < header.size }
-        requires last { header.size ≤ 512 * (len / 512) + 512 }
-        requires most { header.size ≤ 8511488 }
-        ensures reads { Reads D.SectorDevice.state self.old.log self.new.log }
-        ensures saved { self.new.saved ≡ self.old.saved }
+        requires last { header.size ≤ SECTOR_LEN * (len / SECTOR_LEN) + SECTOR_LEN }
+        requires most { header.size ≤ LARGEST_FILE }
+        ensures redrafts { RedraftsStore D.SectorDevice.state self.old self.new }
         ensures done { OnOk result (Shrinks D.SectorDevice.state self.old.log self.new.log
             self.old.draft.changes self.new.draft.changes number.value header len) }
         ensures counted { OnOk result (Counts D.SectorDevice.state self.old.log self.new.log
@@ -40,10 +41,7 @@ impl<D: SectorDevice> Store<D> {
             Ok(measure) => measure,
             Err(fault) => return Err(StoreFault::Log(fault)),
         };
-        match self.draft_shrink(number, header, len) {
-            Ok(()) => {}
-            Err(fault) => return Err(fault),
-        }
+        self.draft_shrink(number, header, len)?;
         match self.recount(number, index, index + 1, before) {
             Ok(()) => Ok(()),
             Err(fault) => Err(StoreFault::Log(fault)),
@@ -58,11 +56,9 @@ impl<D: SectorDevice> Store<D> {
         len: u32,
     ) -> Result<(), StoreFault>
         requires less { len < header.size }
-        requires last { header.size ≤ 512 * (len / 512) + 512 }
-        requires most { header.size ≤ 8511488 }
-        ensures reads { Reads D.SectorDevice.state self.old.log self.new.log }
-        ensures saved { self.new.saved ≡ self.old.saved }
-        ensures drafted { self.new.drafted ≡ self.old.drafted }
+        requires last { header.size ≤ SECTOR_LEN * (len / SECTOR_LEN) + SECTOR_LEN }
+        requires most { header.size ≤ LARGEST_FILE }
+        ensures redrafts { RedraftsUncounted D.SectorDevice.state self.old self.new }
         ensures done { OnOk result (Shrinks D.SectorDevice.state self.old.log self.new.log
             self.old.draft.changes self.new.draft.changes number.value header len) }
         ensures failed { IfErr result (λ fault. (fault ≡ StoreFault.NoMemory → ⊥)
@@ -77,10 +73,8 @@ impl<D: SectorDevice> Store<D> {
 
     /// The block of a place of a file ends there.
     fn clear_tail(&mut self, number: FileNumber, len: u32) -> Result<(), StoreFault>
-        requires most { len < 8511488 }
-        ensures reads { Reads D.SectorDevice.state self.old.log self.new.log }
-        ensures saved { self.new.saved ≡ self.old.saved }
-        ensures drafted { self.new.drafted ≡ self.old.drafted }
+        requires most { len < LARGEST_FILE }
+        ensures redrafts { RedraftsUncounted D.SectorDevice.state self.old self.new }
         ensures done { OnOk result (ClearsTail D.SectorDevice.state self.old.log self.new.log
             self.old.draft.changes self.new.draft.changes number.value len) }
         ensures failed { IfErr result (λ fault. (fault ≡ StoreFault.NoMemory → ⊥)

@@ -7,6 +7,7 @@ use crate::reading::read_block;
 use lfs_cleaner::volume_log::{BlockTotals, Header, Log, LogFault};
 use lfs_device::SectorDevice;
 use lfs_model::FileNumber;
+use lfs_model::limits::SECTOR_LEN;
 
 /// A log, and the changes of the present call, which reads see.
 #[derive(Drop)]
@@ -56,7 +57,7 @@ impl<D: SectorDevice> Store<D> {
         ensures reads { ReadsStore D.SectorDevice.state self.old self.new }
         ensures answer { IfOk result (ReadsBlock D.SectorDevice.state self.old.log self.new.log
             self.old.draft.changes number.value index out.new) }
-        ensures zeros { IfOk result (λ found. IsFalse found → out.new ≡ zeros 512) }
+        ensures zeros { IfOk result (λ found. IsFalse found → out.new ≡ zeros SECTOR_LEN) }
         ensures failed { OnErr result (IsReadFault D.SectorDevice.state self.old.log self.new.log) }
         ensures halted { IsErrOf result LogFault.Halted → self.old.log.halted ≡ true }
         ensures other { IsErrOf result LogFault.Full → ⊥ }

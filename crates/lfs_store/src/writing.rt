@@ -1,17 +1,17 @@
 //! Bytes written to a file and cut off it, into the draft.
 ghost use Rattle.std.specs.Prelude.{◌≡◌, ◌<◌, ◌≤◌, ◌+◌, ◌*◌, ◌%◌, true, length, IfErr, OnOk, OnErr, IsErrOf, IsTrue};
 ghost use Rattle.lfs_cleaner.specs.log.memory.Batch.{IsNoChange, room_for};
-ghost use Rattle.lfs_cleaner.specs.log.Held.{Reads, IsReadFault};
+ghost use Rattle.lfs_cleaner.specs.log.Held.{IsReadFault};
 ghost use Rattle.lfs_store.specs.Drafting.{PutsHeader};
 ghost use Rattle.lfs_files.specs.Files.{asked_by_directory};
 ghost use Rattle.lfs_files.specs.Headers.{reformed};
 ghost use Rattle.lfs_model.specs.Tree.{slot_len};
-ghost use Rattle.lfs_store.specs.Growing.{IsLone, PlacesBlock};
+ghost use Rattle.lfs_store.specs.Keeping.{ReadsLog};
+ghost use Rattle.lfs_store.specs.Growing.{IsLone, PlacesBlock, asked_by_transfer};
 ghost use Rattle.lfs_store.specs.Pieces.{Covers};
 ghost use Rattle.lfs_store.specs.Writing.{ReadsBeneath};
 
 use crate::draft::Draft;
-use crate::measuring::BLOCKS;
 use crate::pieces::{cut_tail, overlay};
 use crate::reading::read_block;
 use crate::store::Store;
@@ -19,11 +19,14 @@ use lfs_cleaner::volume_log::{Cut, Header, Log, LogFault, Loss};
 use lfs_device::SectorDevice;
 use lfs_files::StoreFault;
 use lfs_model::FileNumber;
+use lfs_model::limits::{
+    FILE_BLOCKS, LARGEST_FILE, LAST_BLOCK, LONGEST_TRANSFER, MOST_ENTRIES, SECTOR_LEN,
+};
 
 /// Whether bytes that begin at a place of a file cover its block at an index whole.
 fn covers(at: u32, bytes: &[u8], index: u32) -> bool
-    requires low { index ≤ 16623 }
-    requires end { at + length bytes.now ≤ 8511488 }
+    requires low { index ≤ LAST_BLOCK }
+    requires end { at + length bytes.now ≤ LARGEST_FILE }
     ensures { IsTrue result → Covers at bytes.now index }
 {
     at <= 512 * index && 512 * index + 512 <= at + bytes.len() as u32
@@ -40,25 +43,21 @@ fn block_beneath<D: SectorDevice>(
     bytes: &[u8],
     out: &mut [u8; 512],
 ) -> Result<(), LogFault>
-    requires low { index ≤ 16623 }
-    requires end { at + length bytes.now ≤ 8511488 }
-    ensures reads { Reads D.state log.old log.new }
+    requires low { index ≤ LAST_BLOCK }
+    requires end { at + length bytes.now ≤ LARGEST_FILE }
+    ensures reads { ReadsLog D.state log.old log.new result }
     ensures done { OnOk result (ReadsBeneath D.state log.old log.new draft.now.changes number.value
         index at bytes.now out.new) }
-    ensures failed { OnErr result (IsReadFault D.state log.old log.new) }
-    ensures halted { IsErrOf result LogFault.Halted → log.old.halted ≡ true }
-    ensures other { IsErrOf result LogFault.Full → ⊥ }
 {
     if covers(at, bytes, index) {
         return Ok(());
     }
-    match read_block(log, draft, number, index, out) {
-        Ok(_) => Ok(()),
-        Err(fault) => Err(fault),
-    }
+    read_block(log, draft, number, index, out)?;
+    Ok(())
 }
 
 impl<D: SectorDevice> Store<D> {
+    ghost use Rattle.lfs_store.specs.Keeping.{DraftsUncounted, RedraftsStore, RedraftsUncounted};
     ghost use Rattle.lfs_store.specs.Recounting.{Counts};
     ghost use Rattle.lfs_store.specs.Writing.{Writes, WritesBlock, DraftsCut, CutsDraft, SetsLen, resized};
 
@@ -77,15 +76,14 @@ impl<D: SectorDevice> Store<D> {
         bytes: &[u8],
     ) -> Result<(), StoreFault>
         requires bytes { 0 < length bytes.now }
-        requires end { at + length bytes.now ≤ 8511488 }
-        ensures reads { Reads D.SectorDevice.state self.old.log self.new.log }
-        ensures saved { self.new.saved ≡ self.old.saved }
+        requires end { at + length bytes.now ≤ LARGEST_FILE }
+        ensures redrafts { RedraftsStore D.SectorDevice.state self.old self.new }
         ensures done { OnOk result (Writes D.SectorDevice.state self.old.log self.new.log
             self.old.draft.changes self.new.draft.changes number.value header at bytes.now) }
-        ensures room { OnOk result (IsNoChange self.old.draft.changes → length bytes.now ≤ 65536
-            → room_for self.new.draft.changes ≤ 144) }
+        ensures room { OnOk result (IsNoChange self.old.draft.changes → length bytes.now ≤ LONGEST_TRANSFER
+            → room_for self.new.draft.changes ≤ asked_by_transfer) }
         ensures asked { OnOk result (IsLone self.old.draft.changes
-            → length bytes.now ≤ 1024 * slot_len 1
+            → length bytes.now ≤ MOST_ENTRIES * slot_len 1
             → room_for self.new.draft.changes ≤ asked_by_directory) }
         ensures counted { OnOk result (Counts D.SectorDevice.state self.old.log self.new.log
             self.old.draft.changes self.new.draft.changes self.old.drafted self.new.drafted) }
@@ -101,10 +99,7 @@ impl<D: SectorDevice> Store<D> {
             Ok(measure) => measure,
             Err(fault) => return Err(StoreFault::Log(fault)),
         };
-        match self.draft_write(number, header, at, bytes) {
-            Ok(()) => {}
-            Err(fault) => return Err(fault),
-        }
+        self.draft_write(number, header, at, bytes)?;
         match self.recount(number, from, to, before) {
             Ok(()) => Ok(()),
             Err(fault) => Err(StoreFault::Log(fault)),
@@ -120,16 +115,14 @@ impl<D: SectorDevice> Store<D> {
         bytes: &[u8],
     ) -> Result<(), StoreFault>
         requires bytes { 0 < length bytes.now }
-        requires end { at + length bytes.now ≤ 8511488 }
-        ensures reads { Reads D.SectorDevice.state self.old.log self.new.log }
-        ensures saved { self.new.saved ≡ self.old.saved }
-        ensures drafted { self.new.drafted ≡ self.old.drafted }
+        requires end { at + length bytes.now ≤ LARGEST_FILE }
+        ensures redrafts { RedraftsUncounted D.SectorDevice.state self.old self.new }
         ensures done { OnOk result (Writes D.SectorDevice.state self.old.log self.new.log
             self.old.draft.changes self.new.draft.changes number.value header at bytes.now) }
-        ensures room { OnOk result (IsNoChange self.old.draft.changes → length bytes.now ≤ 65536
-            → room_for self.new.draft.changes ≤ 144) }
+        ensures room { OnOk result (IsNoChange self.old.draft.changes → length bytes.now ≤ LONGEST_TRANSFER
+            → room_for self.new.draft.changes ≤ asked_by_transfer) }
         ensures asked { OnOk result (IsLone self.old.draft.changes
-            → length bytes.now ≤ 1024 * slot_len 1
+            → length bytes.now ≤ MOST_ENTRIES * slot_len 1
             → room_for self.new.draft.changes ≤ asked_by_directory) }
         ensures failed { IfErr result (λ fault. (fault ≡ StoreFault.NoMemory → ⊥)
             → IsReadFault D.SectorDevice.state self.old.log self.new.log) }
@@ -152,11 +145,9 @@ impl<D: SectorDevice> Store<D> {
         at: u32,
         bytes: &[u8],
     ) -> Result<(), StoreFault>
-        requires low { index ≤ 16623 }
-        requires end { at + length bytes.now ≤ 8511488 }
-        ensures reads { Reads D.SectorDevice.state self.old.log self.new.log }
-        ensures saved { self.new.saved ≡ self.old.saved }
-        ensures drafted { self.new.drafted ≡ self.old.drafted }
+        requires low { index ≤ LAST_BLOCK }
+        requires end { at + length bytes.now ≤ LARGEST_FILE }
+        ensures redrafts { RedraftsUncounted D.SectorDevice.state self.old self.new }
         ensures done { OnOk result (WritesBlock D.SectorDevice.state self.old.log self.new.log
             self.old.draft.changes self.new.draft.changes number.value index at bytes.now) }
         ensures placed { OnOk result (PlacesBlock self.old.draft.changes self.new.draft.changes
@@ -198,10 +189,9 @@ impl<D: SectorDevice> Store<D> {
         header: Header,
         len: u32,
     ) -> Result<(), StoreFault>
-        requires most { len ≤ 8511488 }
+        requires most { len ≤ LARGEST_FILE }
         requires empty { IsNoChange self.old.draft.changes }
-        ensures reads { Reads D.SectorDevice.state self.old.log self.new.log }
-        ensures saved { self.new.saved ≡ self.old.saved }
+        ensures redrafts { RedraftsStore D.SectorDevice.state self.old self.new }
         ensures done { OnOk result (SetsLen D.SectorDevice.state self.old.log self.new.log
             self.new.draft.changes number.value header len) }
         ensures counted { OnOk result (Counts D.SectorDevice.state self.old.log self.new.log
@@ -212,15 +202,12 @@ impl<D: SectorDevice> Store<D> {
             → self.old.log.halted ≡ true }
         ensures other { IsErrOf result (StoreFault.Log LogFault.Full) → ⊥ }
     {
-        let before = match self.measure(number, len / 512, BLOCKS) {
+        let before = match self.measure(number, len / 512, FILE_BLOCKS) {
             Ok(measure) => measure,
             Err(fault) => return Err(StoreFault::Log(fault)),
         };
-        match self.draft_len(number, header, len) {
-            Ok(()) => {}
-            Err(fault) => return Err(fault),
-        }
-        match self.recount(number, len / 512, BLOCKS, before) {
+        self.draft_len(number, header, len)?;
+        match self.recount(number, len / 512, FILE_BLOCKS, before) {
             Ok(()) => Ok(()),
             Err(fault) => Err(StoreFault::Log(fault)),
         }
@@ -228,11 +215,9 @@ impl<D: SectorDevice> Store<D> {
 
     /// Cuts a file, or makes it longer, in the draft.
     fn draft_len(&mut self, number: FileNumber, header: Header, len: u32) -> Result<(), StoreFault>
-        requires most { len ≤ 8511488 }
+        requires most { len ≤ LARGEST_FILE }
         requires empty { IsNoChange self.old.draft.changes }
-        ensures reads { Reads D.SectorDevice.state self.old.log self.new.log }
-        ensures saved { self.new.saved ≡ self.old.saved }
-        ensures drafted { self.new.drafted ≡ self.old.drafted }
+        ensures redrafts { RedraftsUncounted D.SectorDevice.state self.old self.new }
         ensures done { OnOk result (SetsLen D.SectorDevice.state self.old.log self.new.log
             self.new.draft.changes number.value header len) }
         ensures failed { IfErr result (λ fault. (fault ≡ StoreFault.NoMemory → ⊥)
@@ -250,11 +235,9 @@ impl<D: SectorDevice> Store<D> {
 
     /// The blocks of a file end at a length.
     fn cut_blocks(&mut self, number: FileNumber, len: u32) -> Result<(), StoreFault>
-        requires most { len ≤ 8511488 }
+        requires most { len ≤ LARGEST_FILE }
         requires empty { IsNoChange self.old.draft.changes }
-        ensures reads { Reads D.SectorDevice.state self.old.log self.new.log }
-        ensures saved { self.new.saved ≡ self.old.saved }
-        ensures drafted { self.new.drafted ≡ self.old.drafted }
+        ensures redrafts { RedraftsUncounted D.SectorDevice.state self.old self.new }
         ensures done { OnOk result (CutsDraft D.SectorDevice.state self.old.log self.new.log
             self.new.draft.changes number.value len) }
         ensures failed { IfErr result (λ fault. (fault ≡ StoreFault.NoMemory → ⊥)
@@ -272,11 +255,9 @@ impl<D: SectorDevice> Store<D> {
 
     /// A file loses its blocks from a length on.
     fn lose_blocks(&mut self, number: FileNumber, len: u32)
-        requires most { len ≤ 8511488 }
+        requires most { len ≤ LARGEST_FILE }
         requires empty { IsNoChange self.old.draft.changes }
-        ensures log { self.new.log ≡ self.old.log }
-        ensures saved { self.new.saved ≡ self.old.saved }
-        ensures drafted { self.new.drafted ≡ self.old.drafted }
+        ensures keeps { DraftsUncounted self.old self.new }
         ensures draft { DraftsCut self.new.draft.changes number.value len }
     {
         self.draft.changes.loss = Loss::Blocks(Cut {
@@ -287,12 +268,10 @@ impl<D: SectorDevice> Store<D> {
 
     /// Cuts off the tail of the last block of a file that has lost those behind it.
     fn cut_last(&mut self, number: FileNumber, len: u32) -> Result<(), StoreFault>
-        requires most { len ≤ 8511488 }
-        requires inside { 0 < len % 512 }
+        requires most { len ≤ LARGEST_FILE }
+        requires inside { 0 < len % SECTOR_LEN }
         requires lost { DraftsCut self.old.draft.changes number.value len }
-        ensures reads { Reads D.SectorDevice.state self.old.log self.new.log }
-        ensures saved { self.new.saved ≡ self.old.saved }
-        ensures drafted { self.new.drafted ≡ self.old.drafted }
+        ensures redrafts { RedraftsUncounted D.SectorDevice.state self.old self.new }
         ensures done { OnOk result (CutsDraft D.SectorDevice.state self.old.log self.new.log
             self.new.draft.changes number.value len) }
         ensures failed { IfErr result (λ fault. (fault ≡ StoreFault.NoMemory → ⊥)
@@ -323,9 +302,7 @@ impl<D: SectorDevice> Store<D> {
         header: Header,
         size: u32,
     ) -> Result<(), StoreFault>
-        ensures log { self.new.log ≡ self.old.log }
-        ensures saved { self.new.saved ≡ self.old.saved }
-        ensures drafted { self.new.drafted ≡ self.old.drafted }
+        ensures keeps { DraftsUncounted self.old self.new }
         ensures done { OnOk result (PutsHeader self.old.draft.changes self.new.draft.changes
             number.value (resized header size)) }
         ensures failed { IfErr result (λ fault. fault ≡ StoreFault.NoMemory) }
@@ -345,9 +322,7 @@ impl<D: SectorDevice> Store<D> {
         form: u8,
         size: u32,
     ) -> Result<(), StoreFault>
-        ensures log { self.new.log ≡ self.old.log }
-        ensures saved { self.new.saved ≡ self.old.saved }
-        ensures drafted { self.new.drafted ≡ self.old.drafted }
+        ensures keeps { DraftsUncounted self.old self.new }
         ensures done { OnOk result (PutsHeader self.old.draft.changes self.new.draft.changes
             number.value (reformed header form size)) }
         ensures failed { IfErr result (λ fault. fault ≡ StoreFault.NoMemory) }

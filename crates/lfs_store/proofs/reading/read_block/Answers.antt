@@ -1,8 +1,19 @@
+use Rattle.lfs_store.proofs.Keepings.{looked_at, looked_done}
+use Rattle.lfs_store.proofs.LogReads.{reads_none}
 use Rattle.lfs_store.proofs.Readings.{log_block}
 use Rattle.lfs_store.proofs.reading.read_block.Goals as goal
 
+pub returns-in-Some-clause-reads : goal.returns-in-Some-clause-reads
+returns-in-Some-clause-reads g c =
+    looked_done g.D.SectorDevice.state c.args.log.now c.args.log.now _ (reads_none g.D.SectorDevice.state c.args.log.now)
+
 pub returns-in-Some-clause-answer : goal.returns-in-Some-clause-answer
 returns-in-Some-clause-answer g c k m0 m keeps is = c.in-Some.ensures.says m
+
+pub returns-in-None-clause-reads : goal.returns-in-None-clause-reads
+returns-in-None-clause-reads g c =
+    looked_at g.D.SectorDevice.state c.args.log.now c.block-in-None.new.self c.block-in-None.result c.block-in-None.ensures.reads
+    c.block-in-None.ensures.failed c.block-in-None.ensures.halted c.block-in-None.ensures.other
 
 pub returns-in-None-clause-answer : goal.returns-in-None-clause-answer
 returns-in-None-clause-answer g c =

@@ -1,4 +1,9 @@
+use Rattle.std.specs.Prelude.{Result, IfErr}
 use Rattle.std.proofs.Common.{◌+◌, ◌≡◌, ◌≤◌, ℕ, subst, arith}
+use Rattle.lfs_cleaner.specs.log.Held.{IsReadFault}
+use Rattle.lfs_files.specs.declared.fault.StoreFault.{StoreFault}
+use Rattle.lfs_files.specs.declared.fault.StoreFault.TheVariants.{NoMemory}
+use Rattle.lfs_store.proofs.Endings.{same_exit}
 use Rattle.lfs_store.proofs.ReadParts.{ReadUpTo, fault_then, read_more, reads_part}
 use Rattle.lfs_store.proofs.reading.read_part.Goals as goal
 
@@ -11,13 +16,16 @@ loop-at-preserved g c =
       within,
       read_more state c.args.log.now c.loop-at.log c.append.new.log c.args.draft.now.changes c.args.number.value c.args.from c.loop-at.at
           c.min-len.result c.loop-at.bytes.items c.append.new.bytes.items
-          (g.met.D.SectorDevice.lawful c.args.log.now.device) c.loop-at.invariant.1 c.append.ensures.reads c.in-Ok-append.ensures.done,
+          (g.met.D.SectorDevice.lawful c.args.log.now.device) c.loop-at.invariant.1 c.append.ensures.reads c.in_ok-append.ensures.done,
     )
 
-pub returns-in-Err-clause-failed : goal.returns-in-Err-clause-failed
-returns-in-Err-clause-failed g c other =
-    fault_then g.D.SectorDevice.state c.args.log.now c.loop-at.log c.append.new.log c.loop-at.invariant.1.reads
-    (c.in-Err.ensures.failed other)
+pub returns-in_err-append-clause-failed : goal.returns-in_err-append-clause-failed
+returns-in_err-append-clause-failed g c =
+    same_exit c.from_residual.result c.in_err-append.field-0.0
+    (λ (r : Result _ StoreFault). IfErr r (λ (fault : StoreFault). (fault ≡ NoMemory → ⊥)
+    → IsReadFault g.D.SectorDevice.state c.args.log.now c.append.new.log)) c.from_residual.ensures
+    (λ other. fault_then g.D.SectorDevice.state c.args.log.now c.loop-at.log c.append.new.log c.loop-at.invariant.1.reads
+    (c.in_err-append.ensures.failed other))
 
 pub returns-clause-answer : goal.returns-clause-answer
 returns-clause-answer g c =

@@ -7,15 +7,15 @@ use Rattle.lfs_store.proofs.files.StoreFiles.reform.Goals as goal
 
 pub returns-clause-redrafts : goal.returns-clause-redrafts
 returns-clause-redrafts g c =
-    let still = subst (λ (log : Held _). Reads g.D.SectorDevice.state c.args.self.now.log log) (sym c.reform.ensures.log)
+    let still = subst (λ (log : Held _). Reads g.D.SectorDevice.state c.args.self.now.log log) (sym c.reform.ensures.keeps.log)
     (reads_none g.D.SectorDevice.state c.args.self.now.log) in
     seen_redraft g.D.SectorDevice.state c.args.self.now.log c.reform.new.self.log c.args.self.now.draft c.reform.new.self.draft
     c.args.self.now.saved c.reform.new.self.saved c.args.self.now.drafted c.reform.new.self.drafted
-    still c.reform.ensures.saved
+    still c.reform.ensures.keeps.saved
 
 pub returns-clause-done : goal.returns-clause-done
 returns-clause-done g c =
-    let still = subst (λ (log : Held _). Reads g.D.SectorDevice.state c.args.self.now.log log) (sym c.reform.ensures.log)
+    let still = subst (λ (log : Held _). Reads g.D.SectorDevice.state c.args.self.now.log log) (sym c.reform.ensures.keeps.log)
     (reads_none g.D.SectorDevice.state c.args.self.now.log) in
     ok_then c.reform.result _ _
     (seen_reformed g.D.SectorDevice.state c.args.self.now.log c.reform.new.self.log c.args.self.now.draft c.reform.new.self.draft
@@ -27,5 +27,5 @@ returns-clause-counted g c =
     ok_then c.reform.result _ _
     (seen_counts_reformed g.D.SectorDevice.state c.args.self.now.log c.reform.new.self.log c.args.self.now.draft c.reform.new.self.draft
     c.args.self.now.saved c.reform.new.self.saved c.args.self.now.drafted c.reform.new.self.drafted
-    c.args.number.value c.args.header c.args.form c.args.size c.args.number.some c.args.number.few c.reform.ensures.drafted)
+    c.args.number.value c.args.header c.args.form c.args.size c.args.number.some c.args.number.few c.reform.ensures.keeps.drafted)
     c.reform.ensures.done

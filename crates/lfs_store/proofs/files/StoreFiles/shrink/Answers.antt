@@ -6,14 +6,14 @@ pub returns-clause-redrafts : goal.returns-clause-redrafts
 returns-clause-redrafts g c =
     seen_redraft g.D.SectorDevice.state c.args.self.now.log c.shrink.new.self.log c.args.self.now.draft c.shrink.new.self.draft
     c.args.self.now.saved c.shrink.new.self.saved c.args.self.now.drafted c.shrink.new.self.drafted
-    c.shrink.ensures.reads c.shrink.ensures.saved
+    c.shrink.ensures.redrafts.reads c.shrink.ensures.redrafts.saved
 
 pub returns-clause-done : goal.returns-clause-done
 returns-clause-done g c =
     ok_then c.shrink.result _ _
     (seen_shrunk g.D.SectorDevice.state c.args.self.now.log c.shrink.new.self.log c.args.self.now.draft c.shrink.new.self.draft
     c.args.self.now.saved c.shrink.new.self.saved c.args.self.now.drafted c.shrink.new.self.drafted
-    c.args.number.value c.args.header c.args.len c.shrink.ensures.reads) c.shrink.ensures.done
+    c.args.number.value c.args.header c.args.len c.shrink.ensures.redrafts.reads) c.shrink.ensures.done
 
 pub returns-clause-counted : goal.returns-clause-counted
 returns-clause-counted g c =

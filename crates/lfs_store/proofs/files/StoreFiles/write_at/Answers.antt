@@ -6,14 +6,14 @@ pub returns-clause-redrafts : goal.returns-clause-redrafts
 returns-clause-redrafts g c =
     seen_redraft g.D.SectorDevice.state c.args.self.now.log c.write_at.new.self.log c.args.self.now.draft c.write_at.new.self.draft
     c.args.self.now.saved c.write_at.new.self.saved c.args.self.now.drafted c.write_at.new.self.drafted
-    c.write_at.ensures.reads c.write_at.ensures.saved
+    c.write_at.ensures.redrafts.reads c.write_at.ensures.redrafts.saved
 
 pub returns-clause-done : goal.returns-clause-done
 returns-clause-done g c =
     ok_then c.write_at.result _ _
     (seen_written g.D.SectorDevice.state c.args.self.now.log c.write_at.new.self.log c.args.self.now.draft c.write_at.new.self.draft
     c.args.self.now.saved c.write_at.new.self.saved c.args.self.now.drafted c.write_at.new.self.drafted
-    c.args.number.value c.args.header c.args.at c.args.bytes.now c.write_at.ensures.reads) c.write_at.ensures.done
+    c.args.number.value c.args.header c.args.at c.args.bytes.now c.write_at.ensures.redrafts.reads) c.write_at.ensures.done
 
 pub returns-clause-counted : goal.returns-clause-counted
 returns-clause-counted g c =

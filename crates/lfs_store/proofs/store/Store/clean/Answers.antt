@@ -1,60 +1,39 @@
-use Rattle.std.proofs.Common.{rules, ◌≡◌, true, false, sym, ◌∙◌}
-use Rattle.lfs_store.proofs.Acceptings.{cannot_commit, clean_cannot, clean_halts, clean_room, fault_after, halts_first, room_none}
-use Rattle.lfs_store.proofs.Acceptings.{room_same}
+use Rattle.std.specs.Prelude.{Result}
+use Rattle.std.proofs.Common.{rules, ◌<◌, ◌*◌, length, sym, ◌∙◌, arith}
+use Rattle.lfs_cleaner.specs.log.segments.Table.{clean_in}
+use Rattle.lfs_cleaner.specs.log.Held.{Held}
+use Rattle.lfs_cleaner.specs.Room.{HasQuarter}
+use Rattle.lfs_files.specs.declared.fault.LogFault.{LogFault}
+use Rattle.lfs_store.specs.Outcomes.{Cleaned}
+use Rattle.lfs_cleaner.proofs.of_log.of_memory.Going.{ok_then}
+use Rattle.lfs_store.proofs.Endings.{cleaned_behind, cleaned_halted, cleaned_none, cleaned_uncommitted, same_exit}
 use Rattle.lfs_store.proofs.store.Store.clean.Goals as goal
 
-pub returns-then-has_quarter-clause-done : goal.returns-then-has_quarter-clause-done
-returns-then-has_quarter-clause-done g c =
-    let running : c.args.self.now.log.halted ≡ false = sym c.is_halted.ensures ∙ c.if-is_halted.false in
-    room_none g.D.SectorDevice.state c.args.self.now.log c.args.self.now.saved (g.met.D.SectorDevice.lawful c.args.self.now.log.device)
-    running
+due : {D : Type 0} (h : Held D) → 4 * clean_in h.memory.usage.segments < length h.memory.usage.segments → HasQuarter h → ⊥
+due h few quarter = omega (arith, few, quarter)
 
-pub returns-in-Err-clause-full : goal.returns-in-Err-clause-full
-returns-in-Err-clause-full g c is =
-    let running : c.args.self.now.log.halted ≡ false = sym c.is_halted.ensures ∙ c.if-is_halted.false in
-    room_same g.D.SectorDevice.state c.args.self.now.log c.commit.new.self.log c.args.self.now.saved c.commit.new.self.saved
-    (g.met.D.SectorDevice.lawful c.args.self.now.log.device) running (c.in-Err.ensures.full (search rules)).0 c.in-Err.ensures.same
+pub returns-then-is_halted-clause-cleans : goal.returns-then-is_halted-clause-cleans
+returns-then-is_halted-clause-cleans g c =
+    cleaned_halted g.D.SectorDevice.state c.args.self.now (sym c.is_halted.ensures ∙ c.if-is_halted.true)
 
-pub returns-in-Err-clause-never : goal.returns-in-Err-clause-never
-returns-in-Err-clause-never g c is =
-    cannot_commit g.D.SectorDevice.state c.args.self.now.log c.commit.new.self.log c.args.self.now.saved (g.met.D.SectorDevice.lawful
-    c.args.self.now.log.device) (c.in-Err.ensures.unsaved (search rules)) (c.in-Err.ensures.full (search rules)).1
+pub returns-then-has_quarter-clause-cleans : goal.returns-then-has_quarter-clause-cleans
+returns-then-has_quarter-clause-cleans g c =
+    cleaned_none g.D.SectorDevice.state c.args.self.now (g.met.D.SectorDevice.lawful c.args.self.now.log.device)
+    (sym c.is_halted.ensures ∙ c.if-is_halted.false)
 
-pub returns-in-Err-clause-halted : goal.returns-in-Err-clause-halted
-returns-in-Err-clause-halted g c is ne =
-    halts_first g.D.SectorDevice.state c.args.self.now.log c.commit.new.self.log c.args.self.now.saved
-    (c.in-Err.ensures.halted (search rules) ne)
+pub returns-in_err-commit-clause-cleans : goal.returns-in_err-commit-clause-cleans
+returns-in_err-commit-clause-cleans g c =
+    same_exit c.from_residual.result c.in_err-commit.field-0.0
+    (λ (r : Result Unit LogFault). Cleaned g.D.SectorDevice.state c.args.self.now c.commit.new.self r) c.from_residual.ensures
+    (cleaned_uncommitted g.D.SectorDevice.state c.args.self.now c.commit.new.self (sym c.is_halted.ensures ∙ c.if-is_halted.false)
+    (due c.args.self.now.log (c.has_quarter.ensures.no (search rules))) c.in_err-commit.field-0.0
+    (g.met.D.SectorDevice.lawful c.args.self.now.log.device)
+    c.in_err-commit.ensures)
 
-pub returns-in-Ok-make_room-clause-done : goal.returns-in-Ok-make_room-clause-done
-returns-in-Ok-make_room-clause-done g c =
-    clean_room g.D.SectorDevice.state c.args.self.now.log c.commit.new.self.log c.make_room.new.log c.args.self.now.saved
-    c.commit.new.self.saved c.in-Ok.ensures.saved c.in-Ok.ensures.ready c.in-Ok-make_room.ensures.done.0.keeps
-
-pub returns-in-Err-make_room-clause-full : goal.returns-in-Err-make_room-clause-full
-returns-in-Err-make_room-clause-full g c is =
-    clean_room g.D.SectorDevice.state c.args.self.now.log c.commit.new.self.log c.make_room.new.log c.args.self.now.saved
-    c.commit.new.self.saved c.in-Ok.ensures.saved c.in-Ok.ensures.ready (c.in-Err-make_room.ensures.full (search rules))
-
-pub returns-in-Err-make_room-clause-never : goal.returns-in-Err-make_room-clause-never
-returns-in-Err-make_room-clause-never g c is =
-    clean_cannot g.D.SectorDevice.state c.args.self.now.log c.commit.new.self.log c.make_room.new.log c.args.self.now.saved
-    c.commit.new.self.saved c.in-Ok.ensures.saved c.in-Ok.ensures.ready (c.in-Err-make_room.ensures.full (search rules)).carries
-    (c.in-Err-make_room.ensures.lacks (search rules))
-
-pub returns-in-Err-make_room-clause-kept : goal.returns-in-Err-make_room-clause-kept
-returns-in-Err-make_room-clause-kept g c is =
-    clean_room g.D.SectorDevice.state c.args.self.now.log c.commit.new.self.log c.make_room.new.log c.args.self.now.saved
-    c.commit.new.self.saved c.in-Ok.ensures.saved c.in-Ok.ensures.ready (c.in-Err-make_room.ensures.kept (search rules))
-
-pub returns-in-Err-make_room-clause-failed : goal.returns-in-Err-make_room-clause-failed
-returns-in-Err-make_room-clause-failed g c is =
-    fault_after g.D.SectorDevice.state c.args.self.now.log c.commit.new.self.log c.make_room.new.log c.args.self.now.saved
-    c.commit.new.self.saved c.in-Ok.ensures.ready (c.in-Err-make_room.ensures.kept (search rules)).carries
-    (c.in-Err-make_room.ensures.failed (search rules))
-
-pub returns-in-Err-make_room-clause-halted : goal.returns-in-Err-make_room-clause-halted
-returns-in-Err-make_room-clause-halted g c is ne =
-    let running : c.commit.new.self.log.halted ≡ false = c.in-Ok.ensures.ready.room.keeps.running in
-    clean_halts g.D.SectorDevice.state c.args.self.now.log c.commit.new.self.log c.make_room.new.log c.args.self.now.saved
-    c.commit.new.self.saved c.in-Ok.ensures.saved c.in-Ok.ensures.ready
-    (c.in-Err-make_room.ensures.halted (search rules) (λ (t : c.commit.new.self.log.halted ≡ true). absurd (cc)))
+pub returns-clause-cleans : goal.returns-clause-cleans
+returns-clause-cleans g c =
+    cleaned_behind g.D.SectorDevice.state c.args.self.now c.commit.new.self (sym c.is_halted.ensures ∙ c.if-is_halted.false)
+    (due c.args.self.now.log (c.has_quarter.ensures.no (search rules))) c.make_room.new.log c.make_room.result c.in_ok-commit.ensures
+    c.make_room.ensures.totals
+    (ok_then c.make_room.result _ _ (λ cleans. cleans.0.keeps) c.make_room.ensures.done)
+    c.make_room.ensures.full c.make_room.ensures.lacks c.make_room.ensures.kept c.make_room.ensures.failed c.make_room.ensures.halted

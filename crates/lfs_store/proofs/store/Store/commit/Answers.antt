@@ -1,26 +1,64 @@
-use Rattle.std.proofs.Common.{Bool, true, sym, ◌∙◌, subst}
+use Rattle.std.specs.Prelude.{Result}
+use Rattle.std.proofs.Common.{◌≡◌, Bool, true, false, refl, sym, ◌∙◌, subst}
+use Rattle.lfs_files.specs.declared.fault.LogFault.{LogFault}
 use Rattle.lfs_store.specs.Accepting.{Commits, Readies}
-use Rattle.lfs_store.proofs.Acceptings.{commits_none, commits_log, readies_none, readies_saves}
+use Rattle.lfs_store.specs.Outcomes.{Committed}
+use Rattle.lfs_store.proofs.Acceptings.{commits_log, readies_saves}
+use Rattle.lfs_store.proofs.Endings.{committed_halted, committed_saved, same_exit}
 use Rattle.lfs_store.proofs.store.Store.commit.Goals as goal
 
-pub returns-then-self-clause-done : goal.returns-then-self-clause-done
-returns-then-self-clause-done g c =
-    subst (λ (saved : Bool). Commits g.D.SectorDevice.state c.args.self.now.log saved c.args.self.now.log) (sym c.if-self.true)
-    (commits_none g.D.SectorDevice.state c.args.self.now.log (g.met.D.SectorDevice.lawful c.args.self.now.log.device)
-    (sym c.is_halted.ensures ∙ c.if-is_halted.false))
+pub returns-then-is_halted : goal.returns-then-is_halted
+returns-then-is_halted g c = committed_halted g.D.SectorDevice.state c.args.self.now (sym c.is_halted.ensures ∙ c.if-is_halted.true)
 
-pub returns-then-self-clause-ready : goal.returns-then-self-clause-ready
-returns-then-self-clause-ready g c =
-    readies_none g.D.SectorDevice.state c.args.self.now.log c.args.self.now.saved (g.met.D.SectorDevice.lawful c.args.self.now.log.device)
-    (sym c.is_halted.ensures ∙ c.if-is_halted.false)
+pub returns-then-self : goal.returns-then-self
+returns-then-self g c =
+    committed_saved g.D.SectorDevice.state c.args.self.now (g.met.D.SectorDevice.lawful c.args.self.now.log.device)
+    (sym c.is_halted.ensures ∙ c.if-is_halted.false) c.if-self.true
 
-pub returns-clause-done : goal.returns-clause-done
-returns-clause-done g c =
-    subst (λ (saved : Bool). Commits g.D.SectorDevice.state c.args.self.now.log saved c.commit.new.self) (sym c.if-self.false)
-    (commits_log g.D.SectorDevice.state c.args.self.now.log c.commit.new.self
-    (sym c.is_halted.ensures ∙ c.if-is_halted.false) c.in_ok-commit.ensures.done)
+pub returns-in_err-commit : goal.returns-in_err-commit
+returns-in_err-commit g c =
+    let running : c.args.self.now.log.halted ≡ false = sym c.is_halted.ensures ∙ c.if-is_halted.false in
+    let unsaved = c.if-self.false in
+    same_exit c.from_residual.result c.in_err-commit.field-0.0
+    (λ (r : Result Unit LogFault). Committed g.D.SectorDevice.state c.args.self.now (record c.args.self.now { log = c.commit.new.self }) r)
+    c.from_residual.ensures (record {
+      keeps = record { draft = refl; totals = c.in_err-commit.ensures.totals; drafted = refl };
+      done = tt;
+      ready = tt;
+      saved = tt;
+      saves = tt;
+      same = refl;
+      full = c.in_err-commit.ensures.full;
+      unsaved = λ e. unsaved;
+      other = c.in_err-commit.ensures.other;
+      halted = c.in_err-commit.ensures.halted;
+      still = λ t. absurd (cc);
+      quiet = λ all. absurd (cc);
+      told = c.in_err-commit.ensures.told;
+      tells = c.in_err-commit.ensures.tells;
+    })
 
-pub returns-clause-ready : goal.returns-clause-ready
-returns-clause-ready g c =
-    subst (λ (saved : Bool). Readies g.D.SectorDevice.state c.args.self.now.log saved c.commit.new.self true) (sym c.if-self.false)
-    (readies_saves g.D.SectorDevice.state c.args.self.now.log c.commit.new.self c.in_ok-commit.ensures.done c.in_ok-commit.ensures.totals)
+pub returns : goal.returns
+returns g c =
+    let running : c.args.self.now.log.halted ≡ false = sym c.is_halted.ensures ∙ c.if-is_halted.false in
+    let unsaved = c.if-self.false in
+    record {
+      keeps = record { draft = refl; totals = c.in_ok-commit.ensures.totals; drafted = refl };
+      done = subst (λ (saved : Bool). Commits g.D.SectorDevice.state c.args.self.now.log saved c.commit.new.self) (sym c.if-self.false)
+          (commits_log g.D.SectorDevice.state c.args.self.now.log c.commit.new.self running c.in_ok-commit.ensures.done);
+      ready =
+          subst (λ (saved : Bool). Readies g.D.SectorDevice.state c.args.self.now.log saved c.commit.new.self true) (sym c.if-self.false)
+          (readies_saves g.D.SectorDevice.state c.args.self.now.log c.commit.new.self c.in_ok-commit.ensures.done
+          c.in_ok-commit.ensures.totals);
+      saved = refl;
+      saves = λ was. c.in_ok-commit.ensures.done;
+      same = tt;
+      full = λ e. absurd (cc);
+      unsaved = λ e. absurd (cc);
+      other = λ e. absurd (cc);
+      halted = λ e. absurd (cc);
+      still = λ t. absurd (cc);
+      quiet = λ all. absurd (cc);
+      told = c.in_ok-commit.ensures.told;
+      tells = c.in_ok-commit.ensures.tells;
+    }

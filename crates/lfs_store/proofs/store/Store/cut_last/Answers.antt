@@ -20,3 +20,18 @@ returns-clause-done g c =
     c.in-Ok.ensures.zeros c.in-Ok.ensures.answer c.cut_tail.ensures
     (subst (λ (d : Draft). PutsBlock d.changes c.put_block.new.self.changes c.args.number.value (c.args.len / 512) c.cut_tail.new.block)
     c.block.ensures.reads.draft c.in-Ok-put_block.ensures.done)
+
+pub returns-in-Err-clause-redrafts : goal.returns-in-Err-clause-redrafts
+returns-in-Err-clause-redrafts g c =
+    let reads = c.block.ensures.reads in
+    record { reads = reads.log; saved = reads.saved; drafted = reads.drafted }
+
+pub returns-then-not-stored-clause-redrafts : goal.returns-then-not-stored-clause-redrafts
+returns-then-not-stored-clause-redrafts g c =
+    let reads = c.block.ensures.reads in
+    record { reads = reads.log; saved = reads.saved; drafted = reads.drafted }
+
+pub returns-clause-redrafts : goal.returns-clause-redrafts
+returns-clause-redrafts g c =
+    let reads = c.block.ensures.reads in
+    record { reads = reads.log; saved = reads.saved; drafted = reads.drafted }

@@ -9,6 +9,7 @@ use Rattle.std.specs.Int.{div_ceil}
 use Rattle.lfs_store.specs.Growing.{IsRun}
 use Rattle.lfs_store.specs.Writing.{Writes, resized}
 use Rattle.lfs_store.proofs.LogReads.{reads_none, fault_more}
+use Rattle.lfs_store.proofs.Keepings.{uncounted_drafts, uncounted_none, uncounted_then}
 use Rattle.lfs_store.proofs.Writings.{written_none, written_more, written}
 use Rattle.lfs_store.proofs.Runs.{blocks_few, blocks_most, lone_room, run_goes_on, written_room}
 use Rattle.lfs_store.proofs.store.Store.draft_write.Goals as goal
@@ -17,8 +18,7 @@ pub loop-index-init : goal.loop-index-init
 loop-index-init g c = (
   written_none g.D.SectorDevice.state c.args.self.now.log c.args.self.now.draft.changes c.args.number.value c.args.at c.args.bytes.now
       (reads_none g.D.SectorDevice.state c.args.self.now.log),
-  refl,
-  refl,
+  uncounted_none g.D.SectorDevice.state c.args.self.now,
   λ none. subst (IsRun c.args.number.value (c.args.at / 512) (c.args.at / 512)) (sym none) refl,
 )
 
@@ -38,18 +38,18 @@ loop-index-preserved g c = (
   written_more g.D.SectorDevice.state c.args.self.now.log c.loop-index.self.log c.write_block.new.self.log c.args.self.now.draft.changes
       c.loop-index.self.draft.changes c.write_block.new.self.draft.changes
       c.args.number.value c.args.at c.args.bytes.now c.loop-index.index (g.met.D.SectorDevice.lawful c.args.self.now.log.device)
-      (search rules) c.loop-index.invariant.0 c.write_block.ensures.reads c.in_ok-write_block.ensures.done,
-  c.write_block.ensures.saved ∙ c.loop-index.invariant.1,
-  c.write_block.ensures.drafted ∙ c.loop-index.invariant.2,
+      (search rules) c.loop-index.invariant.0 c.write_block.ensures.redrafts.reads c.in_ok-write_block.ensures.done,
+  uncounted_then g.D.SectorDevice.state c.args.self.now c.loop-index.self c.write_block.new.self
+      (g.met.D.SectorDevice.lawful c.args.self.now.log.device) c.loop-index.invariant.1 c.write_block.ensures.redrafts,
   λ none. run_goes_on c.loop-index.self.draft.changes c.write_block.new.self.draft.changes c.args.number.value
-      (c.args.at / 512) c.loop-index.index (c.loop-index.invariant.3 none) c.in_ok-write_block.ensures.placed,
+      (c.args.at / 512) c.loop-index.index (c.loop-index.invariant.2 none) c.in_ok-write_block.ensures.placed,
 )
 
 pub returns-clause-done : goal.returns-clause-done
 returns-clause-done g c =
     ok_then c.resize.result _ _
     (λ puts. subst (λ (log : Held _). Writes g.D.SectorDevice.state c.args.self.now.log log c.args.self.now.draft.changes
-    c.resize.new.self.draft.changes c.args.number.value c.args.header c.args.at c.args.bytes.now) (sym c.resize.ensures.log)
+    c.resize.new.self.draft.changes c.args.number.value c.args.header c.args.at c.args.bytes.now) (sym c.resize.ensures.keeps.log)
     (written g.D.SectorDevice.state c.args.self.now.log c.loop-index.self.log c.args.self.now.draft.changes c.loop-index.self.draft.changes
     c.resize.new.self.draft.changes
     c.args.number.value c.args.header c.args.at c.args.bytes.now c.loop-index.index c.requires.bytes (search rules)
@@ -57,17 +57,15 @@ returns-clause-done g c =
     (subst (λ (size : ℕ). PutsHeader c.loop-index.self.draft.changes c.resize.new.self.draft.changes c.args.number.value
     (resized c.args.header size)) (search rules) puts))) c.resize.ensures.done
 
-pub returns-in_err-write_block-clause-saved : goal.returns-in_err-write_block-clause-saved
-returns-in_err-write_block-clause-saved g c = c.write_block.ensures.saved ∙ c.loop-index.invariant.1
+pub returns-in_err-write_block-clause-redrafts : goal.returns-in_err-write_block-clause-redrafts
+returns-in_err-write_block-clause-redrafts g c =
+    uncounted_then g.D.SectorDevice.state c.args.self.now c.loop-index.self c.write_block.new.self
+    (g.met.D.SectorDevice.lawful c.args.self.now.log.device) c.loop-index.invariant.1 c.write_block.ensures.redrafts
 
-pub returns-clause-saved : goal.returns-clause-saved
-returns-clause-saved g c = c.resize.ensures.saved ∙ c.loop-index.invariant.1
-
-pub returns-in_err-write_block-clause-drafted : goal.returns-in_err-write_block-clause-drafted
-returns-in_err-write_block-clause-drafted g c = c.write_block.ensures.drafted ∙ c.loop-index.invariant.2
-
-pub returns-clause-drafted : goal.returns-clause-drafted
-returns-clause-drafted g c = c.resize.ensures.drafted ∙ c.loop-index.invariant.2
+pub returns-clause-redrafts : goal.returns-clause-redrafts
+returns-clause-redrafts g c =
+    uncounted_drafts g.D.SectorDevice.state c.args.self.now c.loop-index.self c.resize.new.self c.loop-index.invariant.1
+    c.resize.ensures.keeps
 
 pub returns-clause-room : goal.returns-clause-room
 returns-clause-room g c =
@@ -75,7 +73,7 @@ returns-clause-room g c =
     ok_then c.resize.result _ _
     (λ puts none few. written_room c.args.self.now.draft.changes c.loop-index.self.draft.changes c.resize.new.self.draft.changes
     c.args.number.value (c.args.at / 512) c.loop-index.index _ none
-    c.loop-index.invariant.0.headers (c.loop-index.invariant.3 none.blocks)
+    c.loop-index.invariant.0.headers (c.loop-index.invariant.2 none.blocks)
     (subst (λ (i : ℕ). i ≤ c.args.at / 512 + 129) (sym end) (blocks_few c.args.at (length c.args.bytes.now) few)) puts)
     c.resize.ensures.done
 
@@ -85,6 +83,6 @@ returns-clause-asked g c =
     ok_then c.resize.result _ _
     (λ puts lone few. lone_room c.args.self.now.draft.changes c.loop-index.self.draft.changes c.resize.new.self.draft.changes
     c.args.number.value (c.args.at / 512) c.loop-index.index _ lone
-    c.loop-index.invariant.0.headers (c.loop-index.invariant.3 lone.blocks)
+    c.loop-index.invariant.0.headers (c.loop-index.invariant.2 lone.blocks)
     (subst (λ (i : ℕ). i ≤ c.args.at / 512 + 257) (sym end) (blocks_most c.args.at (length c.args.bytes.now) few)) puts)
     c.resize.ensures.done

@@ -1,44 +1,53 @@
+use Rattle.std.specs.Prelude.{Result}
 use Rattle.std.proofs.Common.{rules, ◌≡◌, ◌≤◌, ◌+◌, true, false, length, sym, ◌∙◌, subst, arith}
-use Rattle.lfs_model.specs.Device.{Carries}
-use Rattle.lfs_model.proofs.Moments.{carries_none}
+use Rattle.lfs_files.specs.declared.fault.LogFault.{LogFault}
 use Rattle.lfs_cleaner.specs.log.Held.{Held, IsFull}
 use Rattle.lfs_cleaner.specs.log.memory.Batch.{room_for}
+use Rattle.lfs_cleaner.proofs.of_log.of_memory.Going.{ok_then}
 use Rattle.lfs_store.specs.declared.draft.Draft.{Draft}
-use Rattle.lfs_store.specs.Accepting.{MakesRoom}
-use Rattle.lfs_store.proofs.Acceptings.{cannot_after, cannot_commit, halts_after, halts_first, readies_none, room_same, room_then}
+use Rattle.lfs_store.specs.Outcomes.{RoomMade}
+use Rattle.lfs_store.proofs.Acceptings.{halts_first, readies_none}
 use Rattle.lfs_store.proofs.EarlyRoom.{clean_early, clean_saved, once_early, once_saved, readies_then, told_early, told_saved}
+use Rattle.lfs_store.proofs.Endings.{made_committed, made_none, made_ready, made_then, same_exit}
 use Rattle.lfs_store.proofs.store.Store.find_room.Goals as goal
 
-pub returns-then-has_room-clause-done : goal.returns-then-has_room-clause-done
-returns-then-has_room-clause-done g c =
+pub returns-then-has_room-clause-makes : goal.returns-then-has_room-clause-makes
+returns-then-has_room-clause-makes g c =
+    made_none g.D.SectorDevice.state c.args.self.now (g.met.D.SectorDevice.lawful c.args.self.now.log.device) c.requires
+
+pub returns-then-has_room-clause-ready : goal.returns-then-has_room-clause-ready
+returns-then-has_room-clause-ready g c =
     readies_none g.D.SectorDevice.state c.args.self.now.log c.args.self.now.saved (g.met.D.SectorDevice.lawful c.args.self.now.log.device)
     c.requires
 
-pub returns-in-Err-clause-halted : goal.returns-in-Err-clause-halted
-returns-in-Err-clause-halted g c is =
-    halts_first g.D.SectorDevice.state c.args.self.now.log c.write_early.new.self.log c.args.self.now.saved
-    (c.in-Err.ensures.halted (search rules))
+pub returns-in_err-write_early-clause-makes : goal.returns-in_err-write_early-clause-makes
+returns-in_err-write_early-clause-makes g c =
+    same_exit c.from_residual.result c.in_err-write_early.field-0.0
+    (λ (r : Result Unit LogFault). RoomMade g.D.SectorDevice.state c.args.self.now c.write_early.new.self r) c.from_residual.ensures
+    (record {
+      keeps = c.write_early.ensures.keeps;
+      done = tt;
+      full = λ e. absurd (c.in_err-write_early.ensures.full e);
+      never = λ e. absurd (c.in_err-write_early.ensures.full e);
+      kept = λ e. absurd (c.in_err-write_early.ensures.other e);
+      failed = λ e. absurd (c.in_err-write_early.ensures.other e);
+      halted = λ e ne. halts_first g.D.SectorDevice.state c.args.self.now.log c.write_early.new.self.log c.args.self.now.saved
+          (c.in_err-write_early.ensures.halted e);
+    })
 
-pub returns-in-Ok-commit-clause-done : goal.returns-in-Ok-commit-clause-done
-returns-in-Ok-commit-clause-done g c =
-    readies_then g.D.SectorDevice.state c.args.self.now.log c.write_early.new.self.log c.commit.new.self.log c.args.self.now.saved
-    c.write_early.new.self.saved c.commit.new.self.saved c.in-Ok.ensures.done c.in-Ok-commit.ensures.ready
+pub returns-then-has_room-2-clause-makes : goal.returns-then-has_room-2-clause-makes
+returns-then-has_room-2-clause-makes g c =
+    made_ready g.D.SectorDevice.state c.args.self.now c.write_early.new.self c.write_early.ensures.keeps c.in_ok-write_early.ensures.done
 
-pub returns-in-Err-commit-clause-never : goal.returns-in-Err-commit-clause-never
-returns-in-Err-commit-clause-never g c is =
-    let full = c.in-Err-commit.ensures.full (search rules) in
-    let early = c.write_early.new.self.log in
-    cannot_after g.D.SectorDevice.state c.args.self.now.log early c.commit.new.self.log c.args.self.now.saved c.write_early.new.self.saved
-    c.in-Ok.ensures.done
-    (subst (λ (h : Held g.row.D.Denot). Carries (g.D.SectorDevice.state early.device) (g.D.SectorDevice.state h.device)) (sym full.0)
-    (carries_none (g.D.SectorDevice.state early.device)))
-    (cannot_commit g.D.SectorDevice.state early c.commit.new.self.log c.write_early.new.self.saved
-    (g.met.D.SectorDevice.lawful early.device) (c.in-Err-commit.ensures.unsaved (search rules)) full.1)
+pub returns-clause-makes : goal.returns-clause-makes
+returns-clause-makes g c =
+    made_then g.D.SectorDevice.state c.args.self.now c.write_early.new.self c.commit.new.self c.commit.result
+    c.write_early.ensures.keeps c.in_ok-write_early.ensures.done
+    (made_committed g.D.SectorDevice.state c.write_early.new.self c.commit.new.self c.commit.result
+    (g.met.D.SectorDevice.lawful c.write_early.new.self.log.device) c.in_ok-write_early.ensures.early.running c.commit.ensures)
 
-pub returns-in-Err-commit-clause-halted : goal.returns-in-Err-commit-clause-halted
-returns-in-Err-commit-clause-halted g c is =
-    let running : c.write_early.new.self.log.halted ≡ false = c.in-Ok.ensures.early.running in
-    halts_after g.D.SectorDevice.state c.args.self.now.log c.write_early.new.self.log c.commit.new.self.log c.args.self.now.saved
-    c.write_early.new.self.saved c.in-Ok.ensures.done
-    (halts_first g.D.SectorDevice.state c.write_early.new.self.log c.commit.new.self.log c.write_early.new.self.saved
-    (c.in-Err-commit.ensures.halted (search rules) (λ (t : c.write_early.new.self.log.halted ≡ true). absurd (cc))))
+pub returns-clause-ready : goal.returns-clause-ready
+returns-clause-ready g c =
+    ok_then c.commit.result _ _
+    (λ ready. readies_then g.D.SectorDevice.state c.args.self.now.log c.write_early.new.self.log c.commit.new.self.log c.args.self.now.saved
+    c.write_early.new.self.saved c.commit.new.self.saved c.in_ok-write_early.ensures.done ready) c.commit.ensures.ready

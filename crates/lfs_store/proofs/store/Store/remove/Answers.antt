@@ -1,34 +1,53 @@
 use Rattle.std.proofs.Common.{◌∙◌, sym, subst}
-use Rattle.lfs_cleaner.specs.log.Held.{Held, Reads}
+use Rattle.lfs_cleaner.proofs.of_log.of_memory.Going.{err_then, ok_then}
 use Rattle.lfs_store.specs.declared.draft.Draft.{Draft}
 use Rattle.lfs_cleaner.specs.log.verify.declared.totals.BlockTotals.{BlockTotals}
 use Rattle.lfs_store.specs.Recounting.{Remeasures, Counts}
-use Rattle.lfs_store.proofs.LogReads.{fault_more, reads_none, reads_more}
+use Rattle.lfs_store.specs.Making.{DraftsRemoval}
+use Rattle.lfs_store.proofs.Acceptings.{where_ok}
+use Rattle.lfs_store.proofs.Keepings.{counted_redrafts, drafts_uncounted, reads_redrafts}
+use Rattle.lfs_store.proofs.LogReads.{fault_more, reads_more}
 use Rattle.lfs_store.proofs.Recounted.{remove_counts}
 use Rattle.lfs_store.proofs.store.Store.remove.Goals as goal
 
-pub returns-in-Err-recount-clause-failed : goal.returns-in-Err-recount-clause-failed
-returns-in-Err-recount-clause-failed g c =
-    let state = g.D.SectorDevice.state in
-    let next = subst (λ (l : Held _). Reads state c.measure.new.self.log l) (sym c.lose_file.ensures.log)
-    (reads_none state c.measure.new.self.log) in
-    fault_more state c.args.self.now.log c.lose_file.new.self.log c.recount.new.self.log
-    (reads_more state c.args.self.now.log c.measure.new.self.log c.lose_file.new.self.log
-    (g.met.D.SectorDevice.lawful c.args.self.now.log.device) c.measure.ensures.reads.log next)
-    c.in-Err-recount.ensures.failed
+pub returns-in_err-before-clause-redrafts : goal.returns-in_err-before-clause-redrafts
+returns-in_err-before-clause-redrafts g c =
+    reads_redrafts g.D.SectorDevice.state c.args.self.now c.measure.new.self c.measure.ensures.reads
 
-pub returns-in-Ok-recount-clause-counted : goal.returns-in-Ok-recount-clause-counted
-returns-in-Ok-recount-clause-counted g c =
+pub returns-clause-redrafts : goal.returns-clause-redrafts
+returns-clause-redrafts g c =
+    counted_redrafts g.D.SectorDevice.state c.args.self.now c.measure.new.self c.lose_file.new.self c.recount.new.self
+    (g.met.D.SectorDevice.lawful c.args.self.now.log.device) c.measure.ensures.reads
+    (drafts_uncounted g.D.SectorDevice.state c.measure.new.self c.lose_file.new.self c.lose_file.ensures.keeps)
+    c.recount.ensures.counts
+
+pub returns-clause-failed : goal.returns-clause-failed
+returns-clause-failed g c =
     let state = g.D.SectorDevice.state in
-    let next = subst (λ (l : Held _). Reads state c.measure.new.self.log l) (sym c.lose_file.ensures.log)
-    (reads_none state c.measure.new.self.log) in
-    let again = subst (λ (t : BlockTotals). Remeasures state c.lose_file.new.self.log c.recount.new.self.log
-    c.lose_file.new.self.draft.changes c.args.number.value 0 16624 c.in-Ok.measure t c.recount.new.self.drafted)
-    (c.lose_file.ensures.drafted ∙ c.measure.ensures.reads.drafted) c.in-Ok-recount.ensures.done in
+    let next = drafts_uncounted state c.measure.new.self c.lose_file.new.self c.lose_file.ensures.keeps in
+    err_then c.recount.result _ _ (fault_more state c.args.self.now.log c.lose_file.new.self.log c.recount.new.self.log
+    (reads_more state c.args.self.now.log c.measure.new.self.log c.lose_file.new.self.log
+    (g.met.D.SectorDevice.lawful c.args.self.now.log.device) c.measure.ensures.reads.log next.reads))
+    c.recount.ensures.failed
+
+pub returns-clause-done : goal.returns-clause-done
+returns-clause-done g c =
+    where_ok c.recount.result _ (subst (λ (d : Draft). DraftsRemoval d.changes c.args.number.value) (sym c.recount.ensures.counts.draft)
+    c.lose_file.ensures.done)
+
+pub returns-clause-counted : goal.returns-clause-counted
+returns-clause-counted g c =
+    let state = g.D.SectorDevice.state in
+    let next = drafts_uncounted state c.measure.new.self c.lose_file.new.self c.lose_file.ensures.keeps in
+    ok_then c.recount.result _ _ (λ again.
+    let counted = subst (λ (t : BlockTotals). Remeasures state c.lose_file.new.self.log c.recount.new.self.log
+    c.lose_file.new.self.draft.changes c.args.number.value 0 16624 c.in_ok-before.before t c.recount.new.self.drafted)
+    (c.lose_file.ensures.keeps.drafted ∙ c.measure.ensures.reads.drafted) again in
     subst (λ (d : Draft). Counts state c.args.self.now.log c.recount.new.self.log c.args.self.now.draft.changes d.changes
-    c.args.self.now.drafted c.recount.new.self.drafted) (sym c.recount.ensures.draft)
+    c.args.self.now.drafted c.recount.new.self.drafted) (sym c.recount.ensures.counts.draft)
     (remove_counts state c.args.self.now.log c.measure.new.self.log c.lose_file.new.self.log c.recount.new.self.log
-    c.args.self.now.draft.changes c.lose_file.new.self.draft.changes c.args.number.value c.in-Ok.measure
-    c.args.self.now.drafted c.recount.new.self.drafted c.args.number.some c.args.number.few c.measure.ensures.reads.log next
-    c.recount.ensures.reads
-    c.requires.empty c.in-Ok.ensures.answer c.lose_file.ensures.done again)
+    c.args.self.now.draft.changes c.lose_file.new.self.draft.changes c.args.number.value c.in_ok-before.before
+    c.args.self.now.drafted c.recount.new.self.drafted c.args.number.some c.args.number.few c.measure.ensures.reads.log next.reads
+    c.recount.ensures.counts.reads
+    c.requires.empty c.in_ok-before.ensures.answer c.lose_file.ensures.done counted))
+    c.recount.ensures.done

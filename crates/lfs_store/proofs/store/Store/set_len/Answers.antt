@@ -1,44 +1,72 @@
-use Rattle.std.proofs.Common.{◌/◌, ◌∙◌, sym, subst}
+use Rattle.std.specs.Prelude.{Result, IfErr}
+use Rattle.std.proofs.Common.{◌≡◌, ◌/◌, ◌∙◌, sym, subst}
 use Rattle.lfs_store.specs.declared.draft.Draft.{Draft}
 use Rattle.lfs_cleaner.specs.log.verify.declared.totals.BlockTotals.{BlockTotals}
 use Rattle.lfs_store.specs.Recounting.{Remeasures, Counts}
 use Rattle.lfs_store.specs.Writing.{SetsLen}
 use Rattle.lfs_store.proofs.Cuttings.{sets_around}
+use Rattle.lfs_cleaner.specs.log.Held.{IsReadFault}
+use Rattle.lfs_files.specs.declared.fault.StoreFault.{StoreFault}
+use Rattle.lfs_files.specs.declared.fault.StoreFault.TheVariants.{NoMemory}
+use Rattle.lfs_store.proofs.Endings.{same_exit}
+use Rattle.lfs_store.proofs.Keepings.{counted_redrafts, measured_redrafts, reads_redrafts}
 use Rattle.lfs_store.proofs.LogReads.{fault_more, reads_more}
 use Rattle.lfs_store.proofs.Recounted.{cut_counts}
 use Rattle.lfs_store.proofs.store.Store.set_len.Goals as goal
 
-pub returns-in-Err-draft_len-clause-failed : goal.returns-in-Err-draft_len-clause-failed
-returns-in-Err-draft_len-clause-failed g c other =
-    fault_more g.D.SectorDevice.state c.args.self.now.log c.measure.new.self.log c.draft_len.new.self.log c.measure.ensures.reads.log
-    (c.in-Err-draft_len.ensures.failed other)
+pub returns-in-Err-clause-redrafts : goal.returns-in-Err-clause-redrafts
+returns-in-Err-clause-redrafts g c =
+    reads_redrafts g.D.SectorDevice.state c.args.self.now c.measure.new.self c.measure.ensures.reads
+
+pub returns-in_err-draft_len-clause-redrafts : goal.returns-in_err-draft_len-clause-redrafts
+returns-in_err-draft_len-clause-redrafts g c =
+    measured_redrafts g.D.SectorDevice.state c.args.self.now c.measure.new.self c.draft_len.new.self
+    (g.met.D.SectorDevice.lawful c.args.self.now.log.device) c.measure.ensures.reads c.draft_len.ensures.redrafts
+
+pub returns-in_err-draft_len-clause-failed : goal.returns-in_err-draft_len-clause-failed
+returns-in_err-draft_len-clause-failed g c =
+    same_exit c.from_residual.result c.in_err-draft_len.field-0.0
+    (λ (r : Result Unit StoreFault). IfErr r (λ (fault : StoreFault). (fault ≡ NoMemory → ⊥)
+    → IsReadFault g.D.SectorDevice.state c.args.self.now.log c.draft_len.new.self.log)) c.from_residual.ensures
+    (λ other. fault_more g.D.SectorDevice.state c.args.self.now.log c.measure.new.self.log c.draft_len.new.self.log
+    c.measure.ensures.reads.log (c.in_err-draft_len.ensures.failed other))
+
+pub returns-in-Err-recount-clause-redrafts : goal.returns-in-Err-recount-clause-redrafts
+returns-in-Err-recount-clause-redrafts g c =
+    counted_redrafts g.D.SectorDevice.state c.args.self.now c.measure.new.self c.draft_len.new.self c.recount.new.self
+    (g.met.D.SectorDevice.lawful c.args.self.now.log.device) c.measure.ensures.reads c.draft_len.ensures.redrafts c.recount.ensures.counts
+
+pub returns-in-Ok-recount-clause-redrafts : goal.returns-in-Ok-recount-clause-redrafts
+returns-in-Ok-recount-clause-redrafts g c =
+    counted_redrafts g.D.SectorDevice.state c.args.self.now c.measure.new.self c.draft_len.new.self c.recount.new.self
+    (g.met.D.SectorDevice.lawful c.args.self.now.log.device) c.measure.ensures.reads c.draft_len.ensures.redrafts c.recount.ensures.counts
 
 pub returns-in-Err-recount-clause-failed : goal.returns-in-Err-recount-clause-failed
 returns-in-Err-recount-clause-failed g c other =
     fault_more g.D.SectorDevice.state c.args.self.now.log c.draft_len.new.self.log c.recount.new.self.log
     (reads_more g.D.SectorDevice.state c.args.self.now.log c.measure.new.self.log c.draft_len.new.self.log
-    (g.met.D.SectorDevice.lawful c.args.self.now.log.device) c.measure.ensures.reads.log c.draft_len.ensures.reads)
+    (g.met.D.SectorDevice.lawful c.args.self.now.log.device) c.measure.ensures.reads.log c.draft_len.ensures.redrafts.reads)
     c.in-Err-recount.ensures.failed
 
 pub returns-in-Ok-recount-clause-done : goal.returns-in-Ok-recount-clause-done
 returns-in-Ok-recount-clause-done g c =
     let state = g.D.SectorDevice.state in
     subst (λ (d : Draft). SetsLen state c.args.self.now.log c.recount.new.self.log d.changes c.args.number.value c.args.header c.args.len)
-    (sym c.recount.ensures.draft)
+    (sym c.recount.ensures.counts.draft)
     (sets_around state c.args.self.now.log c.measure.new.self.log c.draft_len.new.self.log c.recount.new.self.log
     c.draft_len.new.self.draft.changes
-    c.args.number.value c.args.header c.args.len c.measure.ensures.reads.log c.in-Ok-draft_len.ensures.done c.recount.ensures.reads)
+    c.args.number.value c.args.header c.args.len c.measure.ensures.reads.log c.in_ok-draft_len.ensures.done c.recount.ensures.counts.reads)
 
 pub returns-in-Ok-recount-clause-counted : goal.returns-in-Ok-recount-clause-counted
 returns-in-Ok-recount-clause-counted g c =
     let state = g.D.SectorDevice.state in
     let again = subst (λ (t : BlockTotals). Remeasures state c.draft_len.new.self.log c.recount.new.self.log
     c.draft_len.new.self.draft.changes c.args.number.value (c.args.len / 512) 16624 c.in-Ok.measure t c.recount.new.self.drafted)
-    (c.draft_len.ensures.drafted ∙ c.measure.ensures.reads.drafted) c.in-Ok-recount.ensures.done in
+    (c.draft_len.ensures.redrafts.drafted ∙ c.measure.ensures.reads.drafted) c.in-Ok-recount.ensures.done in
     subst (λ (d : Draft). Counts state c.args.self.now.log c.recount.new.self.log c.args.self.now.draft.changes d.changes
-    c.args.self.now.drafted c.recount.new.self.drafted) (sym c.recount.ensures.draft)
+    c.args.self.now.drafted c.recount.new.self.drafted) (sym c.recount.ensures.counts.draft)
     (cut_counts state c.args.self.now.log c.measure.new.self.log c.draft_len.new.self.log c.recount.new.self.log
     c.args.self.now.draft.changes c.draft_len.new.self.draft.changes c.args.number.value c.in-Ok.measure
     c.args.self.now.drafted c.recount.new.self.drafted c.args.number.some c.args.number.few c.measure.ensures.reads.log
-    c.draft_len.ensures.reads c.recount.ensures.reads
-    c.args.header c.args.len c.requires.most c.requires.empty c.in-Ok.ensures.answer c.in-Ok-draft_len.ensures.done again)
+    c.draft_len.ensures.redrafts.reads c.recount.ensures.counts.reads
+    c.args.header c.args.len c.requires.most c.requires.empty c.in-Ok.ensures.answer c.in_ok-draft_len.ensures.done again)

@@ -1,4 +1,5 @@
 use Rattle.lfs_store.proofs.Writings.{block_written}
+use Rattle.std.proofs.Common.{refl}
 use Rattle.lfs_store.proofs.store.Store.write_block.Goals as goal
 
 pub returns-clause-done : goal.returns-clause-done
@@ -7,3 +8,11 @@ returns-clause-done g c =
     c.put_block.new.self.changes c.args.number.value c.args.index c.args.at c.args.bytes.now
     c.block_beneath.new.out c.overlay.new.block c.overlay.array_long c.in-Ok.ensures.done c.overlay.ensures
     c.in-Ok-put_block.ensures.done
+
+pub returns-in-Err-clause-redrafts : goal.returns-in-Err-clause-redrafts
+returns-in-Err-clause-redrafts g c =
+    record { reads = c.block_beneath.ensures.reads.reads; saved = refl; drafted = refl }
+
+pub returns-clause-redrafts : goal.returns-clause-redrafts
+returns-clause-redrafts g c =
+    record { reads = c.block_beneath.ensures.reads.reads; saved = refl; drafted = refl }

@@ -1,7 +1,10 @@
-use Rattle.std.proofs.Common.{rules, ◌≡◌, Bool, true, false, sym, subst}
+use Rattle.std.specs.Prelude.{OnOk}
+use Rattle.std.proofs.Common.{rules, ◌≡◌, Bool, true, false, refl, sym, subst}
+use Rattle.lfs_cleaner.proofs.of_log.of_memory.Going.{ok_then}
 use Rattle.lfs_store.specs.Accepting.{Readies}
 use Rattle.lfs_store.proofs.Acceptings.{readies_none}
 use Rattle.lfs_store.proofs.EarlyRoom.{early_none, readies_early}
+use Rattle.lfs_store.proofs.Endings.{keeps_none}
 use Rattle.lfs_store.proofs.store.Store.write_early.Goals as goal
 
 pub returns-then-self-clause-done : goal.returns-then-self-clause-done
@@ -13,12 +16,22 @@ pub returns-then-self-clause-early : goal.returns-then-self-clause-early
 returns-then-self-clause-early g c =
     early_none g.D.SectorDevice.state c.args.self.now.log (g.met.D.SectorDevice.lawful c.args.self.now.log.device) c.requires
 
-pub returns-in-Ok-clause-done : goal.returns-in-Ok-clause-done
-returns-in-Ok-clause-done g c =
-    subst (λ (saved : Bool). Readies g.D.SectorDevice.state c.args.self.now.log saved c.write_early.new.self saved) (sym c.if-self.false)
-    (readies_early g.D.SectorDevice.state c.args.self.now.log c.write_early.new.self c.in-Ok.ensures.done c.in-Ok.ensures.totals)
+pub returns-then-self-clause-keeps : goal.returns-then-self-clause-keeps
+returns-then-self-clause-keeps g c = keeps_none c.args.self.now
 
-pub returns-in-Err-clause-halted : goal.returns-in-Err-clause-halted
-returns-in-Err-clause-halted g c is =
+pub returns-clause-done : goal.returns-clause-done
+returns-clause-done g c =
+    subst (λ (saved : Bool).
+    OnOk c.write_early.result (Readies g.D.SectorDevice.state c.args.self.now.log saved c.write_early.new.self saved))
+    (sym c.if-self.false)
+    (ok_then c.write_early.result _ _
+    (λ early. readies_early g.D.SectorDevice.state c.args.self.now.log c.write_early.new.self early c.write_early.ensures.totals)
+    c.write_early.ensures.done)
+
+pub returns-clause-keeps : goal.returns-clause-keeps
+returns-clause-keeps g c = record { draft = refl; totals = c.write_early.ensures.totals; drafted = refl }
+
+pub returns-clause-halted : goal.returns-clause-halted
+returns-clause-halted g c is =
     let running : c.args.self.now.log.halted ≡ false = c.requires in
-    c.in-Err.ensures.halted (search rules) (λ (t : c.args.self.now.log.halted ≡ true). absurd (cc))
+    c.write_early.ensures.halted is (λ (t : c.args.self.now.log.halted ≡ true). absurd (cc))

@@ -1,6 +1,6 @@
 use Rattle.lfs_model.specs.Objects.{is_stored}
 use Rattle.lfs_store.proofs.Measured.{CountedUpTo}
-use Rattle.lfs_store.proofs.measuring.count_each.Given as goal
+use Rattle.lfs_store.proofs.measuring.count_stored.Given as goal
 
 abbrev pub invariant-loop-index : goal.invariant-loop-index
 invariant-loop-index g l =

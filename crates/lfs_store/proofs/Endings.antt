@@ -1,0 +1,308 @@
+-- How a store's calls on its log end, each as what its steps say.
+use Rattle.std.specs.Prelude.{Result, Ok, Err, OnErr, OnOk, IsErr, IsErrAnd, IsErrOf}
+use Rattle.std.proofs.Common.{◌≡◌, ◌≢◌, ◌<◌, ◌≤◌, ◌+◌, ◌*◌, true, false, ℕ, length, refl, sym, ◌∙◌, ap, subst, arith}
+use Rattle.std.proofs.lemmas.Result.{err_from_is_err_and}
+use Rattle.lfs_model.specs.Device.{DeviceState, IsLawful, Carries}
+use Rattle.lfs_model.proofs.Moments.{carries_none}
+use Rattle.lfs_files.specs.declared.fault.LogFault.{LogFault}
+use Rattle.lfs_files.specs.declared.fault.LogFault.TheVariants.{Full, Device, Halted}
+use Rattle.lfs_files.specs.declared.fault.StoreFault.{StoreFault}
+use Rattle.lfs_files.specs.declared.fault.StoreFault.TheVariants.{NoMemory, Log}
+use Rattle.lfs_cleaner.specs.log.memory.Batch.{room_for}
+use Rattle.lfs_cleaner.specs.log.memory.Preparing.{LacksRoom}
+use Rattle.lfs_cleaner.specs.log.Held.{Held, Halts, IsFull, IsStaged, IsRefused, IsStageFault}
+use Rattle.lfs_cleaner.specs.log.Saving.{commit_orders}
+use Rattle.lfs_cleaner.specs.Room.{HaltsLater, HasQuarter, IsAtRest, IsRoomFault, KeepsMap, MayNotMakeRoom, most_checkpoints, room_orders}
+use Rattle.lfs_cleaner.proofs.of_log.of_memory.Going.{ok_then}
+use Rattle.lfs_store.specs.declared.draft.Draft.{Draft}
+use Rattle.lfs_store.specs.declared.store.Store.{Store}
+use Rattle.lfs_store.specs.Accepting.{Accepts, Declines, HasClean, HasCleanForTwo, HasRoomFor, IsAcceptFault, Readies}
+use Rattle.lfs_store.specs.Keeping.{KeepsDraft}
+use Rattle.lfs_store.specs.Outcomes.{Accepted, Cleaned, Committed, RoomMade}
+use Rattle.lfs_store.proofs.Acceptings.{accepts, accept_fault, asks_much, cannot_after, cannot_commit, clean_cannot, clean_halts}
+use Rattle.lfs_store.proofs.Acceptings.{clean_room}
+use Rattle.lfs_store.proofs.Acceptings.{commits_none, declines, declines_room, fault_after, halts_after, halts_first, readies_none}
+use Rattle.lfs_store.proofs.Acceptings.{room_fault, room_none, room_same, room_then, where_err}
+use Rattle.lfs_store.proofs.EarlyRoom.{readies_then}
+
+-- what holds at an error holds at the exit of a `?`
+pub same_exit : {T E : Type 0} (r : Result T E) (e : E) (P : Result T E → Type 0) → IsErr r × IsErrAnd r (λ y. y ≡ e) → P (Err e) → P r
+same_exit r e P gives holds = let y = err_from_is_err_and r gives.1 in rw (y.1, y.2) holds
+
+abbrev log_error : LogFault → Result Unit LogFault
+log_error fault = Err fault
+
+abbrev store_error : StoreFault → Result Unit StoreFault
+store_error fault = Err fault
+
+pub keeps_none : {D : Type 0} (a : Store D) → KeepsDraft a a
+keeps_none a = record { draft = refl; totals = refl; drafted = refl }
+
+no_more : (x y most : ℕ) → x ≡ y → y ≤ most → x ≤ most
+no_more x y most same le = rw same le
+
+keeps_then : {D : Type 0} (a b c : Store D) → KeepsDraft a b → KeepsDraft b c → KeepsDraft a c
+keeps_then a b c one two = record {
+  draft = two.draft ∙ one.draft;
+  totals = two.totals ∙ one.totals;
+  drafted = two.drafted ∙ one.drafted;
+}
+
+module _ {D : Type 0} (state : D → DeviceState) where
+  -- ---- a commit of a log that is halted, and of one that is saved
+  pub committed_halted : (a : Store D) → a.log.halted ≡ true → Committed state a a (Err Halted)
+  committed_halted a is = record {
+    keeps = keeps_none a;
+    done = tt;
+    ready = tt;
+    saved = tt;
+    saves = tt;
+    same = refl;
+    full = λ e. absurd (cc);
+    unsaved = λ e. absurd (cc);
+    other = λ e. absurd (cc);
+    halted = λ e ne. absurd (ne is);
+    still = λ t. (refl, refl);
+    quiet = λ t. refl;
+    told = omega arith;
+    tells = omega arith;
+  }
+
+  pub committed_saved : (a : Store D) → IsLawful (state a.log.device) → a.log.halted ≡ false → a.saved ≡ true → Committed state a a (Ok tt)
+  committed_saved a lawful running all = record {
+    keeps = keeps_none a;
+    done = rw all (commits_none state a.log lawful running);
+    ready = readies_none state a.log a.saved lawful running;
+    saved = all;
+    saves = λ never. absurd (cc);
+    same = tt;
+    full = λ e. absurd (cc);
+    unsaved = λ e. absurd (cc);
+    other = λ e. absurd (cc);
+    halted = λ e. absurd (cc);
+    still = λ t. absurd (cc);
+    quiet = λ t. refl;
+    told = omega arith;
+    tells = omega arith;
+  }
+
+  -- ---- room
+  pub made_none : (a : Store D) → IsLawful (state a.log.device) → a.log.halted ≡ false → RoomMade state a a (Ok tt)
+  made_none a lawful running = record {
+    keeps = keeps_none a;
+    done = room_none state a.log a.saved lawful running;
+    full = λ e. absurd (cc);
+    never = λ e. absurd (cc);
+    kept = λ e. absurd (cc);
+    failed = λ e. absurd (cc);
+    halted = λ e. absurd (cc);
+  }
+
+  pub made_ready : (a b : Store D) → KeepsDraft a b → Readies state a.log a.saved b.log b.saved → RoomMade state a b (Ok tt)
+  made_ready a b keeps ready = record {
+    keeps = keeps;
+    done = ready.room;
+    full = λ e. absurd (cc);
+    never = λ e. absurd (cc);
+    kept = λ e. absurd (cc);
+    failed = λ e. absurd (cc);
+    halted = λ e. absurd (cc);
+  }
+
+  -- a commit that failed
+  pub made_uncommitted : (a b : Store D) (fault : LogFault) → IsLawful (state a.log.device) → a.log.halted ≡ false
+      → Committed state a b (Err fault) → RoomMade state a b (Err fault)
+  made_uncommitted a b fault lawful running commit = record {
+    keeps = commit.keeps;
+    done = tt;
+    full = λ e. room_same state a.log b.log a.saved b.saved lawful running (commit.full e).0 commit.same;
+    never = λ e. cannot_commit state a.log b.log a.saved lawful (commit.unsaved e) (commit.full e).1;
+    kept = λ e. absurd (commit.other e);
+    failed = λ e. absurd (commit.other e);
+    halted = λ e ne. halts_first state a.log b.log a.saved (commit.halted e ne);
+  }
+
+  -- room that is made behind steps that leave the log ready
+  pub made_then : (a b c : Store D) (r : Result Unit LogFault) → KeepsDraft a b → Readies state a.log a.saved b.log b.saved
+      → RoomMade state b c r → RoomMade state a c r
+  made_then a b c r keeps ready made =
+      let running = ready.room.keeps.running in
+      record {
+        keeps = keeps_then a b c keeps made.keeps;
+        done = ok_then r _ _ (λ room. room_then state a.log b.log c.log a.saved b.saved ready c.saved room) made.done;
+        full = λ e. room_then state a.log b.log c.log a.saved b.saved ready c.saved (made.full e);
+        never = λ e. cannot_after state a.log b.log c.log a.saved b.saved ready (made.full e).keeps.carries (made.never e);
+        kept = λ e. room_then state a.log b.log c.log a.saved b.saved ready c.saved (made.kept e);
+        failed = λ e. fault_after state a.log b.log c.log a.saved b.saved ready (made.kept e).keeps.carries (made.failed e);
+        halted = λ e ne. halts_after state a.log b.log c.log a.saved b.saved ready
+            (made.halted e (λ (t : b.log.halted ≡ true). absurd (cc)));
+      }
+
+  -- a commit behind them
+  pub made_committed : (a b : Store D) (r : Result Unit LogFault) → IsLawful (state a.log.device) → a.log.halted ≡ false
+      → Committed state a b r → RoomMade state a b r
+  made_committed a b (Ok x) lawful running commit = made_ready a b commit.keeps commit.ready
+  made_committed a b (Err fault) lawful running commit = made_uncommitted a b fault lawful running commit
+
+  -- ---- the cleaner makes room
+  pub cleaned_halted : (a : Store D) → a.log.halted ≡ true → Cleaned state a a (Err Halted)
+  cleaned_halted a is = record {
+    room = record {
+      keeps = keeps_none a;
+      done = tt;
+      full = λ e. absurd (cc);
+      never = λ e. absurd (cc);
+      kept = λ e. absurd (cc);
+      failed = λ e. absurd (cc);
+      halted = λ e ne. absurd (ne is);
+    };
+    still = λ t. (refl, refl, refl);
+    quiet = λ t. (refl, refl);
+  }
+
+  pub cleaned_none : (a : Store D) → IsLawful (state a.log.device) → a.log.halted ≡ false → Cleaned state a a (Ok tt)
+  cleaned_none a lawful running = record {
+    room = made_none a lawful running;
+    still = λ t. absurd (cc);
+    quiet = λ t. (refl, refl);
+  }
+
+  module _ (a b : Store D) (running : a.log.halted ≡ false)
+      (due : HasQuarter a.log → ⊥) where
+    pub cleaned_uncommitted : (fault : LogFault) → IsLawful (state a.log.device) → Committed state a b (Err fault)
+        → Cleaned state a b (Err fault)
+    cleaned_uncommitted fault lawful commit = record {
+      room = made_uncommitted a b fault lawful running commit;
+      still = λ t. absurd (cc);
+      quiet = λ quarter. absurd (due quarter);
+    }
+
+    pub cleaned_behind : (h : Held D) (r : Result Unit LogFault) → Committed state a b (Ok tt) → h.totals ≡ b.log.totals
+        → OnOk r (KeepsMap state b.log h (most_checkpoints b.log))
+        → (IsErrOf r Full → KeepsMap state b.log h (most_checkpoints b.log)) → (IsErrOf r Full → MayNotMakeRoom state b.log h)
+        → (IsErrOf r Device → KeepsMap state b.log h (most_checkpoints b.log)) → (IsErrOf r Device → IsRoomFault state b.log h)
+        → (IsErrOf r Halted → b.log.halted ≢ true → HaltsLater state b.log h (most_checkpoints b.log))
+        → Cleaned state a (record b { log = h }) r
+    cleaned_behind h r commit totals done full lacks kept failed halted =
+        let again = commit.ready.room.keeps.running in
+        record {
+          room = record {
+            keeps = record {
+              draft = commit.keeps.draft;
+              totals = totals ∙ commit.keeps.totals;
+              drafted = commit.keeps.drafted;
+            };
+            done = ok_then r _ _ (λ keeps. clean_room state a.log b.log h a.saved b.saved commit.saved commit.ready keeps) done;
+            full = λ e. clean_room state a.log b.log h a.saved b.saved commit.saved commit.ready (full e);
+            never = λ e. clean_cannot state a.log b.log h a.saved b.saved commit.saved commit.ready (full e).carries (lacks e);
+            kept = λ e. clean_room state a.log b.log h a.saved b.saved commit.saved commit.ready (kept e);
+            failed = λ e. fault_after state a.log b.log h a.saved b.saved commit.ready (kept e).carries (failed e);
+            halted = λ e ne. clean_halts state a.log b.log h a.saved b.saved commit.saved commit.ready
+                (halted e (λ (t : b.log.halted ≡ true). absurd (cc)));
+          };
+          still = λ t. absurd (cc);
+          quiet = λ quarter. absurd (due quarter);
+        }
+
+  -- ---- a draft of a halted log
+  pub accepted_halted : (a : Store D) → a.log.halted ≡ true → Accepted state a a.log a.saved (Err (Log Halted))
+  accepted_halted a is = record {
+    counted = tt;
+    kept = refl;
+    done = tt;
+    full = λ e. absurd (cc);
+    lacks = λ e. absurd (cc);
+    never = λ e. absurd (cc);
+    memory = λ e. absurd (cc);
+    fits = λ e. absurd (cc);
+    device = λ e. absurd (cc);
+    failed = λ e. absurd (cc);
+    halted = λ e ne. absurd (ne is);
+    still = λ t. (refl, refl, refl);
+    quiet = λ room clean. refl;
+    told = omega arith;
+    one_commit = λ two. omega arith;
+  }
+
+  -- the error of the log is the store's
+  as_log : (fault other : LogFault) → store_error (Log fault) ≡ store_error (Log other) → log_error fault ≡ log_error other
+  as_log fault other e = let same : fault ≡ other = cc in ap log_error same
+
+  -- ---- what holds however a draft ends, behind what readied the log
+  module _ (a b : Store D) (running : a.log.halted ≡ false)
+      (quiet : HasRoomFor a.log a.draft.changes → HasClean a.log → b.log ≡ a.log)
+      (told : length (state b.log.device).told
+      ≤ length (state a.log.device).told + room_orders (length a.log.memory.usage.segments))
+      (one_commit : HasCleanForTwo a.log → length (state b.log.device).told ≤ length (state a.log.device).told + commit_orders) where
+    -- no room was made
+    pub accepted_unready : (fault : LogFault) → RoomMade state a b (Err fault) → (log_error fault ≡ log_error Full → IsFull b.log)
+        → Accepted state a b.log b.saved (Err (Log fault))
+    accepted_unready fault made lacks = record {
+      counted = tt;
+      kept = made.keeps.totals;
+      done = tt;
+      full = λ e. declines_room state a.log b.log a.saved b.saved a.draft.changes running (made.full (as_log fault Full e));
+      lacks = λ e. lacks (as_log fault Full e);
+      never = λ e. made.never (as_log fault Full e);
+      memory = λ e. absurd (cc);
+      fits = λ e. absurd (cc);
+      device = λ e. declines_room state a.log b.log a.saved b.saved a.draft.changes running (made.kept (as_log fault Device e));
+      failed = λ e. room_fault state a.log b.log a.saved a.draft.changes (made.failed (as_log fault Device e));
+      halted = λ e. made.halted (as_log fault Halted e);
+      still = λ t. absurd (cc);
+      quiet = λ room clean. ap (λ (h : Held D). h.number) (quiet room clean);
+      told = told;
+      one_commit = one_commit;
+    }
+
+    module _ (h : Held D) (lawful : IsLawful (state b.log.device)) (made : RoomMade state a b (Ok tt)) (enough : HasClean b.log) where
+      -- it is staged
+      pub accepted_staged : IsStaged state b.log h b.draft.changes → h.totals ≡ b.drafted → Accepted state a h false (Ok tt)
+      accepted_staged s totals =
+          record {
+            counted = totals ∙ made.keeps.drafted;
+            kept = tt;
+            done = subst (λ (d : Draft). Accepts state a.log a.saved h false d.changes) made.keeps.draft
+                (accepts state a.log b.log h a.saved b.saved b.draft.changes lawful running made.done s.alters enough s);
+            full = λ e. absurd (cc);
+            lacks = λ e. absurd (cc);
+            never = λ e. absurd (cc);
+            memory = λ e. absurd (cc);
+            fits = λ e. absurd (cc);
+            device = λ e. absurd (cc);
+            failed = λ e. absurd (cc);
+            halted = λ e. absurd (cc);
+            still = λ t. absurd (cc);
+            quiet = λ room clean. s.alters.number ∙ ap (λ (x : Held D). x.number) (quiet room clean);
+            told = no_more _ _ _ (ap length s.alters.looks.told) told;
+            one_commit = λ two. no_more _ _ _ (ap length s.alters.looks.told) (one_commit two);
+          }
+
+      -- it is refused
+      pub accepted_refused : (fault : StoreFault) → IsRefused state b.log h b.draft.changes → h.totals ≡ b.log.totals
+          → (fault ≡ Log Full → ⊥) → (fault ≡ Log Halted → ⊥)
+          → (fault ≡ NoMemory → (a.saved ≡ true → IsAtRest a.log) → 456 < room_for b.draft.changes)
+          → (fault ≡ Log Device → IsStageFault state b.log h b.draft.changes)
+          → Accepted state a h false (Err fault)
+      accepted_refused fault r totals some running' asks failed =
+          let declined : Declines state a.log a.saved h false a.draft.changes =
+          subst (λ (d : Draft). Declines state a.log a.saved h false d.changes) made.keeps.draft
+          (declines state a.log b.log h a.saved b.saved b.draft.changes lawful running made.done r.alters enough r) in
+          record {
+            counted = tt;
+            kept = totals ∙ made.keeps.totals;
+            done = tt;
+            full = λ e. absurd (some (cc));
+            lacks = λ e. absurd (some (cc));
+            never = λ e. absurd (some (cc));
+            memory = λ e. declined;
+            fits = λ e rest. subst (λ (d : Draft). 456 < room_for d.changes) made.keeps.draft (asks (cc) rest);
+            device = λ e. declined;
+            failed = λ e. subst (λ (d : Draft). IsAcceptFault state a.log a.saved h d.changes) made.keeps.draft
+                (accept_fault state a.log b.log h a.saved b.saved b.draft.changes lawful running made.done r.alters (failed (cc)));
+            halted = λ e. absurd (running' (cc));
+            still = λ t. absurd (cc);
+            quiet = λ room clean. r.alters.number ∙ ap (λ (x : Held D). x.number) (quiet room clean);
+            told = no_more _ _ _ (ap length r.alters.looks.told) told;
+            one_commit = λ two. no_more _ _ _ (ap length r.alters.looks.told) (one_commit two);
+          }

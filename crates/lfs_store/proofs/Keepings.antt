@@ -1,0 +1,86 @@
+-- What calls keep of a store, one after the other.
+use Rattle.std.specs.Prelude.{Result, Ok, Err, OnErr, IsErrOf}
+use Rattle.std.proofs.Common.{◌≡◌, true, refl, sym, ◌∙◌, ap, subst}
+use Rattle.lfs_model.specs.Device.{DeviceState, IsLawful}
+use Rattle.lfs_files.specs.declared.fault.LogFault.{LogFault}
+use Rattle.lfs_files.specs.declared.fault.LogFault.TheVariants.{Full, Halted}
+use Rattle.lfs_cleaner.specs.log.Held.{Held, Reads, IsReadFault}
+use Rattle.lfs_store.specs.declared.draft.Draft.{Draft}
+use Rattle.lfs_store.specs.declared.store.Store.{Store}
+use Rattle.lfs_store.specs.Keeping.{DraftsUncounted, OnlyCounts, ReadsLog, RedraftsStore, RedraftsUncounted}
+use Rattle.lfs_store.specs.Reading.{ReadsStore}
+use Rattle.lfs_store.proofs.LogReads.{fault_more, reads_none, reads_more}
+
+abbrev pub error_of : (T : Type 0) → LogFault → Result T LogFault
+error_of T fault = Err fault
+
+module _ {D : Type 0} (state : D → DeviceState) where
+  pub uncounted_none : (a : Store D) → RedraftsUncounted state a a
+  uncounted_none a = record { reads = reads_none state a.log; saved = refl; drafted = refl }
+
+  pub uncounted_then : (a b c : Store D) → IsLawful (state a.log.device) → RedraftsUncounted state a b → RedraftsUncounted state b c
+      → RedraftsUncounted state a c
+  uncounted_then a b c lawful one two = record {
+    reads = reads_more state a.log b.log c.log lawful one.reads two.reads;
+    saved = two.saved ∙ one.saved;
+    drafted = two.drafted ∙ one.drafted;
+  }
+
+  pub uncounted_drafts : (a b c : Store D) → RedraftsUncounted state a b → DraftsUncounted b c → RedraftsUncounted state a c
+  uncounted_drafts a b c one two = record {
+    reads = subst (λ (h : Held D). Reads state a.log h) (sym two.log) one.reads;
+    saved = two.saved ∙ one.saved;
+    drafted = two.drafted ∙ one.drafted;
+  }
+
+  pub drafts_uncounted : (a b : Store D) → DraftsUncounted a b → RedraftsUncounted state a b
+  drafts_uncounted a b one = uncounted_drafts a a b (uncounted_none a) one
+
+  pub reads_uncounted : (a b : Store D) (d : Draft) → ReadsStore state a b → RedraftsUncounted state a (record b { draft = d })
+  reads_uncounted a b d one = record { reads = one.log; saved = one.saved; drafted = one.drafted }
+
+  -- a file is measured, changed and measured again
+  pub reads_redrafts : (a b : Store D) → ReadsStore state a b → RedraftsStore state a b
+  reads_redrafts a b one = record { reads = one.log; saved = one.saved }
+
+  pub measured_redrafts : (a b c : Store D) → IsLawful (state a.log.device) → ReadsStore state a b → RedraftsUncounted state b c
+      → RedraftsStore state a c
+  measured_redrafts a b c lawful one two = record {
+    reads = reads_more state a.log b.log c.log lawful one.log two.reads;
+    saved = two.saved ∙ one.saved;
+  }
+
+  pub counted_redrafts : (a b c d : Store D) → IsLawful (state a.log.device) → ReadsStore state a b → RedraftsUncounted state b c
+      → OnlyCounts state c d → RedraftsStore state a d
+  counted_redrafts a b c d lawful one two three =
+      let change = measured_redrafts a b c lawful one two in
+      record { reads = reads_more state a.log c.log d.log lawful change.reads three.reads; saved = three.saved ∙ change.saved }
+
+  -- ---- a log that is only read
+  pub looked_at : {T : Type 0} (h h' : Held D) (r : Result T LogFault) → Reads state h h' → OnErr r (IsReadFault state h h')
+      → (IsErrOf r Halted → h.halted ≡ true) → (IsErrOf r Full → ⊥) → ReadsLog state h h' r
+  looked_at h h' r reads failed halted other = record { reads = reads; failed = failed; halted = halted; other = other }
+
+  pub looked_done : {T : Type 0} (h h' : Held D) (x : T) → Reads state h h' → ReadsLog state h h' (Ok x)
+  looked_done h h' x reads = record { reads = reads; failed = tt; halted = λ e. absurd (cc); other = λ e. absurd (cc) }
+
+  -- behind other reads
+  pub looked_more : {T : Type 0} (a b c : Held D) (r : Result T LogFault) → IsLawful (state a.device) → Reads state a b
+      → ReadsLog state b c r → ReadsLog state a c r
+  looked_more a b c (Ok x) lawful one two = looked_done a c x (reads_more state a b c lawful one two.reads)
+  looked_more a b c (Err fault) lawful one two = record {
+    reads = reads_more state a b c lawful one two.reads;
+    failed = fault_more state a b c one two.failed;
+    halted = λ e. sym one.halted ∙ two.halted e;
+    other = two.other;
+  }
+
+  -- an error is passed on
+  pub looked_fails : (S T : Type 0) (a b c : Held D) (fault : LogFault) → IsLawful (state a.device) → Reads state a b
+      → ReadsLog state b c (error_of S fault) → ReadsLog state a c (error_of T fault)
+  looked_fails S T a b c fault lawful one two = record {
+    reads = reads_more state a b c lawful one two.reads;
+    failed = fault_more state a b c one two.failed;
+    halted = λ e. (let same : fault ≡ Halted = cc in sym one.halted ∙ two.halted (ap (error_of S) same));
+    other = λ e. (let same : fault ≡ Full = cc in two.other (ap (error_of S) same));
+  }
