@@ -23,7 +23,8 @@ returns-in-Ok-clean-clause-serves g c =
     record { alloc = c.begin.new.self.alloc; store = c.clean.new.self; handles = c.begin.new.self.handles } _ _ c.in-Ok.ensures.done
     (cleaned_serves g.D.SectorDevice.state g.met.D.SectorDevice.lawful c.begin.new.self c.clean.new.self
     (still_running g.D.SectorDevice.state g.met.D.SectorDevice.lawful c.args.self.now c.begin.new.self c.in-Ok.ensures.done)
-    c.in-Ok-clean.ensures.totals c.in-Ok-check_worn.ensures.young c.in-Ok-clean.ensures.told c.in-Ok-clean.ensures.done)
+    c.in-Ok-clean.ensures.cleans.room.keeps.totals c.in-Ok-check_worn.ensures.young c.in-Ok-clean.ensures.told
+    c.in-Ok-clean.ensures.cleans.room.done)
 
 pub returns-in-Err-clean-clause-serves : goal.returns-in-Err-clean-clause-serves
 returns-in-Err-clean-clause-serves g c =
@@ -31,7 +32,8 @@ returns-in-Err-clean-clause-serves g c =
     begun g.D.SectorDevice.state g.met.D.SectorDevice.lawful c.args.self.now c.begin.new.self
     record { alloc = c.begin.new.self.alloc; store = c.clean.new.self; handles = c.begin.new.self.handles } _ _ c.in-Ok.ensures.done
     (clean_fails g.D.SectorDevice.state g.met.D.SectorDevice.lawful c.begin.new.self c.clean.new.self running
-    c.in-Err-clean.ensures.totals c.in-Ok-check_worn.ensures.young c.in-Err-clean.ensures.told c.in-Err-clean.fault c.from.result
-    c.from.ensures (λ e. c.in-Err-clean.ensures.full (ap Err e)) (λ e. c.in-Err-clean.ensures.never (ap Err e))
-    (λ e. c.in-Err-clean.ensures.kept (ap Err e)) (λ e. c.in-Err-clean.ensures.failed (ap Err e))
-    (λ e. c.in-Err-clean.ensures.halted (ap Err e) (not_halted c.begin.new.self running)))
+    c.in-Err-clean.ensures.cleans.room.keeps.totals c.in-Ok-check_worn.ensures.young c.in-Err-clean.ensures.told c.in-Err-clean.fault
+    c.from.result
+    c.from.ensures (λ e. c.in-Err-clean.ensures.cleans.room.full (ap Err e)) (λ e. c.in-Err-clean.ensures.cleans.room.never (ap Err e))
+    (λ e. c.in-Err-clean.ensures.cleans.room.kept (ap Err e)) (λ e. c.in-Err-clean.ensures.cleans.room.failed (ap Err e))
+    (λ e. c.in-Err-clean.ensures.cleans.room.halted (ap Err e) (not_halted c.begin.new.self running)))

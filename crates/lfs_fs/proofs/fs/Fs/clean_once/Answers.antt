@@ -26,9 +26,9 @@ returns-in-Ok-clean_once-clause-serves g c =
       handles = c.begin.new.self.handles;
     } _ _ c.in-Ok.ensures.done
     (cleaned_serves g.D.SectorDevice.state g.met.D.SectorDevice.lawful c.begin.new.self c.clean_once.new.self running
-    c.in-Ok-clean_once.ensures.totals c.in-Ok-check_worn.ensures.young
+    c.in-Ok-clean_once.ensures.cleans.room.keeps.totals c.in-Ok-check_worn.ensures.young
     (once_tells g.D.SectorDevice.state g.met.D.SectorDevice.lawful c.begin.new.self.store.log c.clean_once.new.self.log
-    (c.are_tables_whole.ensures.memory running).count c.clean_once.ensures.told) c.in-Ok-clean_once.ensures.done)
+    (c.are_tables_whole.ensures.memory running).count c.clean_once.ensures.told) c.in-Ok-clean_once.ensures.cleans.room.done)
 
 pub returns-in-Err-clean_once-clause-serves : goal.returns-in-Err-clean_once-clause-serves
 returns-in-Err-clean_once-clause-serves g c =
@@ -39,9 +39,9 @@ returns-in-Err-clean_once-clause-serves g c =
       handles = c.begin.new.self.handles;
     } _ _ c.in-Ok.ensures.done
     (clean_fails g.D.SectorDevice.state g.met.D.SectorDevice.lawful c.begin.new.self c.clean_once.new.self running
-    c.in-Err-clean_once.ensures.totals c.in-Ok-check_worn.ensures.young
+    c.in-Err-clean_once.ensures.cleans.room.keeps.totals c.in-Ok-check_worn.ensures.young
     (once_tells g.D.SectorDevice.state g.met.D.SectorDevice.lawful c.begin.new.self.store.log c.clean_once.new.self.log
     (c.are_tables_whole.ensures.memory running).count c.clean_once.ensures.told) c.in-Err-clean_once.fault c.from.result c.from.ensures
-    (λ e. c.in-Err-clean_once.ensures.full (ap Err e)) (λ e. c.in-Err-clean_once.ensures.never (ap Err e))
-    (λ e. c.in-Err-clean_once.ensures.kept (ap Err e)) (λ e. c.in-Err-clean_once.ensures.failed (ap Err e))
-    (λ e. c.in-Err-clean_once.ensures.halted (ap Err e) (not_halted c.begin.new.self running)))
+    (λ e. c.in-Err-clean_once.ensures.cleans.room.full (ap Err e)) (λ e. c.in-Err-clean_once.ensures.cleans.room.never (ap Err e))
+    (λ e. c.in-Err-clean_once.ensures.cleans.room.kept (ap Err e)) (λ e. c.in-Err-clean_once.ensures.cleans.room.failed (ap Err e))
+    (λ e. c.in-Err-clean_once.ensures.cleans.room.halted (ap Err e) (not_halted c.begin.new.self running)))

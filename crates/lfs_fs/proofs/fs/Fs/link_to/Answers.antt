@@ -50,8 +50,8 @@ returns-in-Err g c v from to holder sees reached =
     c.in-Some.last c.in-Some.is c.in_ok-holder.ensures.reads c.in_ok-holder.holder c.in_ok-holder.ensures.taken
     c.if-header-ge-MOST_LINKS.false
     tried record { alloc = tried.alloc; store = c.give_up.new.self; handles = tried.handles }
-    (seen_same g.D.SectorDevice.state tried c.give_up.new.self c.give_up.ensures.log
-    c.give_up.ensures.saved)
+    (seen_same g.D.SectorDevice.state tried c.give_up.new.self c.give_up.ensures.keeps.log
+    c.give_up.ensures.keeps.saved)
     c.in-Err.ensures.still c.in-Err.fault c.in-Err.ensures.refused
 
 pub accept-requires-clause-room : goal.accept-requires-clause-room

@@ -33,7 +33,7 @@ returns-in-Err-clause-refused g c =
     record { alloc = c.draft_entry.new.self.alloc; store = c.give_up.new.self; handles = c.draft_entry.new.self.handles }
     c.args.directory.value c.args.header c.args.number.value (new_kind c.args.self.now.store.log.version c.args.kind c.args.text.now)
     c.args.name.now c.in-Err.fault c.in-Err.ensures.still
-    (seen_same g.D.SectorDevice.state c.draft_entry.new.self c.give_up.new.self c.give_up.ensures.log c.give_up.ensures.saved)
+    (seen_same g.D.SectorDevice.state c.draft_entry.new.self c.give_up.new.self c.give_up.ensures.keeps.log c.give_up.ensures.keeps.saved)
     c.in-Err.ensures.refused
 
 pub accept-requires-clause-room : goal.accept-requires-clause-room

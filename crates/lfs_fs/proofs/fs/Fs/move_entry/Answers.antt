@@ -31,7 +31,8 @@ returns-in-Err-clause-refused g c = inr (record {
   mid = c.draft_move.new.self;
   still = c.in-Err.ensures.still;
   fails = c.in-Err.ensures.refused;
-  same = seen_same g.D.SectorDevice.state c.draft_move.new.self c.give_up.new.self c.give_up.ensures.log c.give_up.ensures.saved;
+  same = seen_same g.D.SectorDevice.state c.draft_move.new.self c.give_up.new.self c.give_up.ensures.keeps.log
+      c.give_up.ensures.keeps.saved;
 })
 
 pub accept-requires-clause-room : goal.accept-requires-clause-room

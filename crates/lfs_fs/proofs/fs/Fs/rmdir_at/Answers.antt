@@ -63,5 +63,5 @@ returns-in-Err g c v path reached =
       handles = c.draft_rmdir.new.self.handles;
     })
     (seen_same g.D.SectorDevice.state c.draft_rmdir.new.self c.give_up.new.self
-    c.give_up.ensures.log c.give_up.ensures.saved)
+    c.give_up.ensures.keeps.log c.give_up.ensures.keeps.saved)
     c.in-Err.fault c.in-Err.ensures.refused

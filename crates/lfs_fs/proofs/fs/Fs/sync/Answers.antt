@@ -14,7 +14,7 @@ returns-in-Ok-commit g c =
     record { alloc = c.begin.new.self.alloc; store = c.commit.new.self; handles = c.begin.new.self.handles } _ _ c.in-Ok.ensures.done
     (sync_done_serves g.D.SectorDevice.state g.met.D.SectorDevice.lawful c.begin.new.self c.commit.new.self
     (still_running g.D.SectorDevice.state g.met.D.SectorDevice.lawful c.args.self.now c.begin.new.self c.in-Ok.ensures.done)
-    c.in-Ok-commit.ensures.totals c.in-Ok-commit.ensures.told c.in-Ok-commit.ensures.done c.in-Ok-commit.ensures.saved)
+    c.in-Ok-commit.ensures.keeps.totals c.in-Ok-commit.ensures.told c.in-Ok-commit.ensures.done c.in-Ok-commit.ensures.saved)
 
 pub returns-in-Err-commit : goal.returns-in-Err-commit
 returns-in-Err-commit g c =
@@ -22,6 +22,6 @@ returns-in-Err-commit g c =
     begun g.D.SectorDevice.state g.met.D.SectorDevice.lawful c.args.self.now c.begin.new.self
     record { alloc = c.begin.new.self.alloc; store = c.commit.new.self; handles = c.begin.new.self.handles } _ _ c.in-Ok.ensures.done
     (sync_fails g.D.SectorDevice.state g.met.D.SectorDevice.lawful c.begin.new.self c.commit.new.self running
-    c.in-Err-commit.ensures.totals c.in-Err-commit.ensures.told c.in-Err-commit.ensures.same c.in-Err-commit.fault c.from.result
+    c.in-Err-commit.ensures.keeps.totals c.in-Err-commit.ensures.told c.in-Err-commit.ensures.same c.in-Err-commit.fault c.from.result
     c.from.ensures (λ e. c.in-Err-commit.ensures.full (ap Err e)) (λ e. c.in-Err-commit.ensures.unsaved (ap Err e))
     (λ e. c.in-Err-commit.ensures.halted (ap Err e) (not_halted c.begin.new.self running)) (λ e. c.in-Err-commit.ensures.other (ap Err e)))

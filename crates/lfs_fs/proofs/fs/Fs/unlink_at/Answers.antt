@@ -50,7 +50,7 @@ returns-in-Err g c v path reached =
     c.in_ok-entry.entry.header c.in_ok-entry.ensures.has
     c.draft_unlink.new.self c.in-Err.ensures.still (Unlink path) refl refl
     record { alloc = c.draft_unlink.new.self.alloc; store = c.give_up.new.self; handles = c.draft_unlink.new.self.handles }
-    (seen_same g.D.SectorDevice.state c.draft_unlink.new.self c.give_up.new.self c.give_up.ensures.log c.give_up.ensures.saved)
+    (seen_same g.D.SectorDevice.state c.draft_unlink.new.self c.give_up.new.self c.give_up.ensures.keeps.log c.give_up.ensures.keeps.saved)
     c.in-Err.fault c.in-Err.ensures.refused
 
 pub accept-requires-clause-room : goal.accept-requires-clause-room

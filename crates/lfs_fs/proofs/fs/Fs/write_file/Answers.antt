@@ -23,10 +23,10 @@ returns-in-Ok g c handle opens few =
     c.in_ok-header.header
     c.in_ok-header.ensures.answer
     record {
-      reads = c.in-Ok.ensures.reads;
-      saved = c.in-Ok.ensures.saved;
-      blocks = ap (λ (t : BlockTotals). t.data_blocks) c.in-Ok.ensures.reads.totals;
-      others = ap (λ (t : BlockTotals). t.meta_blocks) c.in-Ok.ensures.reads.totals;
+      reads = c.in-Ok.ensures.redrafts.reads;
+      saved = c.in-Ok.ensures.redrafts.saved;
+      blocks = ap (λ (t : BlockTotals). t.data_blocks) c.in-Ok.ensures.redrafts.reads.totals;
+      others = ap (λ (t : BlockTotals). t.meta_blocks) c.in-Ok.ensures.redrafts.reads.totals;
       table = refl;
     }
     c.accept.new.self c.accept.ensures.rest c.accept.result c.accept.ensures.done c.accept.ensures.refused c.in-Ok.ensures.counted
@@ -37,7 +37,7 @@ pub returns-in-Err : goal.returns-in-Err
 returns-in-Err g c handle opens few =
     given_up_serves g.D.SectorDevice.state g.met.D.SectorDevice.lawful c.args.self.now c.header.new.self c.write_at.new.self
     c.give_up.new.self _ c.requires.running c.in_ok-header.ensures.reads.still
-    c.in-Err.ensures.reads c.in-Err.ensures.saved c.give_up.ensures.log c.give_up.ensures.saved
+    c.in-Err.ensures.redrafts.reads c.in-Err.ensures.redrafts.saved c.give_up.ensures.keeps.log c.give_up.ensures.keeps.saved
     refl refl c.in-Err.fault c.in-Err.ensures.failed (λ on. c.in-Err.ensures.halted (ap Err on))
     (λ full. c.in-Err.ensures.other (ap Err full)) c.from.result c.from.ensures
 
