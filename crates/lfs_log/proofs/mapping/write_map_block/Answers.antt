@@ -19,7 +19,8 @@ returns-in_err-write-clause-stopped g c =
     (place_stops c.args.memory.now c.next_place-address.new.self _ true c.args.age c.next_place-address.result c.requires.memory
     c.next_place-address.ensures.placed
     (g.D.SectorDevice.state c.args.device.now) (g.D.SectorDevice.state c.write.new.device) c.args.bytes.now
-    c.in_err-write.ensures.crash c.in_err-write.ensures.asks.carries c.in_err-write.ensures.asks.time (g.met.D.SectorDevice.lawful c.args.device.now)
+    c.in_err-write.ensures.crash c.in_err-write.ensures.asks.carries c.in_err-write.ensures.asks.time
+    (g.met.D.SectorDevice.lawful c.args.device.now)
     c.in_err-write.ensures.failed_write c.in_err-write.ensures.asks.failed)
 
 -- src/mapping.rt:19:1
@@ -41,5 +42,6 @@ returns-clause-done g c =
     (map_goes v c.next_place-address.new.self _ c.args.age c.next_place-address.result c.requires.memory c.next_place-address.ensures.placed
     c.args.index map' sets
     (g.D.SectorDevice.state c.args.device.now) (g.D.SectorDevice.state c.write.new.device) c.args.bytes.now
-    c.in_ok-write.ensures.crash c.in_ok-write.ensures.asks.carries c.in_ok-write.ensures.asks.time (g.met.D.SectorDevice.lawful c.args.device.now)
+    c.in_ok-write.ensures.crash c.in_ok-write.ensures.asks.carries c.in_ok-write.ensures.asks.time
+    (g.met.D.SectorDevice.lawful c.args.device.now)
     c.in_ok-write.ensures.written refl c.requires.wanted c.requires.spelt c.requires.empty c.in_ok-write.ensures.asks.no_failure)

@@ -10,7 +10,8 @@ returns-in_err-seal-clause-stopped g c =
     (Stops (g.D.SectorDevice.state c.args.device.now) (g.D.SectorDevice.state c.seal.new.device) c.args.memory.now)
     (seal_stops (g.D.SectorDevice.state c.args.device.now) (g.D.SectorDevice.state c.seal.new.device) c.args.memory.now c.requires.memory
     c.requires.begun
-    (g.met.D.SectorDevice.lawful c.args.device.now) c.in_err-seal.ensures.entries c.in_err-seal.ensures.crash c.in_err-seal.ensures.asks.carries
+    (g.met.D.SectorDevice.lawful c.args.device.now) c.in_err-seal.ensures.entries c.in_err-seal.ensures.crash
+    c.in_err-seal.ensures.asks.carries
     c.in_err-seal.ensures.asks.time
     c.in_err-seal.ensures.failed_write c.in_err-seal.ensures.asks.failed)
 
@@ -19,6 +20,7 @@ pub returns-clause-done : goal.returns-clause-done
 returns-clause-done g c =
     seal_goes (g.D.SectorDevice.state c.args.device.now) (g.D.SectorDevice.state c.seal.new.device) c.args.memory.now c.requires.memory
     c.requires.begun
-    (g.met.D.SectorDevice.lawful c.args.device.now) c.in_ok-seal.ensures.entries c.in_ok-seal.ensures.crash c.in_ok-seal.ensures.asks.carries
+    (g.met.D.SectorDevice.lawful c.args.device.now) c.in_ok-seal.ensures.entries c.in_ok-seal.ensures.crash
+    c.in_ok-seal.ensures.asks.carries
     c.in_ok-seal.ensures.asks.time
     c.seal.new.self c.in_ok-seal.ensures.ended c.in_ok-seal.ensures.asks.no_failure c.in_ok-seal.ensures.written

@@ -21,7 +21,8 @@ returns-in_err-write-clause-stopped g c =
     (place_stops c.args.memory.now c.next_place-address.new.self c.name.result
     (not c.is_hidden-lives.result) c.args.age c.next_place-address.result c.requires.memory c.next_place-address.ensures.placed
     (g.D.SectorDevice.state c.args.device.now) (g.D.SectorDevice.state c.write.new.device) c.unwrap-bytes.result.now
-    c.in_err-write.ensures.crash c.in_err-write.ensures.asks.carries c.in_err-write.ensures.asks.time (g.met.D.SectorDevice.lawful c.args.device.now)
+    c.in_err-write.ensures.crash c.in_err-write.ensures.asks.carries c.in_err-write.ensures.asks.time
+    (g.met.D.SectorDevice.lawful c.args.device.now)
     c.in_err-write.ensures.failed_write c.in_err-write.ensures.asks.failed)
 
 -- src/placing.rt:46:1
@@ -41,7 +42,8 @@ returns-clause-done g c =
     x c.file.result file c.point.new.self.map (subst (λ (a : MapValue). IsPointedAt a c.point.new.self.map x c.next_place-address.result)
     c.next_place-address.ensures.placed.map c.point.ensures.points) (g.D.SectorDevice.state c.args.device.now)
     (g.D.SectorDevice.state c.write.new.device) c.unwrap-bytes.result.now c.moved.new.self
-    c.in_ok-write.ensures.crash c.in_ok-write.ensures.asks.carries c.in_ok-write.ensures.asks.time (g.met.D.SectorDevice.lawful c.args.device.now)
+    c.in_ok-write.ensures.crash c.in_ok-write.ensures.asks.carries c.in_ok-write.ensures.asks.time
+    (g.met.D.SectorDevice.lawful c.args.device.now)
     c.in_ok-write.ensures.written c.name.ensures.entry c.requires.lowest there
     (subst (λ (t : TableValue). Moves (blocks_of t) (blocks_of c.moved.new.self) x c.next_place-address.result)
     c.next_place-address.ensures.placed.dirty c.moved.ensures.moves)

@@ -26,5 +26,6 @@ returns-in_err-write-clause-stopped g c =
     let e = c.in_err-write.ensures in
     on_err _ _ (write_stops_at (g.D.SectorDevice.state c.args.device.now) (g.D.SectorDevice.state c.write.new.device) c.args.memory.now
     c.args.index c.place.inside.address c.spelled-bytes.result.now
-    (g.met.D.SectorDevice.lawful c.args.device.now) (c.requires.anew c.args.index c.requires.index stale) at e.failed_write e.crash e.asks.failed
+    (g.met.D.SectorDevice.lawful c.args.device.now) (c.requires.anew c.args.index c.requires.index stale) at e.failed_write e.crash
+    e.asks.failed
     e.asks.carries e.asks.time)

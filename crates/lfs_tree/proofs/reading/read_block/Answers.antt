@@ -24,7 +24,8 @@ returns-clause-answer g c = on_ok_weaker c.read_sector.result (λ read k m n see
     let old = g.D.SectorDevice.state c.args.device.now in
     let mid = g.D.SectorDevice.state c.locate.new.device in
     let new = g.D.SectorDevice.state c.read_sector.new.device in
-    let looks = looks_call old mid (g.met.D.SectorDevice.lawful c.args.device.now) c.locate.ensures.follows.looks.carries c.locate.ensures.follows.looks.untouched
+    let looks = looks_call old mid (g.met.D.SectorDevice.lawful c.args.device.now) c.locate.ensures.follows.looks.carries
+    c.locate.ensures.follows.looks.untouched
     c.locate.ensures.follows.looks.time in
     let before = sees_first old mid new k m sees c.read_sector.ensures.keeps.looks in
     let some = c.if-address-eq0.false in
@@ -39,7 +40,8 @@ returns-clause-failed g c = on_err_weaker c.read_sector.result (λ fails k m n s
     let old = g.D.SectorDevice.state c.args.device.now in
     let mid = g.D.SectorDevice.state c.locate.new.device in
     let new = g.D.SectorDevice.state c.read_sector.new.device in
-    let looks = looks_call old mid (g.met.D.SectorDevice.lawful c.args.device.now) c.locate.ensures.follows.looks.carries c.locate.ensures.follows.looks.untouched
+    let looks = looks_call old mid (g.met.D.SectorDevice.lawful c.args.device.now) c.locate.ensures.follows.looks.carries
+    c.locate.ensures.follows.looks.untouched
     c.locate.ensures.follows.looks.time in
     let before = sees_first old mid new k m sees c.read_sector.ensures.keeps.looks in
     let some = c.if-address-eq0.false in
