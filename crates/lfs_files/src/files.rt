@@ -5,8 +5,8 @@ ghost use Rattle.lfs_files.specs.Files.{Counts, FilesState, CountsReformed, IsFa
 
 use crate::fault::{LogFault, StoreFault};
 use crate::header::Header;
-use lfs_model::limits::{LARGEST_FILE, SECTOR_LEN};
 use lfs_model::FileNumber;
+use lfs_model::limits::{LARGEST_FILE, SECTOR_LEN};
 
 /// The files of a volume, and a draft of changes to them, which reads see.
 pub trait Files {
