@@ -21,9 +21,9 @@ returns-in-Ok-write_at-clause-drafted g c =
       makes = made.done;
       counts = made.counted;
       writes = subst (λ (h : Held g.row.D.Denot). Writes state h done.log blank.draft.changes done.draft.changes c.args.number.value
-          (first_header kind.Link 0 (length c.args.text.now)) 0 c.args.text.now) made.log wrote.done;
+          (first_header kind.Link 0 (length c.args.text.now)) 0 c.args.text.now) made.keeps.log wrote.done;
       recounts = subst (λ (h : Held g.row.D.Denot).
-          Counts state h done.log blank.draft.changes done.draft.changes blank.drafted done.drafted) made.log wrote.counted;
+          Counts state h done.log blank.draft.changes done.draft.changes blank.drafted done.drafted) made.keeps.log wrote.counted;
     }
 
 pub returns-in-Err-write_at-clause-refused : goal.returns-in-Err-write_at-clause-refused
@@ -36,8 +36,8 @@ returns-in-Err-write_at-clause-refused g c =
       store = c.write_at.new.self;
       handles = c.args.self.now.handles;
     } c.requires.running c.in-Err-write_at.fault
-    (λ device. subst (λ (h : Held g.row.D.Denot). IsReadFault state h c.write_at.new.self.log) made.log (failed.failed device))
-    (λ on. sym (ap (λ (h : Held g.row.D.Denot). h.halted) made.log) ∙ failed.halted (ap Err on)) (λ full. failed.other (ap Err full))
+    (λ device. subst (λ (h : Held g.row.D.Denot). IsReadFault state h c.write_at.new.self.log) made.keeps.log (failed.failed device))
+    (λ on. sym (ap (λ (h : Held g.row.D.Denot). h.halted) made.keeps.log) ∙ failed.halted (ap Err on)) (λ full. failed.other (ap Err full))
     c.from.result c.from.ensures
 
 pub returns-in-Ok-write_at-clause-small : goal.returns-in-Ok-write_at-clause-small

@@ -21,16 +21,16 @@ returns-in-Ok-add-clause-drafted g c =
       linked = store.draft.changes;
       sets = links.done;
       counts = subst (λ (t : BlockTotals). CountsRelinked c.args.self.now.store.draft.changes
-          store.draft.changes c.args.number.value c.args.header t) links.drafted links.counted;
+          store.draft.changes c.args.number.value c.args.header t) links.keeps.drafted links.counted;
       adds = subst (λ (h : Held g.row.D.Denot). Adds state h files.log store.draft.changes
           files.draft.changes c.args.directory.value c.args.holder c.args.number.value c.args.name.now)
-          links.log
+          links.keeps.log
           (log_adds state store files c.args.directory.value c.args.holder c.args.number.value c.args.name.now
           added.done);
       recounts = subst (λ (t : BlockTotals). Counts state c.args.self.now.store.log files.log
-          store.draft.changes files.draft.changes t files.drafted) links.drafted
+          store.draft.changes files.draft.changes t files.drafted) links.keeps.drafted
           (subst (λ (h : Held g.row.D.Denot). Counts state h files.log store.draft.changes
-          files.draft.changes store.drafted files.drafted) links.log
+          files.draft.changes store.drafted files.drafted) links.keeps.log
           (log_counts state store files c.add.ensures.redrafts added.counted));
     }
 
@@ -45,9 +45,9 @@ returns-in-Err-add-clause-refused g c =
       handles = c.args.self.now.handles;
     } in
     none_drafted state c.args.self.now tried c.requires.running c.in-Err-add.fault
-    (λ device. subst (λ (h : Held g.row.D.Denot). IsReadFault state h c.add.new.files.log) links.log
+    (λ device. subst (λ (h : Held g.row.D.Denot). IsReadFault state h c.add.new.files.log) links.keeps.log
     (store_failed state c.set_links.new.self c.add.new.files (failed.failed device)))
-    (λ on. sym (ap (λ (h : Held g.row.D.Denot). h.halted) links.log) ∙ failed.halted (ap Err on))
+    (λ on. sym (ap (λ (h : Held g.row.D.Denot). h.halted) links.keeps.log) ∙ failed.halted (ap Err on))
     (λ full. failed.other (ap Err full)) c.from.result c.from.ensures
 
 pub returns-in-Ok-add-clause-small : goal.returns-in-Ok-add-clause-small

@@ -7,8 +7,8 @@ use Rattle.lfs_fs.proofs.fs.Fs.drop_object.Goals as goal
 
 pub returns-in-Ok-clause-still : goal.returns-in-Ok-clause-still
 returns-in-Ok-clause-still g c =
-    still_store g.D.SectorDevice.state c.args.self.now c.remove.new.self c.in-Ok.ensures.reads
-    c.in-Ok.ensures.saved
+    still_store g.D.SectorDevice.state c.args.self.now c.remove.new.self c.in-Ok.ensures.redrafts.reads
+    c.in-Ok.ensures.redrafts.saved
 
 pub returns-in-Ok-clause-lost : goal.returns-in-Ok-clause-lost
 returns-in-Ok-clause-lost g c =
@@ -16,8 +16,8 @@ returns-in-Ok-clause-lost g c =
 
 pub returns-in-Err-clause-still : goal.returns-in-Err-clause-still
 returns-in-Err-clause-still g c =
-    still_store g.D.SectorDevice.state c.args.self.now c.remove.new.self c.in-Err.ensures.reads
-    c.in-Err.ensures.saved
+    still_store g.D.SectorDevice.state c.args.self.now c.remove.new.self c.in-Err.ensures.redrafts.reads
+    c.in-Err.ensures.redrafts.saved
 
 pub returns-in-Err-clause-refused : goal.returns-in-Err-clause-refused
 returns-in-Err-clause-refused g c =
