@@ -1,17 +1,15 @@
 -- One pass where it is due, behind a commit of what is unsaved.
-use Rattle.std.proofs.Common.{◌≡◌, ◌<◌, ◌≤◌, ◌+◌, ◌*◌, ◌/◌, inl, inr, ⊎_elim, ℕ, false, length, sym, subst, arith}
+use Rattle.std.proofs.Common.{◌≡◌, ◌<◌, ◌≤◌, ◌+◌, ◌*◌, ◌/◌, inl, ⊎_elim, ℕ, true, false, length, sym, subst, arith}
 use Rattle.std.proofs.Math.Nat.{mul-le-mul_right, one-mul}
-use Rattle.lfs_model.specs.Checkpoint.{CheckpointValue, IsSegmentCount}
-use Rattle.lfs_model.specs.Device.{DeviceState, IsLawful, Carries}
-use Rattle.lfs_model.specs.Stands.{LogMap}
+use Rattle.lfs_model.specs.Checkpoint.{IsSegmentCount}
+use Rattle.lfs_model.specs.Device.{DeviceState, IsLawful}
 use Rattle.lfs_log.specs.memory.segments.Table.{clean_in}
-use Rattle.lfs_log.specs.Held.{AreAllSaved, Held, Halts, Reads, waiting_in}
+use Rattle.lfs_log.specs.Held.{AreAllSaved, Held, Reads}
 use Rattle.lfs_log.specs.Saving.{commit_orders, pass_orders}
-use Rattle.lfs_cleaner.specs.Passing.{IsUnfit}
-use Rattle.lfs_cleaner.specs.Room.{CleansOnce, CommitsUnsaved, HaltsLater, IsReadied, KeepsMap, MayNotMakeRoom, PassesInNeed}
-use Rattle.lfs_cleaner.specs.Room.{PassesWhereDue, most_checkpoints, once_orders, room_orders}
-use Rattle.lfs_cleaner.proofs.Rooms.{halts_at_once, halts_then, halts_weaker, keeps_none, keeps_reads, keeps_then, keeps_weaker}
-use Rattle.lfs_cleaner.proofs.Rooms.{repeats_passes}
+use Rattle.lfs_cleaner.specs.Passing.{FailsPass, IsUnfit, RefusesPass}
+use Rattle.lfs_cleaner.specs.Room.{CleansOnce, CommitsUnsaved, FailsPasses, KeepsMap, LacksPasses, MayNotMakeRoom, PassesInNeed}
+use Rattle.lfs_cleaner.specs.Room.{PassesWhereDue, once_orders, room_orders}
+use Rattle.lfs_cleaner.proofs.Rooms.{keeps_none, keeps_reads, keeps_weaker, read_fault, repeats_passes}
 use Rattle.lfs_cleaner.proofs.RoomBounds.{may_pass, passes_none, segment_count}
 
 -- ---- orders
@@ -28,12 +26,13 @@ once_within n count = let least = count.least in more (n / 8) (8 * n + 4) (omega
 
 module _ {D : Type 0} (state : D → DeviceState) where
   -- a pass may be made where room can be
-  pub unfit_lacks : (h now : Held D) → IsLawful (state h.device) → h.halted ≡ false → AreAllSaved h
+  unfit_lacks : (h now : Held D) → IsLawful (state h.device) → h.halted ≡ false → h.saved ≡ true → AreAllSaved h
       → 4 * clean_in h.memory.usage.segments < length h.memory.usage.segments
       → Reads state h now → IsUnfit state h now → MayNotMakeRoom state h now
-  unfit_lacks h now lawful running nothing few reads unfit k m0 m keeps may =
+  unfit_lacks h now lawful running all nothing few reads unfit k m0 m keeps may =
       let least = (segment_count state h k m0 m lawful may.holds).least in
-      let next = may_pass state h h 0 nothing (passes_none state h lawful running) few k m0 m (reads.looks.carries.kept_before keeps) may
+      let next =
+      may_pass state h h 0 all nothing (passes_none state h lawful running) few k m0 m (reads.looks.carries.kept_before keeps) may
       (omega (arith, least)) in
       unfit next.0 next.1 m keeps next.2
 
@@ -46,20 +45,19 @@ module _ {D : Type 0} (state : D → DeviceState) where
       (keeps_weaker state h h 0 1 (keeps_none state h lawful running) (omega arith)))
       due
 
-  module _ (a b c : Held D) (ready : IsReadied state a b) where
-    pub once_keeps : IsSegmentCount (length a.memory.usage.segments) → KeepsMap state b c 1 → KeepsMap state a c (most_checkpoints a)
-    once_keeps count one =
-        let least = count.least in
-        keeps_weaker state a c _ _ (keeps_then state a b c _ ready.repeats.keeps _ one) (omega (arith, least))
+  -- ---- a pass that isn't made
+  pub lacks_pass : (h now : Held D) → IsLawful (state h.device) → h.halted ≡ false → h.saved ≡ true → AreAllSaved h
+      → 4 * clean_in h.memory.usage.segments < length h.memory.usage.segments → RefusesPass state h now → LacksPasses state h now 0
+  lacks_pass h now lawful running all nothing few refuses = record {
+    keeps = keeps_reads state h now lawful running refuses.reads;
+    never = unfit_lacks h now lawful running all nothing few refuses.reads refuses.unfit;
+  }
 
-    pub once_reads : IsLawful (state b.device) → Reads state b c → KeepsMap state a c (most_checkpoints a)
-    once_reads lawful reads =
-        keeps_weaker state a c _ _
-        (keeps_then state a b c _ ready.repeats.keeps 0 (keeps_reads state b c lawful ready.repeats.keeps.running reads)) (omega arith)
-
-    pub once_halts : Halts state b c → HaltsLater state a c (most_checkpoints a)
-    once_halts halts =
-        halts_weaker state a c _ _ (halts_then state a b c _ ready.repeats.keeps 0 (halts_at_once state b c halts)) (omega arith)
+  pub fails_pass : (h now : Held D) → IsLawful (state h.device) → h.halted ≡ false → FailsPass state h now → FailsPasses state h now 0
+  fails_pass h now lawful running fails = record {
+    keeps = keeps_reads state h now lawful running fails.reads;
+    fault = read_fault state h now fails.fault;
+  }
 
   -- a pass behind a commit
   pub once_behind : (a b c : Held D) → CommitsUnsaved state a b → PassesWhereDue state b c → CleansOnce state a c

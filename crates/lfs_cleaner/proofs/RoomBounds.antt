@@ -1,10 +1,11 @@
 -- Where room can be made each pass may begin, and an eighth of the segments of them suffice.
-use Rattle.std.proofs.Common.{◌≡◌, ◌<◌, ◌≤◌, ◌+◌, ◌-◌, ◌*◌, ◌/◌, ◌^◌, ⊎_elim, ℕ, false, List, [], ◌∷◌, length, refl, sym, ◌∙◌, ap, subst}
+use Rattle.std.proofs.Common.{◌≡◌, ◌<◌, ◌≤◌, ◌+◌, ◌-◌, ◌*◌, ◌/◌, ◌^◌, ⊎_elim, inl, inr, cond, ℕ, Bool, true, false, List, length, refl}
+use Rattle.std.proofs.Common.{sym, ◌∙◌, ap, subst}
 use Rattle.std.proofs.Common.{arith}
-use Rattle.std.specs.Prelude.{Result, Ok, Err, OnOk, min}
+use Rattle.std.specs.Prelude.{Result, Ok, Err, IsErrOf, OnErr, OnOk}
 use Rattle.lfs_model.specs.Checkpoint.{CheckpointValue, IsSegmentCount}
 use Rattle.lfs_model.specs.declared.Order.{Order}
-use Rattle.lfs_model.specs.Device.{DeviceState, IsLawful, Carries}
+use Rattle.lfs_model.specs.Device.{DeviceState, IsLawful}
 use Rattle.lfs_model.specs.Stands.{LogMap}
 use Rattle.lfs_model.specs.Totals.{IsCounted}
 use Rattle.lfs_model.specs.TreeOf.{dropped}
@@ -12,20 +13,39 @@ use Rattle.lfs_model.proofs.Newest.{newest_fits}
 use Rattle.lfs_log.specs.memory.segments.Table.{clean_in}
 use Rattle.lfs_log.specs.verify.declared.totals.BlockTotals.{BlockTotals}
 use Rattle.lfs_log.specs.segments.Early.{AreUntaken}
-use Rattle.lfs_log.specs.Held.{AreAllSaved, Held, Halts, Holds, IsFull, Saves, waiting_in}
-use Rattle.lfs_log.proofs.Unsaved.{all_saved}
+use Rattle.lfs_log.specs.Held.{AreAllSaved, Held, Halts, Holds, IsFull, Saves, commits_due}
+use Rattle.lfs_log.specs.memory.files.declared.fault.LogFault.{LogFault}
+use Rattle.lfs_log.specs.memory.files.declared.fault.LogFault.TheVariants as log
 use Rattle.lfs_cleaner.specs.Passing.{CanPass}
 use Rattle.lfs_log.specs.Saving.{commit_orders, pass_orders}
 use Rattle.std.proofs.Math.Nat.{add-mul, mul-le-mul_right, one-mul}
-use Rattle.lfs_cleaner.specs.Room.{CleansQuarter, HaltsLater, HasQuarter, IsReadied, IsRoomFault, IsWithin, KeepsMap, MayMakeRoom}
-use Rattle.lfs_cleaner.specs.Room.{MayNotMakeRoom, PassesDone, PassesInNeed, Repeats, most_checkpoints, passes_orders, room_orders}
-use Rattle.lfs_cleaner.proofs.Rooms.{fault_then, halts_at_once, halts_then, halts_weaker, keeps_then, keeps_weaker, repeats_none}
-use Rattle.lfs_cleaner.proofs.Rooms.{repeats_passes, repeats_saves, repeats_then, repeats_weaker}
+use Rattle.lfs_cleaner.specs.Room.{CleansQuarter, FailsPasses, FailsRoom, HaltsLater, HasQuarter}
+use Rattle.lfs_cleaner.specs.Room.{IsReadied}
+use Rattle.lfs_cleaner.specs.Room.{IsWithin, KeepsMap, LacksPasses, LacksRoom, MakesRoom, MayMakeRoom, PassesDone}
+use Rattle.lfs_cleaner.specs.Room.{PassesInNeed, Repeats, SavesAll, most_checkpoints, passes_orders, room_orders}
+use Rattle.lfs_cleaner.proofs.Rooms.{acknowledges_still, fault_then, halts_at_once, halts_then, halts_weaker, keeps_none, keeps_saves}
+use Rattle.lfs_cleaner.proofs.Rooms.{keeps_then, keeps_weaker, repeats_none, repeats_passes, repeats_then, rest_saves, saved_then}
+use Rattle.lfs_cleaner.proofs.Rooms.{saves_all}
 
 -- what two facts of a success give, holds of it
 pub on_success : {T E : Type 0} (r : Result T E) (P Q R : Type 0) → (P → Q → R) → OnOk r P → OnOk r Q → OnOk r R
 on_success (Ok x) P Q R give p q = give p q
 on_success (Err f) P Q R give p q = tt
+
+-- a fault that is neither Device nor Halted is Full
+pub full_else : {T : Type 0} (r : Result T LogFault) (P : Type 0) → (IsErrOf r log.Full → P) → (IsErrOf r log.Device → ⊥)
+    → (IsErrOf r log.Halted → ⊥) → OnErr r P
+full_else (Ok x) P full device halted = tt
+full_else (Err log.Full) P full device halted = full refl
+full_else (Err log.Device) P full device halted = absurd (device refl)
+full_else (Err log.Halted) P full device halted = absurd (halted refl)
+
+-- how many commits are due
+due_one : {D : Type 0} (h : Held D) → h.saved ≡ false → commits_due h ≡ 1
+due_one h is = ap (λ (all : Bool). cond {A = ℕ} all 0 1) is
+
+due_none : {D : Type 0} (h : Held D) → h.saved ≡ true → commits_due h ≡ 0
+due_none h is = ap (λ (all : Bool). cond {A = ℕ} all 0 1) is
 
 -- ---- orders
 one_more : (count p : ℕ) → (count + 1) * p ≡ count * p + p
@@ -102,9 +122,9 @@ module _ {D : Type 0} (state : D → DeviceState) where
   -- nothing is unsaved between two passes
   pub nothing_between : (h now : Held D) (count : ℕ) → AreAllSaved h → PassesDone state h now count → AreAllSaved now
   nothing_between h now count nothing done =
-      ⊎_elim (λ (same : now ≡ h). subst (λ (x : Held D). AreAllSaved x) (sym same) nothing) (λ all. all.empty) done.repeats.saved
+      ⊎_elim (λ (same : now ≡ h). subst (λ (x : Held D). AreAllSaved x) (sym same) nothing) (λ all. all.rest.nothing) done.repeats.saved
 
-  module _ (h now : Held D) (count : ℕ) (nothing : AreAllSaved h) (done : PassesDone state h now count)
+  module _ (h now : Held D) (count : ℕ) (on : h.saved ≡ true) (nothing : AreAllSaved h) (done : PassesDone state h now count)
       (few : 4 * clean_in now.memory.usage.segments < length now.memory.usage.segments)
       (k : CheckpointValue) (m0 m : LogMap) (keeps : (state now.device).keeps_model) (may : MayMakeRoom state h k m0 m) where
     -- the next pass may begin
@@ -114,7 +134,7 @@ module _ {D : Type 0} (state : D → DeviceState) where
         let above = ap (λ (t : BlockTotals). t.meta_blocks) done.repeats.keeps.totals in
         let size = done.repeats.keeps.segments in
         let gains = done.gains in
-        let many = may.many in
+        let many = (may.holds.rest on).many in
         let number = done.repeats.keeps.number in
         let most = may.number in
         let need = may.need in
@@ -126,9 +146,9 @@ module _ {D : Type 0} (state : D → DeviceState) where
             holds = over.holds;
             map = may.map;
             nothing = ⊎_elim (λ (same : now ≡ h). subst (λ (x : Held D). AreAllSaved x) (sym same) nothing)
-                (λ all. all.empty) done.repeats.saved;
-            untaken = ⊎_elim (λ (same : now ≡ h). subst (λ (x : Held D). AreUntaken x.memory.usage) (sym same) (may.untaken nothing))
-                (λ all. all.untaken) done.repeats.saved;
+                (λ all. all.rest.nothing) done.repeats.saved;
+            untaken = ⊎_elim (λ (same : now ≡ h). subst (λ (x : Held D). AreUntaken x.memory.usage) (sym same) (may.holds.rest on).untaken)
+                (λ all. all.rest.untaken) done.repeats.saved;
             few = few;
             many = omega (arith, size, gains, many);
             counted = above ∙ all_above;
@@ -142,19 +162,20 @@ module _ {D : Type 0} (state : D → DeviceState) where
     passes_suffice lawful all =
         let size = done.repeats.keeps.segments in
         let gains = done.gains in
-        let many = may.many in
+        let many = (may.holds.rest on).many in
         let eighths = (segment_count h k m0 m lawful may.holds).eighths in
         omega (arith, all, size, gains, many, few, eighths)
 
   -- what is unsaved is saved, and room can be made still
-  pub room_saved : (h now : Held D) (k : CheckpointValue) (m0 m : LogMap) → Saves state h now → now.totals ≡ h.totals → 0 < waiting_in h
+  room_saved : (h now : Held D) (k : CheckpointValue) (m0 m : LogMap) → h.saved ≡ false → Saves state h now → now.totals ≡ h.totals
       → (state now.device).keeps_model → MayMakeRoom state h k m0 m → (next : CheckpointValue) × MayMakeRoom state now next (dropped m) m
-  room_saved h now k m0 m s totals some keeps may =
+  room_saved h now k m0 m some s totals keeps may =
       let next = s.holds k m0 m keeps may.holds may.shown in
-      let none = all_saved now s.empty in
       let size = s.segments in
       let rose = s.number in
-      let most = may.number in (
+      let most = may.number in
+      let due = due_one h some in
+      let none = due_none now s.saved in (
         next.0,
         record {
           holds = next.1;
@@ -162,60 +183,115 @@ module _ {D : Type 0} (state : D → DeviceState) where
           shown = may.shown;
           counted = subst (λ (t : BlockTotals). IsCounted m t.data_blocks t.meta_blocks) (sym totals) may.counted;
           need = same_need h now totals size may.need;
-          many = s.many;
-          enough = λ (lt : 0 < waiting_in now). absurd (omega (arith, lt, none));
-          untaken = λ e. s.untaken;
-          number = omega (arith, none, size, rose, most, some);
+          enough = λ never. absurd (let all = s.saved in cc);
+          number = omega (arith, none, due, size, rose, most);
         },
       )
 
   -- where room can be made a commit finds enough clean segments
-  pub commit_fits : (h : Held D) (k : CheckpointValue) (m0 m : LogMap) → IsLawful (state h.device) → 0 < waiting_in h → IsFull h
+  pub commit_fits : (h : Held D) (k : CheckpointValue) (m0 m : LogMap) → IsLawful (state h.device) → h.saved ≡ false → IsFull h
       → MayMakeRoom state h k m0 m → ⊥
   commit_fits h k m0 m lawful some full may =
       let enough = may.enough some in
       let most = may.number in
+      let due = due_one h some in
       let eighths = (segment_count h k m0 m lawful may.holds).eighths in
       ⊎_elim
       (λ (few : 8 * clean_in h.memory.usage.segments < length h.memory.usage.segments + 64). omega (arith, enough, eighths, few))
-      (λ (high : 2 ^ 64 - 1 ≤ h.number). omega (arith, most, high, some))
+      (λ (last : 2 ^ 64 - 1 ≤ h.number). omega (arith, due, most, last))
       full
 
   -- ---- what is unsaved is saved first
-  pub readied_none : (h : Held D) → IsLawful (state h.device) → h.halted ≡ false → AreAllSaved h → IsReadied state h h
-  readied_none h lawful running nothing = record {
-    repeats = repeats_weaker state h h 0 (min 1 (waiting_in h)) (repeats_none state h lawful running) (omega arith);
+  pub readied_none : (h : Held D) → IsLawful (state h.device) → h.halted ≡ false → h.saved ≡ true → AreAllSaved h → IsReadied state h h
+  readied_none h lawful running all nothing = record {
+    saved = all;
+    commits = inr (all, nothing, refl);
+    keeps = keeps_weaker state h h 0 _ (keeps_none state h lawful running) (omega arith);
+    no_failure = refl;
     nothing = nothing;
     room = λ k m0 m keeps may. (k, m0, may);
   }
 
-  pub readied_saves : (h now : Held D) → Saves state h now → now.totals ≡ h.totals → 0 < waiting_in h → IsReadied state h now
-  readied_saves h now s totals some = record {
-    repeats = repeats_weaker state h now 1 (min 1 (waiting_in h)) (repeats_saves state h now some s totals) (omega (arith, some));
+  pub readied_saves : (h now : Held D) → h.saved ≡ false → Saves state h now → now.totals ≡ h.totals → IsReadied state h now
+  readied_saves h now some s totals = record {
+    saved = s.saved;
+    commits = inl (some, s);
+    keeps = keeps_weaker state h now 1 _ (keeps_saves state h now s totals) (let due = due_one h some in omega (arith, due));
+    no_failure = s.no_failure;
     nothing = s.empty;
-    room = λ k m0 m keeps may. let next = room_saved h now k m0 m s totals some keeps may in (next.0, dropped m, next.1);
+    room = λ k m0 m keeps may. let next = room_saved h now k m0 m some s totals keeps may in (next.0, dropped m, next.1);
   }
 
-  module _ (a b c : Held D) (ready : IsReadied state a b) where
-    few_more : min 1 (waiting_in a) + length b.memory.usage.segments / 8 ≤ most_checkpoints a
-    few_more = let size = ready.repeats.keeps.segments in omega (arith, size)
+  -- ---- nothing is done
+  pub makes_none : (h : Held D) → IsLawful (state h.device) → h.halted ≡ false → MakesRoom state h h
+  makes_none h lawful running = record {
+    keeps = keeps_weaker state h h 0 _ (keeps_none state h lawful running) (omega arith);
+    unsaved = λ e. (e, record { number = refl; fewer = omega arith; capacity = refl; clean = λ enough. enough });
+    all = λ e. inl e;
+    rest = λ e was. was e;
+  }
 
-    pub quarter_after : Repeats state b c (length b.memory.usage.segments / 8) → HasQuarter c → CleansQuarter state a c
-    quarter_after passes enough = (repeats_weaker state a c _ _ (repeats_then state a b c _ _ ready.repeats passes) few_more, enough)
+  pub quarter_none : (h : Held D) → IsLawful (state h.device) → h.halted ≡ false → HasQuarter h → CleansQuarter state h h
+  quarter_none h lawful running enough =
+      record { makes = makes_none h lawful running; works = inr refl; no_failure = refl; quarter = enough }
 
-    pub keeps_after : KeepsMap state b c (length b.memory.usage.segments / 8) → KeepsMap state a c (most_checkpoints a)
-    keeps_after passes = keeps_weaker state a c _ _ (keeps_then state a b c _ ready.repeats.keeps _ passes) few_more
-
-    pub lacks_after : Carries (state b.device) (state c.device) → MayNotMakeRoom state b c → MayNotMakeRoom state a c
-    lacks_after after lacks k m0 m keeps may = let next = ready.room k m0 m (after.kept_before keeps) may in
-        lacks next.0 next.1 m keeps next.2
-
-    pub fault_after : Carries (state b.device) (state c.device) → IsRoomFault state b c → IsRoomFault state a c
-    fault_after after failed = fault_then state a b c _ ready.repeats.keeps after failed
-
-    pub halts_after : HaltsLater state b c (length b.memory.usage.segments / 8) → HaltsLater state a c (most_checkpoints a)
-    halts_after halts = halts_weaker state a c _ _ (halts_then state a b c _ ready.repeats.keeps _ halts) few_more
+  -- a commit finds too few clean segments
+  pub lacks_commit : (h now : Held D) → IsLawful (state h.device) → h.halted ≡ false → now ≡ h → IsFull h → h.saved ≡ false
+      → LacksRoom state h now
+  lacks_commit h now lawful running same full some = record {
+    makes = subst (λ (x : Held D). MakesRoom state h x) (sym same) (makes_none h lawful running);
+    never = λ k m0 m keeps may. commit_fits h k m0 m lawful some full may;
+  }
 
   -- a failed commit
   pub halts_first : (a b : Held D) → Halts state a b → HaltsLater state a b (most_checkpoints a)
   halts_first a b halts = halts_weaker state a b 0 _ (halts_at_once state a b halts) (omega arith)
+
+  -- ---- passes behind a commit
+  module _ (a b c : Held D) (ready : IsReadied state a b) (x : ℕ) (few : x ≤ length a.memory.usage.segments / 8) where
+    keeps_after : KeepsMap state b c x → KeepsMap state a c (most_checkpoints a)
+    keeps_after passes = keeps_weaker state a c _ _ (keeps_then state a b c _ ready.keeps x passes) (omega (arith, few))
+
+    pub makes_after : KeepsMap state b c x → MakesRoom state a c
+    makes_after passes = record {
+      keeps = keeps_after passes;
+      unsaved = λ none. absurd (let all = passes.saved ready.saved in cc);
+      all = λ e. ⊎_elim (λ done. inr (acknowledges_still state a b c x (saves_all state a b done.1).holds passes))
+          (λ none. inl none.0) ready.commits;
+      rest = λ e was. ⊎_elim (λ done. passes.rest (rest_saves state a b done.1))
+          (λ none. (keeps_after passes).rest (was none.0)) ready.commits;
+    }
+
+    pub lacks_after : LacksPasses state b c x → LacksRoom state a c
+    lacks_after lacks = record {
+      makes = makes_after lacks.keeps;
+      never = λ k m0 m keeps may. (let next = ready.room k m0 m (lacks.keeps.carries.kept_before keeps) may in
+          lacks.never next.0 next.1 m keeps next.2);
+    }
+
+    pub fails_after : FailsPasses state b c x → FailsRoom state a c
+    fails_after fails = record {
+      makes = makes_after fails.keeps;
+      fault = fault_then state a b c _ ready.keeps fails.keeps.carries fails.fault;
+    }
+
+    pub halts_after : HaltsLater state b c x → HaltsLater state a c (most_checkpoints a)
+    halts_after halts = halts_weaker state a c _ _ (halts_then state a b c _ ready.keeps x halts) (omega (arith, few))
+
+    pub quarter_after : Repeats state b c x → HasQuarter c → CleansQuarter state a c
+    quarter_after done enough = record {
+      makes = makes_after done.keeps;
+      works = inl (record {
+        between = b;
+        commits = ready.commits;
+        passes = (let p = done.passes in let most = p.1 in (p.0, omega (arith, most, few), p.2));
+        saves = ⊎_elim
+            (λ first. ⊎_elim (λ (same : c ≡ b). inl (subst (λ (h : Held D). SavesAll state a h) (sym same) (saves_all state a b first.1)))
+            (λ (more : SavesAll state b c). inl (saved_then state a b c _ ready.keeps done.keeps.carries more)) done.saved)
+            (λ none. ⊎_elim (λ (same : c ≡ b). inr (same ∙ none.2))
+            (λ (more : SavesAll state b c). inl (saved_then state a b c _ ready.keeps done.keeps.carries more)) done.saved)
+            ready.commits;
+      });
+      no_failure = done.no_failure ∙ ready.no_failure;
+      quarter = enough;
+    }

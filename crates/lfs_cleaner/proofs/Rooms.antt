@@ -1,5 +1,5 @@
 -- Commits and passes, one after the other: the log map stays, and what a stop leaves is the one or the other.
-use Rattle.std.proofs.Common.{◌≡◌, ◌<◌, ◌≤◌, ◌+◌, ◌*◌, inl, inr, ⊎_elim, ℕ, zero, suc, false, List, [], length, refl, sym, ◌∙◌, ap, subst}
+use Rattle.std.proofs.Common.{◌≡◌, ◌≤◌, ◌+◌, ◌*◌, inl, inr, ⊎_elim, ℕ, zero, suc, false, List, length, refl, sym, ◌∙◌, ap, subst}
 use Rattle.std.proofs.Common.{arith}
 use Rattle.std.specs.Prelude.{◌⊎◌}
 use Rattle.lfs_model.specs.Checkpoint.{CheckpointValue}
@@ -19,9 +19,10 @@ use Rattle.lfs_log.proofs.of_memory.Looses.{loose, tight_again}
 use Rattle.lfs_log.proofs.of_memory.Presents.{looks_quiet, still_log}
 use Rattle.lfs_log.proofs.Volumes.{same_segments}
 use Rattle.lfs_log.specs.Cleaning.{Cleans}
-use Rattle.lfs_log.specs.Held.{Held, Halts, Holds, IsReadFault, IsSaved, LeavesSaved, Reads, Saves, waiting_in}
+use Rattle.lfs_log.specs.Held.{Held, Halts, Holds, IsReadFault, IsSaved, LeavesSaved, Reads, Saves}
 use Rattle.lfs_log.specs.segments.Early.{AreUntaken}
-use Rattle.lfs_cleaner.specs.Room.{HaltsLater, HoldsOver, IsAtRest, IsRoomFault, KeepsMap, PassesInNeed, Repeats, SavesAll, WorksOn}
+use Rattle.lfs_cleaner.specs.Room.{Acknowledges, HaltsLater, HoldsOver, IsAtRest, IsRoomFault, KeepsMap, PassesInNeed, PassesOn, Repeats}
+use Rattle.lfs_cleaner.specs.Room.{SavesAll}
 
 module _ {D : Type 0} (state : D → DeviceState) where
   -- ---- one step
@@ -38,21 +39,11 @@ module _ {D : Type 0} (state : D → DeviceState) where
     number = omega arith;
     segments = refl;
     totals = refl;
+    saved = λ all. all;
     rest = λ rest. rest;
     holds = λ k m0 m keeps is map. record { checkpoint = k; acknowledged = m0; either = inl refl; same = refl; holds = is };
     moment = λ k m0 m keeps is map.
         started (state h.device) (IsSaved state k.segments m0 m) lawful (λ c left. inl (acknowledged h k m0 m is c left));
-  }
-
-  -- the device was only read
-  held_still : (a b : Held D) (k : CheckpointValue) (m0 m : LogMap) → Reads state a b → Holds state a k m0 m → Holds state b k m0 m
-  held_still a b k m0 m reads is = record {
-    log = subst (λ (v : LogMemory). IsLog (state b.device) v k m0 m) (sym reads.memory)
-        (let s = still_log (state a.device) (state b.device) a.memory k m0 m reads.looks (loose (state a.device) a.memory k m0 m is.log) in
-        tight_again (state b.device) a.memory k m0 m s is.log.tight);
-    number = is.number ∙ sym reads.number;
-    version = is.version ∙ sym reads.version;
-    running = reads.halted ∙ is.running;
   }
 
   -- memory is as it was
@@ -62,6 +53,19 @@ module _ {D : Type 0} (state : D → DeviceState) where
         reads.upgraded (subst (λ (v : LogMemory). AreUntaken v.usage) (sym reads.memory) rest.untaken);
     untaken = subst (λ (v : LogMemory). AreUntaken v.usage) (sym reads.memory) rest.untaken;
     many = subst (λ (v : LogMemory). length v.usage.segments ≤ 8 * clean_in v.usage.segments) (sym reads.memory) rest.many;
+  }
+
+  -- the device was only read
+  pub held_still : (a b : Held D) (k : CheckpointValue) (m0 m : LogMap) → Reads state a b → Holds state a k m0 m → Holds state b k m0 m
+  held_still a b k m0 m reads is = record {
+    log = subst (λ (v : LogMemory). IsLog (state b.device) v k m0 m) (sym reads.memory)
+        (let s = still_log (state a.device) (state b.device) a.memory k m0 m reads.looks (loose (state a.device) a.memory k m0 m is.log) in
+        tight_again (state b.device) a.memory k m0 m s is.log.tight);
+    number = is.number ∙ sym reads.number;
+    version = is.version ∙ sym reads.version;
+    running = reads.halted ∙ is.running;
+    nothing_new = λ all. is.nothing_new (sym reads.saved ∙ all);
+    rest = λ all. rest_reads a b reads (is.rest (sym reads.saved ∙ all));
   }
 
   -- after a commit, and after a pass
@@ -79,6 +83,7 @@ module _ {D : Type 0} (state : D → DeviceState) where
     number = (let same = reads.number in omega (arith, same));
     segments = subst (λ (v : LogMemory). length v.usage.segments ≡ length a.memory.usage.segments) (sym reads.memory) refl;
     totals = reads.totals;
+    saved = λ all. reads.saved ∙ all;
     rest = λ rest. rest_reads a b reads rest;
     holds = λ k m0 m keeps is map.
         record { checkpoint = k; acknowledged = m0; either = inl refl; same = refl; holds = held_still a b k m0 m reads is };
@@ -88,10 +93,10 @@ module _ {D : Type 0} (state : D → DeviceState) where
   }
 
   pub saves_all : (h h' : Held D) → Saves state h h' → SavesAll state h h'
-  saves_all h h' s = record { empty = s.empty; untaken = s.untaken; holds = s.holds }
+  saves_all h h' s = record { saved = s.saved; rest = rest_saves h h' s; holds = s.holds }
 
   pub cleans_all : (h h' : Held D) (vs : List ℕ) → Cleans state h h' vs → SavesAll state h h'
-  cleans_all h h' vs s = record { empty = s.empty; untaken = s.untaken; holds = s.holds }
+  cleans_all h h' vs s = record { saved = s.saved; rest = rest_cleans h h' vs s; holds = s.holds }
 
   saved_over : (h h' : Held D) → length h'.memory.usage.segments ≡ length h.memory.usage.segments → SavesAll state h h'
       → (k : CheckpointValue) (m0 m : LogMap) → (state h'.device).keeps_model → Holds state h k m0 m → IsLogMap (dropped m)
@@ -114,6 +119,7 @@ module _ {D : Type 0} (state : D → DeviceState) where
     number = (let n = s.number in omega (arith, n));
     segments = s.segments;
     totals = totals;
+    saved = λ all. s.saved;
     rest = λ rest. rest_saves h h' s;
     holds = saved_over h h' s.segments (saves_all h h' s);
     moment = s.moment;
@@ -127,6 +133,7 @@ module _ {D : Type 0} (state : D → DeviceState) where
     number = (let n = s.number in omega (arith, n));
     segments = s.segments;
     totals = totals;
+    saved = λ all. s.saved;
     rest = λ rest. rest_cleans h h' vs s;
     holds = saved_over h h' s.segments (cleans_all h h' vs s);
     moment = s.moment;
@@ -140,6 +147,7 @@ module _ {D : Type 0} (state : D → DeviceState) where
     number = (let n = one.number in omega (arith, n, le));
     segments = one.segments;
     totals = one.totals;
+    saved = one.saved;
     rest = one.rest;
     holds = one.holds;
     moment = one.moment;
@@ -191,6 +199,7 @@ module _ {D : Type 0} (state : D → DeviceState) where
       number = (let n = one.number in let n' = two.number in omega (arith, n, n'));
       segments = two.segments ∙ one.segments;
       totals = two.totals ∙ one.totals;
+      saved = λ all. two.saved (one.saved all);
       rest = λ rest. two.rest (one.rest rest);
       holds = λ k m0 m keeps is map.
           let over = one.holds k m0 m (two.carries.kept_before keeps) is map in
@@ -200,8 +209,8 @@ module _ {D : Type 0} (state : D → DeviceState) where
 
     pub saved_then : Carries (state b.device) (state c.device) → SavesAll state b c → SavesAll state a c
     saved_then after all = record {
-      empty = all.empty;
-      untaken = all.untaken;
+      saved = all.saved;
+      rest = all.rest;
       holds = λ k m0 m keeps is map.
           let over = one.holds k m0 m (after.kept_before keeps) is map in
           all.holds over.checkpoint over.acknowledged m keeps over.holds map;
@@ -254,25 +263,17 @@ module _ {D : Type 0} (state : D → DeviceState) where
   pub read_fault : (a b : Held D) → IsReadFault state a b → IsRoomFault state a b
   read_fault a b failed k m0 m keeps is map = failed k m0 m keeps is
 
-  -- ---- commits and passes that are done
+  -- ---- passes that are done
   pub repeats_none : (h : Held D) → IsLawful (state h.device) → h.halted ≡ false → Repeats state h h 0
   repeats_none h lawful running =
-      record { works = (0, omega arith, refl); keeps = keeps_none h lawful running; no_failure = refl; saved = inl refl }
-
-  pub repeats_saves : (h h' : Held D) → 0 < waiting_in h → Saves state h h' → h'.totals ≡ h.totals → Repeats state h h' 1
-  repeats_saves h h' some s totals = record {
-    works = (1, omega arith, (h, refl, inl (some, s)));
-    keeps = keeps_saves h h' s totals;
-    no_failure = s.no_failure;
-    saved = inr (saves_all h h' s);
-  }
+      record { passes = (0, omega arith, refl); keeps = keeps_none h lawful running; no_failure = refl; saved = inl refl }
 
   pub repeats_passes : (h h' : Held D) → PassesInNeed state h h' → h'.totals ≡ h.totals → Repeats state h h' 1
   repeats_passes h h' need totals =
       let vs = need.passes.victims in
       let s = need.passes.cleans in
       record {
-        works = (1, omega arith, (h, refl, inr need));
+        passes = (1, omega arith, (h, refl, need));
         keeps = keeps_cleans h h' vs s totals;
         no_failure = s.no_failure;
         saved = inr (cleans_all h h' vs s);
@@ -280,29 +281,29 @@ module _ {D : Type 0} (state : D → DeviceState) where
 
   pub repeats_weaker : (a b : Held D) (x y : ℕ) → Repeats state a b x → x ≤ y → Repeats state a b y
   repeats_weaker a b x y one le = record {
-    works = (let w = one.works in let few = w.1 in (w.0, omega (arith, few, le), w.2));
+    passes = (let w = one.passes in let few = w.1 in (w.0, omega (arith, few, le), w.2));
     keeps = keeps_weaker a b x y one.keeps le;
     no_failure = one.no_failure;
     saved = one.saved;
   }
 
   -- what was done first, and then the rest
-  works_then : (a b c : Held D) (x y : ℕ) → WorksOn state x a b → WorksOn state y b c
-      → (count : ℕ) × (count ≤ x + y) × WorksOn state count a c
-  works_then a b c x zero one two = (x, omega arith, subst (λ (h : Held D). WorksOn state x a h) (sym two) one)
-  works_then a b c x (suc y) one two =
-      let rest = works_then a b two.0 x y one two.1 in
+  passes_then : (a b c : Held D) (x y : ℕ) → PassesOn state x a b → PassesOn state y b c
+      → (count : ℕ) × (count ≤ x + y) × PassesOn state count a c
+  passes_then a b c x zero one two = (x, omega arith, subst (λ (h : Held D). PassesOn state x a h) (sym two) one)
+  passes_then a b c x (suc y) one two =
+      let rest = passes_then a b two.0 x y one two.1 in
       let few = rest.1 in
       (suc rest.0, omega (arith, few), (two.0, rest.2, two.2))
 
   pub repeats_then : (a b c : Held D) (x y : ℕ) → Repeats state a b x → Repeats state b c y → Repeats state a c (x + y)
   repeats_then a b c x y one two = record {
-    works =
-        let w = one.works in
-        let w' = two.works in
+    passes =
+        let w = one.passes in
+        let w' = two.passes in
         let few = w.1 in
         let few' = w'.1 in
-        let both = works_then a b c w.0 w'.0 w.2 w'.2 in
+        let both = passes_then a b c w.0 w'.0 w.2 w'.2 in
         let all = both.1 in
         (both.0, omega (arith, few, few', all), both.2);
     keeps = keeps_then a b c x one.keeps y two.keeps;
@@ -312,3 +313,12 @@ module _ {D : Type 0} (state : D → DeviceState) where
         (λ (all : SavesAll state b c). inr (saved_then a b c x one.keeps two.keeps.carries all))
         two.saved;
   }
+
+  -- what a commit acknowledged stays so
+  pub acknowledges_still : (a b c : Held D) (x : ℕ) → Acknowledges state a b → KeepsMap state b c x → Acknowledges state a c
+  acknowledges_still a b c x all passes k m0 m keeps is map =
+      let first = all k m0 m (passes.carries.kept_before keeps) is map in
+      let over = passes.holds first.0 (dropped m) m keeps first.1 map in
+      let same : over.acknowledged ≡ dropped m = ⊎_elim (λ (old : over.acknowledged ≡ dropped m). old)
+      (λ (new : over.acknowledged ≡ dropped m). new) over.either in
+      (over.checkpoint, subst (λ (l : LogMap). Holds state c over.checkpoint l m) same over.holds)

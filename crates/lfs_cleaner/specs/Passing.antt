@@ -8,7 +8,8 @@ use Rattle.lfs_model.specs.Totals.{data_in, meta_in}
 use Rattle.lfs_log.specs.segments.Table.{clean_in}
 use Rattle.lfs_log.specs.segments.Victims.{AreVictims, IsChosen, pass_limit}
 use Rattle.lfs_log.specs.Cleaning.{Cleans}
-use Rattle.lfs_log.specs.Held.{Held, Holds, AreAllSaved}
+use Rattle.lfs_log.specs.Thresholds.{IsEighthClean}
+use Rattle.lfs_log.specs.Held.{Held, Holds, IsReadFault, Reads, AreAllSaved}
 use Rattle.lfs_log.specs.segments.Early.{AreUntaken}
 
 module _ {D : Type 0} (state : D → DeviceState) where
@@ -30,7 +31,7 @@ module _ {D : Type 0} (state : D → DeviceState) where
     pub nothing : AreAllSaved h
     pub untaken : AreUntaken h.memory.usage
     pub few : 4 * clean_in h.memory.usage.segments < length h.memory.usage.segments
-    pub many : length h.memory.usage.segments ≤ 8 * clean_in h.memory.usage.segments
+    pub many : IsEighthClean h.memory.usage
     pub counted : h.totals.meta_blocks ≡ meta_in m
     pub need : data_in m + 7 * meta_in m + 720 ≤ 47 * length h.memory.usage.segments
     pub number : h.number < 2 ^ 64 - 1
@@ -39,3 +40,13 @@ module _ {D : Type 0} (state : D → DeviceState) where
   abbrev pub IsUnfit : Held D → Held D → Type 0
   IsUnfit h h' = (k : CheckpointValue) (m0 m : LogMap) → (state h'.device).keeps_model
       → CanPass h k m0 m → ⊥
+
+  -- It isn't made: the log was only read, and has no such map.
+  pub record RefusesPass (h h' : Held D) : Type 0 where
+    pub reads : Reads state h h'
+    pub unfit : IsUnfit h h'
+
+  -- A call of the device failed: the log was only read.
+  pub record FailsPass (h h' : Held D) : Type 0 where
+    pub reads : Reads state h h'
+    pub fault : IsReadFault state h h'

@@ -1,5 +1,5 @@
 -- What is left where the cleaner makes room: it commits what is unsaved, and passes until a quarter of the segments is clean.
-use Rattle.std.specs.Prelude.{◌≡◌, ◌⊎◌, ◌<◌, ◌≤◌, ◌+◌, ◌-◌, ◌*◌, ◌/◌, ◌^◌, ℕ, zero, suc, true, false, length, min}
+use Rattle.std.specs.Prelude.{◌≡◌, ◌⊎◌, ◌<◌, ◌≤◌, ◌+◌, ◌-◌, ◌*◌, ◌/◌, ◌^◌, ℕ, zero, suc, true, false, length}
 use Rattle.lfs_model.specs.Checkpoint.{CheckpointValue}
 use Rattle.lfs_model.specs.Device.{DeviceState, Carries, AllLeft}
 use Rattle.lfs_model.specs.Encodes.{IsLogMap}
@@ -7,9 +7,10 @@ use Rattle.lfs_model.specs.Stands.{LogMap}
 use Rattle.lfs_model.specs.Totals.{IsCounted}
 use Rattle.lfs_model.specs.TreeOf.{dropped}
 use Rattle.lfs_log.specs.memory.segments.Table.{clean_in}
-use Rattle.lfs_log.specs.Held.{Held, Holds, IsSaved, LeavesSaved, AreAllSaved, Saves, waiting_in}
-use Rattle.lfs_log.specs.segments.Early.{AreUntaken}
+pub use Rattle.lfs_log.specs.Held.{IsAtRest}
+use Rattle.lfs_log.specs.Held.{Held, Holds, IsSaved, LeavesSaved, AreAllSaved, Saves, commits_due}
 use Rattle.lfs_log.specs.Saving.{commit_orders, pass_orders}
+use Rattle.lfs_log.specs.Thresholds.{HasReserve, IsQuarterClean}
 use Rattle.lfs_cleaner.specs.Passing.{Passes}
 
 -- the need of the files, by the totals of the log, is within the volume
@@ -19,14 +20,7 @@ IsWithin h =
 
 -- a quarter of the segments is clean
 abbrev pub HasQuarter : {D : Type 0} → Held D → Type 0
-HasQuarter h = length h.memory.usage.segments ≤ 4 * clean_in h.memory.usage.segments
-
--- What holds where all is saved, after a mount, a commit or a pass. No sector was taken since, and an
--- eighth of the segments is clean at least.
-pub record IsAtRest {D : Type 0} (h : Held D) : Type 0 where
-  pub nothing : AreAllSaved h
-  pub untaken : AreUntaken h.memory.usage
-  pub many : length h.memory.usage.segments ≤ 8 * clean_in h.memory.usage.segments
+HasQuarter h = IsQuarterClean h.memory.usage
 
 -- how many orders passes give the device at most, where there are so many segments: they are an eighth of these
 abbrev pub passes_orders : ℕ → ℕ
@@ -40,9 +34,17 @@ room_orders segments = commit_orders + passes_orders segments
 abbrev pub once_orders : ℕ → ℕ
 once_orders segments = commit_orders + pass_orders segments
 
--- how many checkpoints are written at most: one where anything waits for one, and one for each pass
+-- how many checkpoints are written at most: one where anything is unsaved, and one for each pass
 abbrev pub most_checkpoints : {D : Type 0} → Held D → ℕ
-most_checkpoints h = length h.memory.usage.segments / 8 + min 1 (waiting_in h)
+most_checkpoints h = length h.memory.usage.segments / 8 + commits_due h
+
+-- What isn't saved stays so: no checkpoint was written, memory has no more blocks and takes as many, and enough segments are clean for a
+-- commit where enough were.
+pub record StaysUnsaved {D : Type 0} (h h' : Held D) : Type 0 where
+  pub number : h'.number ≡ h.number
+  pub fewer : length h'.memory.dirty.blocks ≤ length h.memory.dirty.blocks
+  pub capacity : h'.memory.dirty.capacity ≡ h.memory.dirty.capacity
+  pub clean : HasReserve h.memory.usage → HasReserve h'.memory.usage
 
 module _ {D : Type 0} (state : D → DeviceState) where
   -- The log has log map m, over what was acknowledged before, m0, or over m without its files of no links. It has so many segments.
@@ -62,19 +64,31 @@ module _ {D : Type 0} (state : D → DeviceState) where
     pub number : h'.number ≤ h.number + most
     pub segments : length h'.memory.usage.segments ≡ length h.memory.usage.segments
     pub totals : h'.totals ≡ h.totals
+    pub saved : h.saved ≡ true → h'.saved ≡ true
     pub rest : IsAtRest h → IsAtRest h'
     pub holds : (k : CheckpointValue) (m0 m : LogMap) → (state h'.device).keeps_model
         → Holds state h k m0 m → IsLogMap (dropped m)
         → HoldsOver k.segments m0 m h'
     pub moment : LeavesSaved state h h'
 
-  -- The log map, without its files of no links, is acknowledged, and nothing of it is unsaved.
+  -- the log map, without its files of no links, is acknowledged then
+  abbrev pub Acknowledges : Held D → Held D → Type 0
+  Acknowledges h h' = (k : CheckpointValue) (m0 m : LogMap) → (state h'.device).keeps_model
+      → Holds state h k m0 m → IsLogMap (dropped m)
+      → (next : CheckpointValue) × Holds state h' next (dropped m) m
+
+  -- It is, and nothing of it is unsaved.
   pub record SavesAll (h h' : Held D) : Type 0 where
-    pub empty : AreAllSaved h'
-    pub untaken : AreUntaken h'.memory.usage
-    pub holds : (k : CheckpointValue) (m0 m : LogMap) → (state h'.device).keeps_model
-        → Holds state h k m0 m → IsLogMap (dropped m)
-        → (next : CheckpointValue) × Holds state h' next (dropped m) m
+    pub saved : h'.saved ≡ true
+    pub rest : IsAtRest h'
+    pub holds : Acknowledges h h'
+
+  -- Room is made, or nothing is done. What isn't saved after it wasn't before.
+  pub record MakesRoom (h h' : Held D) : Type 0 where
+    pub keeps : KeepsMap h h' (most_checkpoints h)
+    pub unsaved : h'.saved ≡ false → (h.saved ≡ false) × StaysUnsaved h h'
+    pub all : h'.saved ≡ true → (h.saved ≡ true) ⊎ Acknowledges h h'
+    pub rest : h'.saved ≡ true → (h.saved ≡ true → IsAtRest h) → IsAtRest h'
 
   -- A pass that began where all was saved, and fewer than a quarter of the segments was clean.
   pub record PassesInNeed (h h' : Held D) : Type 0 where
@@ -82,18 +96,14 @@ module _ {D : Type 0} (state : D → DeviceState) where
     pub few : 4 * clean_in h.memory.usage.segments < length h.memory.usage.segments
     pub passes : Passes state h h'
 
-  -- a commit, where anything waited for a checkpoint, or such a pass
-  abbrev pub Works : Held D → Held D → Type 0
-  Works h h' = ((0 < waiting_in h) × Saves state h h') ⊎ PassesInNeed h h'
-
   -- so many of them, one after the other
-  abbrev pub WorksOn : ℕ → Held D → Held D → Type 0
-  WorksOn zero h h' = h' ≡ h
-  WorksOn (suc count) h h' = (between : Held D) × WorksOn count h between × Works between h'
+  abbrev pub PassesOn : ℕ → Held D → Held D → Type 0
+  PassesOn zero h h' = h' ≡ h
+  PassesOn (suc count) h h' = (between : Held D) × PassesOn count h between × PassesInNeed between h'
 
-  -- Commits and passes that are done, if any.
+  -- Passes that are done, if any.
   pub record Repeats (h h' : Held D) (most : ℕ) : Type 0 where
-    pub works : (count : ℕ) × (count ≤ most) × WorksOn count h h'
+    pub passes : (count : ℕ) × (count ≤ most) × PassesOn count h h'
     pub keeps : KeepsMap h h' most
     pub no_failure : (state h'.device).failures ≡ (state h.device).failures
     pub saved : (h' ≡ h) ⊎ SavesAll h h'
@@ -105,13 +115,23 @@ module _ {D : Type 0} (state : D → DeviceState) where
     pub told : length (state h'.device).told
         ≤ length (state h.device).told + count * pass_orders (length h.memory.usage.segments)
 
-  -- A quarter of the segments is clean.
-  abbrev pub CleansQuarter : Held D → Held D → Type 0
-  CleansQuarter h h' = Repeats h h' (most_checkpoints h) × HasQuarter h'
-
-  -- a commit, or nothing where all is saved
+  -- a commit where anything is unsaved, and nothing where all is saved
   abbrev pub CommitsUnsaved : Held D → Held D → Type 0
-  CommitsUnsaved h h' = Saves state h h' ⊎ (AreAllSaved h × (h' ≡ h))
+  CommitsUnsaved h h' = ((h.saved ≡ false) × Saves state h h') ⊎ ((h.saved ≡ true) × AreAllSaved h × (h' ≡ h))
+
+  -- What isn't saved is committed, and passes follow.
+  pub record CleansOn (h h' : Held D) : Type 0 where
+    pub between : Held D
+    pub commits : CommitsUnsaved h between
+    pub passes : (count : ℕ) × (count ≤ length h.memory.usage.segments / 8) × PassesOn count between h'
+    pub saves : SavesAll h h' ⊎ (h' ≡ h)
+
+  -- A quarter of the segments is clean. Where it was nothing is done.
+  pub record CleansQuarter (h h' : Held D) : Type 0 where
+    pub makes : MakesRoom h h'
+    pub works : CleansOn h h' ⊎ (h' ≡ h)
+    pub no_failure : (state h'.device).failures ≡ (state h.device).failures
+    pub quarter : HasQuarter h'
 
   -- one pass where fewer than a quarter of the segments is clean, and nothing where a quarter is
   abbrev pub PassesWhereDue : Held D → Held D → Type 0
@@ -126,6 +146,11 @@ module _ {D : Type 0} (state : D → DeviceState) where
   -- so where fewer than a quarter of the segments is clean, and nothing where a quarter is
   abbrev pub CleansOnce : Held D → Held D → Type 0
   CleansOnce h h' = CleansBehind h h' ⊎ (HasQuarter h × (h' ≡ h))
+
+  -- it keeps the log map meanwhile
+  pub record MakesOnce (h h' : Held D) : Type 0 where
+    pub makes : MakesRoom h h'
+    pub once : CleansOnce h h'
 
   -- A failure of the device ended a commit or a pass, after at most so many checkpoints.
   pub record HaltsLater (h h' : Held D) (most : ℕ) : Type 0 where
@@ -147,18 +172,15 @@ module _ {D : Type 0} (state : D → DeviceState) where
       → Holds state h k m0 m → IsLogMap (dropped m)
       → (state h.device).failures < (state h'.device).failures
 
-  -- Where room can be made: the need of log map m is within the volume, an eighth of the segments is clean, so many that a commit may come
-  -- where anything waits for a checkpoint, and numbers are left for the checkpoints.
+  -- Where room can be made: the need of log map m is within the volume, enough segments are clean for a commit where anything is unsaved,
+  -- and numbers are left for the checkpoints.
   pub record MayMakeRoom (h : Held D) (k : CheckpointValue) (m0 m : LogMap) : Type 0 where
     pub holds : Holds state h k m0 m
     pub map : IsLogMap m
     pub shown : IsLogMap (dropped m)
     pub counted : IsCounted m h.totals.data_blocks h.totals.meta_blocks
     pub need : IsWithin h
-    pub many : length h.memory.usage.segments ≤ 8 * clean_in h.memory.usage.segments
-    pub enough : 0 < waiting_in h
-        → length h.memory.usage.segments / 8 + 8 ≤ clean_in h.memory.usage.segments
-    pub untaken : AreAllSaved h → AreUntaken h.memory.usage
+    pub enough : h.saved ≡ false → HasReserve h.memory.usage
     pub number : h.number + most_checkpoints h ≤ 2 ^ 64 - 1
 
   -- the log held no map that room can be made beside
@@ -166,9 +188,32 @@ module _ {D : Type 0} (state : D → DeviceState) where
   MayNotMakeRoom h h' = (k : CheckpointValue) (m0 m : LogMap) → (state h'.device).keeps_model
       → MayMakeRoom h k m0 m → ⊥
 
+  -- Passes aren't made: the log has its map still, and none that room can be made beside.
+  pub record LacksPasses (h h' : Held D) (most : ℕ) : Type 0 where
+    pub keeps : KeepsMap h h' most
+    pub never : MayNotMakeRoom h h'
+
+  -- a call of the device failed before one wrote anything
+  pub record FailsPasses (h h' : Held D) (most : ℕ) : Type 0 where
+    pub keeps : KeepsMap h h' most
+    pub fault : IsRoomFault h h'
+
+  -- Room isn't made: the log has its map still, and none that room can be made beside.
+  pub record LacksRoom (h h' : Held D) : Type 0 where
+    pub makes : MakesRoom h h'
+    pub never : MayNotMakeRoom h h'
+
+  -- A call of the device failed before anything more was written: the log has its map still.
+  pub record FailsRoom (h h' : Held D) : Type 0 where
+    pub makes : MakesRoom h h'
+    pub fault : IsRoomFault h h'
+
   -- What was unsaved is saved, and room can be made still.
   pub record IsReadied (h h' : Held D) : Type 0 where
-    pub repeats : Repeats h h' (min 1 (waiting_in h))
+    pub saved : h'.saved ≡ true
+    pub commits : CommitsUnsaved h h'
+    pub keeps : KeepsMap h h' (commits_due h)
+    pub no_failure : (state h'.device).failures ≡ (state h.device).failures
     pub nothing : AreAllSaved h'
     pub room : (k : CheckpointValue) (m0 m : LogMap) → (state h'.device).keeps_model
         → MayMakeRoom h k m0 m → (next : CheckpointValue) × (m1 : LogMap) × MayMakeRoom h' next m1 m

@@ -1,8 +1,8 @@
 //! One pass of the cleaner where it is due: where fewer than a quarter of the segments is clean.
 ghost use Rattle.std.specs.Prelude.{◌≡◌, ◌≢◌, ◌≤◌, ◌+◌, true, false, length, OnOk, IsErrOf};
-ghost use Rattle.lfs_log.specs.Held.{AreAllSaved, Halts, Reads};
+ghost use Rattle.lfs_log.specs.Held.{AreAllSaved};
 ghost use Rattle.lfs_log.specs.Saving.{pass_orders};
-ghost use Rattle.lfs_cleaner.specs.Room.{CleansOnce, HaltsLater, HasQuarter, IsRoomFault, KeepsMap, MayNotMakeRoom, PassesWhereDue, most_checkpoints, once_orders};
+ghost use Rattle.lfs_cleaner.specs.Room.{FailsPasses, FailsRoom, HaltsLater, HasQuarter, LacksPasses, LacksRoom, MakesOnce, PassesWhereDue, most_checkpoints, once_orders};
 
 use crate::passing::pass;
 use crate::room::{commit_unsaved, has_quarter};
@@ -16,17 +16,16 @@ use lfs_log::{Log, LogFault};
 /// As those of `pass`.
 fn pass_where_due<D: SectorDevice>(log: &mut Log<D>) -> Result<(), LogFault>
     requires running { log.old.halted ≡ false }
+    requires saved { log.old.saved ≡ true }
     requires nothing { AreAllSaved log.old }
     ensures done { OnOk result (PassesWhereDue D.SectorDevice.state log.old log.new) }
     ensures totals { log.new.totals ≡ log.old.totals }
-    ensures full { IsErrOf result LogFault.Full → Reads D.SectorDevice.state log.old log.new }
-    ensures lacks { IsErrOf result LogFault.Full
-        → MayNotMakeRoom D.SectorDevice.state log.old log.new }
-    ensures kept { IsErrOf result LogFault.Device → Reads D.SectorDevice.state log.old log.new }
-    ensures failed { IsErrOf result LogFault.Device
-        → IsRoomFault D.SectorDevice.state log.old log.new }
+    ensures full { IsErrOf result LogFault.Full
+        → LacksPasses D.SectorDevice.state log.old log.new 0 }
+    ensures device { IsErrOf result LogFault.Device
+        → FailsPasses D.SectorDevice.state log.old log.new 0 }
     ensures halted { IsErrOf result LogFault.Halted
-        → Halts D.SectorDevice.state log.old log.new }
+        → HaltsLater D.SectorDevice.state log.old log.new 0 }
     ensures told { length (D.state log.new.device).told ≤ length (D.state log.old.device).told
         + pass_orders (length log.old.memory.usage.segments) }
 {
@@ -48,30 +47,26 @@ fn pass_where_due<D: SectorDevice>(log: &mut Log<D>) -> Result<(), LogFault>
 /// one, `Device` where a call of the device failed before anything more was written. `Halted` where
 /// one failed later, or as the log was written before.
 pub fn clean_once<D: SectorDevice>(log: &mut Log<D>) -> Result<(), LogFault>
-    ensures done { OnOk result (CleansOnce D.SectorDevice.state log.old log.new) }
-    ensures alone { AreAllSaved log.old
+    ensures done { OnOk result (MakesOnce D.SectorDevice.state log.old log.new) }
+    ensures alone { log.old.saved ≡ true
         → OnOk result (PassesWhereDue D.SectorDevice.state log.old log.new) }
-    ensures keeps { OnOk result (KeepsMap D.SectorDevice.state log.old log.new
-        (most_checkpoints log.old)) }
     ensures totals { log.new.totals ≡ log.old.totals }
-    ensures full { IsErrOf result LogFault.Full → KeepsMap D.SectorDevice.state log.old log.new
-        (most_checkpoints log.old) }
-    ensures lacks { IsErrOf result LogFault.Full
-        → MayNotMakeRoom D.SectorDevice.state log.old log.new }
-    ensures kept { IsErrOf result LogFault.Device → KeepsMap D.SectorDevice.state log.old log.new
-        (most_checkpoints log.old) }
-    ensures failed { IsErrOf result LogFault.Device
-        → IsRoomFault D.SectorDevice.state log.old log.new }
+    ensures full { IsErrOf result LogFault.Full
+        → LacksRoom D.SectorDevice.state log.old log.new }
+    ensures device { IsErrOf result LogFault.Device
+        → FailsRoom D.SectorDevice.state log.old log.new }
+    ensures told { length (D.state log.new.device).told ≤ length (D.state log.old.device).told
+        + once_orders (length log.old.memory.usage.segments) }
     ensures halted { IsErrOf result LogFault.Halted → log.old.halted ≢ true
         → HaltsLater D.SectorDevice.state log.old log.new (most_checkpoints log.old) }
     ensures still { log.old.halted ≡ true → (log.new ≡ log.old)
         × IsErrOf result LogFault.Halted }
-    ensures told { length (D.state log.new.device).told ≤ length (D.state log.old.device).told
-        + once_orders (length log.old.memory.usage.segments) }
-    ensures saved { AreAllSaved log.old → length (D.state log.new.device).told
-        ≤ length (D.state log.old.device).told
+    ensures saved { log.old.saved ≡ true
+        → length (D.state log.new.device).told ≤ length (D.state log.old.device).told
         + pass_orders (length log.old.memory.usage.segments) }
     ensures quiet { HasQuarter log.old → log.new ≡ log.old }
+    ensures unsaved { (IsErrOf result LogFault.Halted → ⊥) → log.new.saved ≡ false
+        → log.new ≡ log.old }
 {
     if log.is_halted() {
         return Err(LogFault::Halted);

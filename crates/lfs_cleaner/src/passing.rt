@@ -1,11 +1,12 @@
 //! One pass of the cleaner.
 ghost use Rattle.std.specs.Prelude.{◌≡◌, ◌≢◌, ◌≤◌, ◌+◌, true, length, OnOk, IsErrOf};
-ghost use Rattle.lfs_log.specs.Held.{Halts, IsReadFault, Reads};
+ghost use Rattle.lfs_log.specs.Held.{Halts};
 ghost use Rattle.lfs_log.specs.Saving.{pass_orders};
-ghost use Rattle.lfs_cleaner.specs.Passing.{IsUnfit, Passes};
+ghost use Rattle.lfs_cleaner.specs.Passing.{FailsPass, Passes, RefusesPass};
 
 use lfs_device::SectorDevice;
 use lfs_log::memory::segments::victims::victims;
+use lfs_log::thresholds::most_victims;
 use lfs_log::{Log, LogFault};
 
 /// Empties the segments that are chosen by benefit and cost, or by their blocks (`victims`): an
@@ -21,11 +22,10 @@ use lfs_log::{Log, LogFault};
 pub fn pass<D: SectorDevice>(log: &mut Log<D>) -> Result<(), LogFault>
     ensures done { OnOk result (Passes D.SectorDevice.state log.old log.new) }
     ensures totals { log.new.totals ≡ log.old.totals }
-    ensures full { IsErrOf result LogFault.Full → Reads D.SectorDevice.state log.old log.new }
-    ensures lacks { IsErrOf result LogFault.Full → IsUnfit D.SectorDevice.state log.old log.new }
-    ensures kept { IsErrOf result LogFault.Device → Reads D.SectorDevice.state log.old log.new }
-    ensures failed { IsErrOf result LogFault.Device
-        → IsReadFault D.SectorDevice.state log.old log.new }
+    ensures full { IsErrOf result LogFault.Full
+        → RefusesPass D.SectorDevice.state log.old log.new }
+    ensures device { IsErrOf result LogFault.Device
+        → FailsPass D.SectorDevice.state log.old log.new }
     ensures halted { IsErrOf result LogFault.Halted → log.old.halted ≢ true
         → Halts D.SectorDevice.state log.old log.new }
     ensures still { log.old.halted ≡ true → (log.new ≡ log.old)
@@ -37,7 +37,7 @@ pub fn pass<D: SectorDevice>(log: &mut Log<D>) -> Result<(), LogFault>
         return Err(LogFault::Halted);
     }
     log.are_tables_whole();
-    let most = log.usage().segments() / 8 + 1;
+    let most = most_victims(log.usage());
     let Some(chosen) = victims(log.usage(), log.meta(), most, log.number()) else {
         return Err(LogFault::Full);
     };

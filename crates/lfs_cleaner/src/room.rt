@@ -1,13 +1,14 @@
 //! Room in the log: what is unsaved is committed, and passes of the cleaner follow until a quarter
 //! of the segments is clean.
-ghost use Rattle.std.specs.Prelude.{◌≡◌, ◌≢◌, ◌<◌, ◌≤◌, ◌+◌, ◌*◌, ◌/◌, true, false, [], length, OnOk, IsErrOf, IsTrue, IsFalse};
+ghost use Rattle.std.specs.Prelude.{◌≡◌, ◌≢◌, ◌<◌, ◌≤◌, ◌+◌, ◌*◌, ◌/◌, true, false, length, OnOk, OnErr, IsErrOf, IsTrue, IsFalse};
 ghost use Rattle.lfs_log.specs.memory.segments.Table.{clean_in};
-ghost use Rattle.lfs_log.specs.Held.{Halts, IsFull, AreAllSaved, waiting_in};
-ghost use Rattle.lfs_cleaner.specs.Room.{CleansQuarter, CommitsUnsaved, HaltsLater, HasQuarter, IsReadied, IsRoomFault, KeepsMap, MayNotMakeRoom, Repeats, most_checkpoints, passes_orders, room_orders};
+ghost use Rattle.lfs_log.specs.Held.{AreAllSaved, Halts, IsFull};
+ghost use Rattle.lfs_cleaner.specs.Room.{CleansQuarter, FailsPasses, FailsRoom, HaltsLater, HasQuarter, IsReadied, LacksPasses, LacksRoom, Repeats, most_checkpoints, passes_orders, room_orders};
 ghost use Rattle.lfs_log.specs.Saving.{commit_orders};
 
 use crate::passing::pass;
 use lfs_device::SectorDevice;
+use lfs_log::thresholds::{is_quarter_clean, most_passes};
 use lfs_log::{Log, LogFault};
 
 /// Whether a quarter of the segments is clean.
@@ -16,7 +17,7 @@ pub fn has_quarter<D: SectorDevice>(log: &Log<D>) -> bool
     ensures no { IsFalse result → 4 * clean_in log.now.memory.usage.segments
         < length log.now.memory.usage.segments }
 {
-    u64::from(log.segments()) <= 4 * u64::from(log.clean_segments())
+    is_quarter_clean(log.usage())
 }
 
 /// Passes until a quarter of the segments is clean, an eighth of them times at most, for each pass
@@ -28,26 +29,25 @@ pub fn has_quarter<D: SectorDevice>(log: &Log<D>) -> bool
 /// what earlier passes did stays.
 fn pass_until_quarter<D: SectorDevice>(log: &mut Log<D>) -> Result<(), LogFault>
     requires running { log.old.halted ≡ false }
+    requires saved { log.old.saved ≡ true }
     requires nothing { AreAllSaved log.old }
     ensures done { OnOk result (Repeats D.SectorDevice.state log.old log.new
         (length log.old.memory.usage.segments / 8)) }
     ensures enough { OnOk result (HasQuarter log.new) }
     ensures totals { log.new.totals ≡ log.old.totals }
-    ensures full { IsErrOf result LogFault.Full → KeepsMap D.SectorDevice.state log.old log.new
+    ensures full { IsErrOf result LogFault.Full
+        → LacksPasses D.SectorDevice.state log.old log.new
         (length log.old.memory.usage.segments / 8) }
-    ensures lacks { IsErrOf result LogFault.Full
-        → MayNotMakeRoom D.SectorDevice.state log.old log.new }
-    ensures kept { IsErrOf result LogFault.Device → KeepsMap D.SectorDevice.state log.old log.new
+    ensures device { IsErrOf result LogFault.Device
+        → FailsPasses D.SectorDevice.state log.old log.new
         (length log.old.memory.usage.segments / 8) }
-    ensures failed { IsErrOf result LogFault.Device
-        → IsRoomFault D.SectorDevice.state log.old log.new }
     ensures halted { IsErrOf result LogFault.Halted
         → HaltsLater D.SectorDevice.state log.old log.new
         (length log.old.memory.usage.segments / 8) }
     ensures told { length (D.state log.new.device).told ≤ length (D.state log.old.device).told
         + passes_orders (length log.old.memory.usage.segments) }
 {
-    let most = log.segments() / 8;
+    let most = most_passes(log.usage());
     for _ in 0..most {
         if has_quarter(log) {
             return Ok(());
@@ -63,7 +63,7 @@ fn pass_until_quarter<D: SectorDevice>(log: &mut Log<D>) -> Result<(), LogFault>
     Err(LogFault::Full)
 }
 
-/// Commits what waits for a checkpoint, where anything does.
+/// Commits what is unsaved, where anything is: then all is saved.
 ///
 /// # Errors
 ///
@@ -71,15 +71,14 @@ fn pass_until_quarter<D: SectorDevice>(log: &mut Log<D>) -> Result<(), LogFault>
 pub(crate) fn commit_unsaved<D: SectorDevice>(log: &mut Log<D>) -> Result<(), LogFault>
     requires { log.old.halted ≡ false }
     ensures done { OnOk result (IsReadied D.SectorDevice.state log.old log.new) }
-    ensures once { OnOk result (CommitsUnsaved D.SectorDevice.state log.old log.new) }
     ensures totals { log.new.totals ≡ log.old.totals }
-    ensures full { IsErrOf result LogFault.Full → (log.new ≡ log.old) × IsFull log.old }
-    ensures waiting { IsErrOf result LogFault.Full → 0 < waiting_in log.old }
+    ensures full { IsErrOf result LogFault.Full → (log.new ≡ log.old) × IsFull log.old
+        × (log.old.saved ≡ false) }
     ensures halted { IsErrOf result LogFault.Halted → Halts D.SectorDevice.state log.old log.new }
     ensures other { IsErrOf result LogFault.Device → ⊥ }
     ensures told { length (D.state log.new.device).told
         ≤ length (D.state log.old.device).told + commit_orders }
-    ensures quiet { AreAllSaved log.old → log.new ≡ log.old }
+    ensures quiet { log.old.saved ≡ true → log.new ≡ log.old }
 {
     if log.is_saved() {
         return Ok(());
@@ -102,24 +101,22 @@ pub(crate) fn commit_unsaved<D: SectorDevice>(log: &mut Log<D>) -> Result<(), Lo
 pub fn make_room<D: SectorDevice>(log: &mut Log<D>) -> Result<(), LogFault>
     ensures done { OnOk result (CleansQuarter D.SectorDevice.state log.old log.new) }
     ensures totals { log.new.totals ≡ log.old.totals }
-    ensures full { IsErrOf result LogFault.Full → KeepsMap D.SectorDevice.state log.old log.new
-        (most_checkpoints log.old) }
-    ensures lacks { IsErrOf result LogFault.Full
-        → MayNotMakeRoom D.SectorDevice.state log.old log.new }
-    ensures kept { IsErrOf result LogFault.Device → KeepsMap D.SectorDevice.state log.old log.new
-        (most_checkpoints log.old) }
-    ensures failed { IsErrOf result LogFault.Device
-        → IsRoomFault D.SectorDevice.state log.old log.new }
+    ensures full { IsErrOf result LogFault.Full
+        → LacksRoom D.SectorDevice.state log.old log.new }
+    ensures device { IsErrOf result LogFault.Device
+        → FailsRoom D.SectorDevice.state log.old log.new }
+    ensures told { length (D.state log.new.device).told ≤ length (D.state log.old.device).told
+        + room_orders (length log.old.memory.usage.segments) }
     ensures halted { IsErrOf result LogFault.Halted → log.old.halted ≢ true
         → HaltsLater D.SectorDevice.state log.old log.new (most_checkpoints log.old) }
     ensures still { log.old.halted ≡ true → (log.new ≡ log.old)
         × IsErrOf result LogFault.Halted }
-    ensures told { length (D.state log.new.device).told ≤ length (D.state log.old.device).told
-        + room_orders (length log.old.memory.usage.segments) }
-    ensures saved { AreAllSaved log.old → length (D.state log.new.device).told
-        ≤ length (D.state log.old.device).told
+    ensures passes { log.old.saved ≡ true
+        → length (D.state log.new.device).told ≤ length (D.state log.old.device).told
         + passes_orders (length log.old.memory.usage.segments) }
     ensures quiet { HasQuarter log.old → log.new ≡ log.old }
+    ensures unsaved { (IsErrOf result LogFault.Halted → ⊥) → log.new.saved ≡ false
+        → log.new ≡ log.old }
 {
     if log.is_halted() {
         return Err(LogFault::Halted);

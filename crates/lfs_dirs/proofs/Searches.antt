@@ -1,5 +1,5 @@
 -- A name looked up in a directory, block by block.
-use Rattle.std.specs.Prelude.{min, Result, Ok, Err, IfOk, IfSome}
+use Rattle.std.specs.Prelude.{min}
 use Rattle.std.proofs.Common.{◌≡◌, ◌≢◌, ◌<◌, ◌≤◌, ⊎_elim, ◌+◌, ◌*◌, ◌-◌, ℕ, zero, suc, List, [], ◌∷◌, ◌++◌, length, take, drop, get_or}
 use Rattle.std.proofs.Common.{Option, Some, None, refl, sym, ◌∙◌, ap, subst, arith}
 use Rattle.std.proofs.lemmas.Bool.{cases_lt}
@@ -11,13 +11,12 @@ use Rattle.lfs_model.specs.Slot.{slot_in}
 use Rattle.lfs_model.specs.Stands.{LogMap}
 use Rattle.lfs_model.specs.Tree.{byte_cmp}
 use Rattle.lfs_model.specs.TreeOf.{map_of}
-use Rattle.lfs_files.specs.declared.fault.LogFault.{LogFault}
 use Rattle.lfs_files.specs.declared.header.Header.{Header}
 use Rattle.lfs_files.specs.Files.{FilesState, HoldsBlock, IsFault, Reads, TellsBlock}
 use Rattle.lfs_files.proofs.FilesCompose.{reads_more}
 use Rattle.lfs_dirs.specs.Directory.{first_slots, names_at, per_block, slot_count, slots_at}
 use Rattle.lfs_dirs.specs.declared.searching.Found.{Found}
-use Rattle.lfs_dirs.specs.Finding.{HasNoSlot, IsDirectoryFault, IsBlockFault}
+use Rattle.lfs_dirs.specs.Finding.{Finds, HasNoSlot, IsDirectoryFault, IsBlockFault}
 use Rattle.lfs_dirs.specs.Listing.{AreSlots}
 use Rattle.lfs_dirs.specs.Searching.{FindsIn, FindsInBlock, FindsInNth, FindsName, FindsSlot, count_in_nth, slots_in_nth}
 use Rattle.lfs_dirs.proofs.SlotNames.{gives_some, gives_none}
@@ -113,12 +112,6 @@ names_near s s' d head index name found hit m m' keeps has dir =
       slot = slot.slot;
     }
 
-pub near_found : {S D : Type 0} (s s' : FilesState S D) (d : ℕ) (head : Header) (index : ℕ) (name : List ℕ) (r : Result (Option Found)
-    LogFault) → IfOk r (FindsInNth s s' d head index name) → IfOk r (λ found. IfSome found (FindsName s s' d head name))
-near_found s s' d head index name (Ok None) is = tt
-near_found s s' d head index name (Ok (Some found)) is = names_near s s' d head index name found is
-near_found s s' d head index name (Err fault) is = tt
-
 -- ---- the blocks before one of this index don't have the name
 module _ {S D : Type 0} (d : ℕ) (head : Header) (name : List ℕ) where
   pub record SearchedTo (s s' : FilesState S D) (index : ℕ) : Type 0 where
@@ -166,3 +159,9 @@ module _ {S D : Type 0} (d : ℕ) (head : Header) (name : List ℕ) where
 
     pub search_fails : IsDirectoryFault a b d head → IsDirectoryFault s b d head
     search_fails = faults_behind s a b d head was.reads
+
+-- what a name gives by its slot
+pub finds : {S D : Type 0} (s s' : FilesState S D) (d : ℕ) (head : Header) (name : List ℕ) (found : Option Found)
+    → FindsSlot s s' d head name found → Finds s s' d head name found
+finds s s' d head name None none m m' keeps has = sym (none m m' keeps has)
+finds s s' d head name (Some found) some m m' keeps has = sym (some m m' keeps has).gives

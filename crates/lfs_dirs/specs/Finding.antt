@@ -1,5 +1,5 @@
 -- What a search for a name in a directory answers.
-use Rattle.std.specs.Prelude.{◌≡◌, ◌<◌, ◌≤◌, ◌+◌, ◌*◌, ℕ, List, Option, Some, None}
+use Rattle.std.specs.Prelude.{◌≡◌, ◌<◌, ◌≤◌, ◌+◌, ◌*◌, ℕ, List, true, Option, Some, None, Result, IsErrOf}
 use Rattle.std.specs.FinMap.{find}
 use Rattle.lfs_model.specs.Fields.{part}
 use Rattle.lfs_model.specs.Objects.{IsDirectory}
@@ -7,7 +7,10 @@ use Rattle.lfs_model.specs.Slot.{slot_in}
 use Rattle.lfs_model.specs.Stands.{LogMap}
 use Rattle.lfs_model.specs.Tree.{byte_cmp, slot_len}
 use Rattle.lfs_files.specs.declared.header.Header.{Header}
-use Rattle.lfs_files.specs.Files.{FilesState}
+use Rattle.lfs_files.specs.declared.fault.LogFault.TheVariants as log_fault
+use Rattle.lfs_files.specs.declared.fault.StoreFault.{StoreFault}
+use Rattle.lfs_files.specs.declared.fault.StoreFault.TheVariants.{Log}
+use Rattle.lfs_files.specs.Files.{FilesState, Reads}
 use Rattle.lfs_files.specs.Headers.{as_header}
 use Rattle.lfs_dirs.specs.declared.searching.Found.{Found}
 use Rattle.lfs_dirs.specs.Directory.{names_at, per_block, slot_count}
@@ -37,3 +40,9 @@ module _ {S D : Type 0} (s s' : FilesState S D) where
   abbrev pub IsBlockFault : ℕ → ℕ → ℕ → ℕ → Type 0
   IsBlockFault form d index count = (m m' : LogMap) → s'.device.keeps_model → s.has m m' → (head : Header) → head.form ≡ form
       → per_block form * index + count ≤ slot_count head → IsDirectory m' d (as_header head) → s.device.failures < s'.device.failures
+
+  -- What gathers bytes of files only reads them. A halted log says so, and none is full.
+  pub record GathersOnly {A : Type 0} (result : Result A StoreFault) : Type 0 where
+    pub reads : Reads s s'
+    pub halted : IsErrOf result (Log log_fault.Halted) → s.halted ≡ true
+    pub other : IsErrOf result (Log log_fault.Full) → ⊥

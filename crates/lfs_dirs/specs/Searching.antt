@@ -1,5 +1,6 @@
 -- What a search for the slot of a name answers.
-use Rattle.std.specs.Prelude.{◌≡◌, ◌<◌, ◌≤◌, ◌+◌, ◌-◌, ◌*◌, ℕ, List, [], length, take, drop, get_or, min, Option, Some, None}
+use Rattle.std.specs.Prelude.{◌≡◌, ◌<◌, ◌≤◌, ◌+◌, ◌-◌, ◌*◌, ℕ, List, [], length, take, drop, get_or, min, true, Option, Some, None, Result}
+use Rattle.std.specs.Prelude.{IfOk, IfSome, IsErrOf, OnErr}
 use Rattle.std.specs.FinMap.{find}
 use Rattle.lfs_model.specs.Objects.{IsDirectory}
 use Rattle.lfs_model.specs.Slot.{slot_in}
@@ -8,9 +9,12 @@ use Rattle.lfs_model.specs.Tree.{byte_cmp}
 use Rattle.lfs_model.specs.TreeOf.{map_of}
 use Rattle.lfs_files.specs.declared.header.Header.{Header}
 use Rattle.lfs_files.specs.Headers.{as_header}
-use Rattle.lfs_files.specs.Files.{FilesState}
+use Rattle.lfs_files.specs.declared.fault.LogFault.{LogFault}
+use Rattle.lfs_files.specs.declared.fault.LogFault.TheVariants.{Full, Halted}
+use Rattle.lfs_files.specs.Files.{FilesState, Reads}
 use Rattle.lfs_dirs.specs.declared.searching.Found.{Found}
 use Rattle.lfs_dirs.specs.Directory.{per_block, slot_count, slots_at}
+use Rattle.lfs_dirs.specs.Finding.{IsDirectoryFault}
 
 -- One of the slots has the name, and what it gives is what some of them give.
 pub record IsSlotAmong (form : ℕ) (slots some : List (List ℕ)) (name : List ℕ) (found : Found) : Type 0 where
@@ -57,3 +61,12 @@ module _ {S D : Type 0} (s s' : FilesState S D) where
   abbrev pub FindsName : ℕ → Header → List ℕ → Found → Type 0
   FindsName d head name found = (m m' : LogMap) → s'.device.keeps_model → s.has m m' → IsDirectory m' d (as_header head)
       → IsSlotOf head.form (slots_at m' d head) name found
+
+  -- A search for a slot of directory d only reads. Where it fails, a call of the device did, if d is a directory; a halted log says so, and
+  -- none is full.
+  pub record SearchesOnly (d : ℕ) (head : Header) (result : Result (Option Found) LogFault) : Type 0 where
+    pub reads : Reads s s'
+    pub inside : IfOk result (λ found. IfSome found (λ slot. slot.place < slot_count head))
+    pub failed : OnErr result (IsDirectoryFault s s' d head)
+    pub halted : IsErrOf result Halted → s.halted ≡ true
+    pub other : IsErrOf result Full → ⊥

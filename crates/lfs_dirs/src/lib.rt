@@ -4,7 +4,6 @@
 
 mod adding;
 mod entry;
-mod finding;
 pub mod laws;
 mod listing;
 mod repointing;
@@ -15,10 +14,9 @@ mod widening;
 
 pub use adding::add;
 pub use entry::Entry;
-pub use finding::find;
 pub use listing::{ListFault, inspect, list};
 pub use repointing::repoint;
-pub use searching::Found;
+pub use searching::{Found, find};
 pub use slots::{longest_name, slots_in_block, slots_of};
 pub use taking::take;
 pub use widening::widen;

@@ -1,10 +1,10 @@
-//! The slot of a name, searched in a directory.
+//! A name looked up in a directory.
 ghost use Rattle.std.specs.Prelude.{◌≡◌, ◌<◌, ◌≤◌, ◌*◌, ◌/◌, true, IfOk, IfSome, IfNone, OnErr, IsErrOf};
 ghost use Rattle.lfs_files.specs.Files.{Reads};
 ghost use Rattle.lfs_dirs.specs.Directory.{first_slots, per_block, slot_count};
-ghost use Rattle.lfs_dirs.specs.Finding.{HasNoSlot, IsDirectoryFault, IsBlockFault};
+ghost use Rattle.lfs_dirs.specs.Finding.{Finds, HasNoSlot, IsDirectoryFault, IsBlockFault};
 ghost use Rattle.lfs_dirs.specs.Repointing.{Lacks};
-ghost use Rattle.lfs_dirs.specs.Searching.{FindsIn, FindsInBlock, FindsInNth, FindsName, FindsSlot};
+ghost use Rattle.lfs_dirs.specs.Searching.{FindsIn, FindsInBlock, FindsInNth, FindsName, FindsSlot, SearchesOnly};
 
 use crate::slots::{slots_in_block, slots_of};
 use lfs_files::{Files, Header, LogFault};
@@ -20,20 +20,23 @@ pub struct Found {
     pub number: FileNumber,
 }
 
-/// The first slot of this name in a directory of this header, if there is one.
+/// The slot of a name in a directory of this header and the number that it gives, if it is there:
+/// the first slot that has the name.
 ///
 /// # Errors
 ///
 /// As those of `Files::block`; `Device` also where bytes of this name are no slot, as none of a
 /// directory are.
-pub fn search<F: Files>(
+pub fn find<F: Files>(
     files: &mut F,
     directory: FileNumber,
     header: Header,
     name: &[u8],
 ) -> Result<Option<Found>, LogFault>
     ensures reads { Reads (F.state files.old) (F.state files.new) }
-    ensures answer { IfOk result (FindsSlot (F.state files.old) (F.state files.new)
+    ensures answer { IfOk result (Finds (F.state files.old) (F.state files.new)
+        directory.value header name.now) }
+    ensures slot { IfOk result (FindsSlot (F.state files.old) (F.state files.new)
         directory.value header name.now) }
     ensures inside { IfOk result (λ found. IfSome found (λ slot. slot.place < slot_count header)) }
     ensures failed { OnErr result (IsDirectoryFault (F.state files.old)
@@ -58,7 +61,7 @@ pub fn search<F: Files>(
 ///
 /// # Errors
 ///
-/// As those of `search`.
+/// As those of `find`.
 pub fn search_from<F: Files>(
     files: &mut F,
     directory: FileNumber,
@@ -66,46 +69,22 @@ pub fn search_from<F: Files>(
     name: &[u8],
     place: u32,
 ) -> Result<Option<Found>, LogFault>
-    ensures reads { Reads (F.state files.old) (F.state files.new) }
+    ensures searches { SearchesOnly (F.state files.old) (F.state files.new) directory.value header
+        result }
     ensures found { IfOk result (λ found. IfSome found (FindsName (F.state files.old)
         (F.state files.new) directory.value header name.now)) }
     ensures none { IfOk result (λ found. IfNone found (Lacks (F.state files.old)
         (F.state files.new) directory.value header name.now)) }
-    ensures inside { IfOk result (λ found. IfSome found (λ slot. slot.place < slot_count header)) }
-    ensures failed { OnErr result (IsDirectoryFault (F.state files.old)
-        (F.state files.new) directory.value header) }
-    ensures halted { IsErrOf result LogFault.Halted → (F.state files.old).halted ≡ true }
-    ensures other { IsErrOf result LogFault.Full → ⊥ }
 {
-    match search_near(files, directory, header, name, place) {
-        Ok(Some(found)) => Ok(Some(found)),
-        Ok(None) => search(files, directory, header, name),
-        Err(fault) => Err(fault),
+    if place < slots_of(header) {
+        let index = place / slots_in_block(header.form);
+        match search_nth(files, directory, header, index, name) {
+            Ok(Some(found)) => return Ok(Some(found)),
+            Ok(None) => {}
+            Err(fault) => return Err(fault),
+        }
     }
-}
-
-/// The same in that block alone.
-fn search_near<F: Files>(
-    files: &mut F,
-    directory: FileNumber,
-    header: Header,
-    name: &[u8],
-    place: u32,
-) -> Result<Option<Found>, LogFault>
-    ensures reads { Reads (F.state files.old) (F.state files.new) }
-    ensures found { IfOk result (λ found. IfSome found (FindsName (F.state files.old)
-        (F.state files.new) directory.value header name.now)) }
-    ensures inside { IfOk result (λ found. IfSome found (λ slot. slot.place < slot_count header)) }
-    ensures failed { OnErr result (IsDirectoryFault (F.state files.old)
-        (F.state files.new) directory.value header) }
-    ensures halted { IsErrOf result LogFault.Halted → (F.state files.old).halted ≡ true }
-    ensures other { IsErrOf result LogFault.Full → ⊥ }
-{
-    if place >= slots_of(header) {
-        return Ok(None);
-    }
-    let index = place / slots_in_block(header.form);
-    search_nth(files, directory, header, index, name)
+    find(files, directory, header, name)
 }
 
 /// The first slot of this name in one block of a directory.
@@ -117,14 +96,10 @@ fn search_nth<F: Files>(
     name: &[u8],
 ) -> Result<Option<Found>, LogFault>
     requires low { per_block header.form * index < slot_count header }
-    ensures reads { Reads (F.state files.old) (F.state files.new) }
+    ensures searches { SearchesOnly (F.state files.old) (F.state files.new) directory.value header
+        result }
     ensures answer { IfOk result (FindsInNth (F.state files.old) (F.state files.new)
         directory.value header index name.now) }
-    ensures inside { IfOk result (λ found. IfSome found (λ slot. slot.place < slot_count header)) }
-    ensures failed { OnErr result (IsDirectoryFault (F.state files.old)
-        (F.state files.new) directory.value header) }
-    ensures halted { IsErrOf result LogFault.Halted → (F.state files.old).halted ≡ true }
-    ensures other { IsErrOf result LogFault.Full → ⊥ }
 {
     let whole = slots_in_block(header.form);
     let first = whole * index;

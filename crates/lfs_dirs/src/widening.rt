@@ -2,9 +2,9 @@
 ghost use Rattle.std.specs.Prelude.{◌≡◌, ◌≢◌, ◌<◌, ◌≤◌, ◌+◌, ◌*◌, ◌++◌, true, length, IfOk, IfErr, OnOk, IsErrOf, None};
 ghost use Rattle.lfs_model.specs.Slot.{slot_in};
 ghost use Rattle.lfs_model.specs.Tree.{slot_len};
-ghost use Rattle.lfs_files.specs.Files.{Reads, Redrafts};
+ghost use Rattle.lfs_files.specs.Files.{Redrafts};
 ghost use Rattle.lfs_dirs.specs.Directory.{first_slots, per_block, slot_count};
-ghost use Rattle.lfs_dirs.specs.Finding.{HasNoSlot, IsBlockFault, IsDirectoryFault};
+ghost use Rattle.lfs_dirs.specs.Finding.{GathersOnly, HasNoSlot, IsBlockFault, IsDirectoryFault};
 ghost use Rattle.lfs_dirs.specs.Searching.{count_in_nth};
 ghost use Rattle.lfs_dirs.specs.Widening.{AppendsWide, CountsWidened, TellsWide, Widens, WidensBlock, wide_slot};
 
@@ -66,16 +66,13 @@ fn wide_slots<F: Files>(
     header: Header,
 ) -> Result<Vec<u8>, StoreFault>
     requires size { header.size ≤ MOST_ENTRIES * slot_len header.form }
-    ensures reads { Reads (F.state files.old) (F.state files.new) }
+    ensures gathers { GathersOnly (F.state files.old) (F.state files.new) result }
     ensures long { IfOk result (λ slots. length slots.items ≡ slot_len 1 * slot_count header) }
     ensures few { IfOk result (λ slots. length slots.items ≤ MOST_ENTRIES * slot_len 1) }
     ensures answer { IfOk result (λ slots. TellsWide (F.state files.old) (F.state files.new)
         directory.value header slots.items) }
     ensures failed { IfErr result (λ fault. (fault ≡ StoreFault.NoMemory → ⊥)
         → IsDirectoryFault (F.state files.old) (F.state files.new) directory.value header) }
-    ensures halted { IsErrOf result (StoreFault.Log LogFault.Halted)
-        → (F.state files.old).halted ≡ true }
-    ensures other { IsErrOf result (StoreFault.Log LogFault.Full) → ⊥ }
 {
     let all = slots_of(header);
     let whole = slots_in_block(header.form);
@@ -95,7 +92,7 @@ fn widen_nth<F: Files>(
     slots: &mut Vec<u8>,
 ) -> Result<(), StoreFault>
     requires low { per_block header.form * index < slot_count header }
-    ensures reads { Reads (F.state files.old) (F.state files.new) }
+    ensures gathers { GathersOnly (F.state files.old) (F.state files.new) result }
     ensures long { OnOk result (length slots.new.items ≡ length slots.old.items
         + slot_len 1 * count_in_nth header index) }
     ensures done { OnOk result (WidensBlock (F.state files.old) (F.state files.new) header.form
@@ -103,9 +100,6 @@ fn widen_nth<F: Files>(
     ensures failed { IfErr result (λ fault. (fault ≡ StoreFault.NoMemory → ⊥)
         → IsBlockFault (F.state files.old) (F.state files.new) header.form directory.value index
         (count_in_nth header index)) }
-    ensures halted { IsErrOf result (StoreFault.Log LogFault.Halted)
-        → (F.state files.old).halted ≡ true }
-    ensures other { IsErrOf result (StoreFault.Log LogFault.Full) → ⊥ }
 {
     let whole = slots_in_block(header.form);
     let count = (slots_of(header) - whole * index).min(whole) as usize;
@@ -123,16 +117,13 @@ fn widen_block<F: Files>(
     slots: &mut Vec<u8>,
 ) -> Result<(), StoreFault>
     requires few { count ≤ per_block form }
-    ensures reads { Reads (F.state files.old) (F.state files.new) }
+    ensures gathers { GathersOnly (F.state files.old) (F.state files.new) result }
     ensures long { OnOk result (length slots.new.items ≡ length slots.old.items
         + slot_len 1 * count) }
     ensures done { OnOk result (WidensBlock (F.state files.old) (F.state files.new) form directory.value
         index count slots.old.items slots.new.items) }
     ensures failed { IfErr result (λ fault. (fault ≡ StoreFault.NoMemory → ⊥)
         → IsBlockFault (F.state files.old) (F.state files.new) form directory.value index count) }
-    ensures halted { IsErrOf result (StoreFault.Log LogFault.Halted)
-        → (F.state files.old).halted ≡ true }
-    ensures other { IsErrOf result (StoreFault.Log LogFault.Full) → ⊥ }
 {
     let mut block = [0; 512];
     match files.block(directory, index, &mut block) {

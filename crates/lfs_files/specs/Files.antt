@@ -2,16 +2,19 @@
 use Rattle.std.specs.Prelude.{◌≡◌, ◌⊎◌, ◌<◌, ◌≤◌, ◌+◌, ◌-◌, ◌*◌, ◌/◌, ℕ, max, Bool, false, List, length, slice_index, Option, Some, None}
 use Rattle.std.specs.Int.{div_ceil}
 use Rattle.lfs_model.specs.declared.limits.TheConstants.{DIRECT_BLOCKS, MOST_ENTRIES, SECTOR_LEN}
+use Rattle.lfs_model.specs.Bytes.{part}
 use Rattle.lfs_model.specs.Changing.{IsWithHeader}
 use Rattle.lfs_model.specs.Cutting.{is_past}
 use Rattle.lfs_model.specs.Device.{DeviceState}
 use Rattle.lfs_model.specs.Encodes.{IsLogMap}
+use Rattle.lfs_model.specs.Entry as entry
 use Rattle.lfs_model.specs.Entry.{Entry, Data, Inode}
 use Rattle.lfs_model.specs.Memory.{parent}
 use Rattle.lfs_model.specs.Objects.{IsChangedAt, AreStoredWhole, WritesBytes, CutsBytes}
 use Rattle.lfs_model.specs.Stands.{LogMap}
 use Rattle.lfs_model.specs.Totals.{IsCounted}
 use Rattle.lfs_model.specs.Tree.{slot_len}
+use Rattle.lfs_model.specs.TreeOf.{object}
 use Rattle.lfs_files.specs.declared.header.Header.{Header}
 use Rattle.lfs_files.specs.Headers.{FitsHeader, HeaderAnswer, as_header, reformed, resized}
 use Rattle.lfs_files.specs.Looking.{Looks}
@@ -123,6 +126,11 @@ module _ {S D : Type 0} (s s' : FilesState S D) where
   -- the bytes of block i of file n
   abbrev pub TellsBlock : ℕ → ℕ → List ℕ → Type 0
   TellsBlock n i out = (m m' : LogMap) → s'.device.keeps_model → s.has m m' → HoldsBlock m' n i out
+
+  -- the bytes of file n from one place to another, both at most its size
+  abbrev pub TellsPart : ℕ → ℕ → ℕ → List ℕ → Type 0
+  TellsPart n from to bytes = (m m' : LogMap) → s'.device.keeps_model → s.has m m' → (head : entry.Header) → to ≤ head.size
+      → bytes ≡ part (object m' n head) from (to - from)
 
   -- ---- changing the draft
 

@@ -1,6 +1,7 @@
 -- What an inode says of a file.
 use Rattle.std.specs.Prelude.{◌≡◌, ◌≤◌, ℕ, Option, Some, None}
 use Rattle.lfs_model.specs.declared.Kind.{Kind}
+use Rattle.lfs_model.specs.declared.Kind.TheVariants as kind
 use Rattle.lfs_model.specs.declared.limits.TheConstants.{MOST_LINKS}
 use Rattle.lfs_model.specs.Entry as entry
 use Rattle.lfs_model.specs.Inode.{IsForm, IsSize}
@@ -14,6 +15,20 @@ as_header h = record { kind = h.kind; form = h.form; links = h.links; size = h.s
 -- the header of a file that has another size
 abbrev pub resized : Header → ℕ → Header
 resized h size = record { kind = h.kind; form = h.form; links = h.links; size = size }
+
+-- a header with other links
+abbrev pub relinked : Header → ℕ → Header
+relinked h links = record { kind = h.kind; form = h.form; links = links; size = h.size }
+
+-- the links of a file that is made: a directory has its own besides its name
+abbrev pub first_links : Kind → ℕ
+first_links kind.File = 1
+first_links kind.Directory = 2
+first_links kind.Link = 1
+
+-- its header, of this form
+abbrev pub first_header : Kind → ℕ → ℕ → Header
+first_header k form size = record { kind = k; form = form; links = first_links k; size = size }
 
 -- the header of a directory that has another form, and another size
 abbrev pub reformed : Header → ℕ → ℕ → Header

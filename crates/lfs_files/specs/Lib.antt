@@ -1,3 +1,4 @@
 pub mod Headers
 pub mod Looking
 pub mod Files
+pub mod Making

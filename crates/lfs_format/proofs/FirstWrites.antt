@@ -1,5 +1,6 @@
 -- What the calls that make an empty volume do to its content.
-use Rattle.std.proofs.Common.{◌≡◌, ◌≢◌, ⊎_elim, ℕ, zero, suc, ◌+◌, ◌<◌, ◌≤◌, List, length, Some, None, refl, sym, ◌∙◌, ap, subst, arith}
+use Rattle.std.proofs.Common.{◌≡◌, ◌≢◌, ⊎_elim, inl, inr, ℕ, zero, suc, ◌+◌, ◌<◌, ◌≤◌, List, length, Some, None, refl, sym, ◌∙◌, ap, subst}
+use Rattle.std.proofs.Common.{arith}
 use Rattle.std.proofs.Common.{get_or-set_other, get_or-set_same}
 use Rattle.std.proofs.lemmas.Bool.{cases_eq, cases_lt}
 use Rattle.std.specs.Prelude.{slice_set}
@@ -11,6 +12,11 @@ use Rattle.lfs_model.specs.Usage.{usage_sector}
 use Rattle.lfs_model.proofs.Image.{unused_spelled}
 use Rattle.lfs_model.proofs.Moments.{Run, run_none, run_call, all_left_write, Survives, same_outside_none, write_outside}
 use Rattle.lfs_format.specs.Making.{MayClear, left_as_was, left_clear, left_unreadable, MayClearSlots, AreClear, HasChunk}
+use Rattle.lfs_model.specs.Checkpoint.{IsVersion}
+
+-- a version of the layout that there is
+pub known_version : (v : ℕ) → 1 ≤ v → v ≤ 2 → IsVersion v
+known_version v low high = ⊎_elim (λ (is : v ≡ 1). inl is) (λ (ne : v ≡ 1 → ⊥). inr (omega (arith, low, high, ne))) (cases_eq v 1)
 
 -- ---- the slots
 

@@ -1,6 +1,6 @@
 -- What a content holds while an empty volume is made on it, and what a stop leaves then.
 -- First the slots are cleared, then the first chunk is written, and its checkpoint last; the layout is this project's own.
-use Rattle.std.specs.Prelude.{◌≡◌, ◌⊎◌, ◌+◌, ◌<◌, ℕ, [], ◌∷◌, Some, None}
+use Rattle.std.specs.Prelude.{◌≡◌, ◌⊎◌, ◌+◌, ◌<◌, ℕ, [], ◌∷◌, Some, None, Result, OnOk, OnErr}
 use Rattle.lfs_model.specs.declared.limits.TheConstants.{SECTOR_LEN}
 use Rattle.lfs_model.specs.Checkpoint.{usage_blocks}
 use Rattle.lfs_model.specs.Content.{Content, newest}
@@ -54,6 +54,11 @@ pub record WritesChunk (N : ℕ) (old new : DeviceState) : Type 0 where
   pub left : AllLeft old AreClear → AllLeft new AreClear
   pub touched : LeavesOnly old new (ComesFrom old (SameBehindChunk N))
   pub carries : Carries old new
+
+-- How a call ends that writes: one that failed counts a failure, and one that is done counts none.
+pub record EndsWriting {T E : Type 0} (old new : DeviceState) (result : Result T E) : Type 0 where
+  pub failed : OnErr result (old.failures < new.failures)
+  pub no_failure : OnOk result (new.failures ≡ old.failures)
 
 -- A volume of N segments was being made, whatever came of it: what a stop leaves at any moment, and what stays as it was.
 pub record IsMaking (version N : ℕ) (old new : DeviceState) : Type 0 where

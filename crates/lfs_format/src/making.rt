@@ -4,7 +4,7 @@ ghost use Rattle.lfs_model.specs.Checkpoint.{IsSegmentCount, IsVersion, usage_bl
 ghost use Rattle.lfs_model.specs.Content.{Content};
 ghost use Rattle.lfs_model.specs.Device.{Only, Carries, LeavesOnly, ComesFrom, SameOutside};
 ghost use Rattle.lfs_model.specs.Reach.{segment_start};
-ghost use Rattle.lfs_format.specs.Making.{AreClear, HasChunk, HasMade, IsMaking, MayClearSlots, WritesChunk};
+ghost use Rattle.lfs_format.specs.Making.{AreClear, EndsWriting, HasChunk, HasMade, IsMaking, MayClearSlots, WritesChunk};
 
 use crate::fault::FormatFault;
 use crate::image::{
@@ -38,9 +38,9 @@ pub fn format<D: SectorDevice>(device: &mut D, segments: u32) -> Result<(), Form
 }
 
 /// Makes the device an empty volume of so many segments, in this version of the layout. It takes no
-/// memory and writes the two checkpoint slots and the first chunk alone. A stop at any moment leaves what stood there, with
-/// slots that may be cleared, or no checkpoint, or the empty volume, and after `Ok` this alone,
-/// laid out as FORMAT.md has it.
+/// memory and writes the two checkpoint slots and the first chunk alone. A stop at any moment
+/// leaves what stood there, with slots that may be cleared, or no checkpoint, or the empty volume,
+/// and after `Ok` this alone, laid out as FORMAT.md has it.
 ///
 /// # Errors
 ///
@@ -70,30 +70,35 @@ pub fn format_version<D: SectorDevice>(
     if device.sectors() < CHECKPOINT_SLOTS + SEGMENT_SECTORS * segments {
         return Err(FormatFault::TooSmall);
     }
-    match write_volume(device, version, segments) {
+    match write_volume(device, Shape { version, segments }) {
         Ok(()) => Ok(()),
         Err(DeviceFault) => Err(FormatFault::Device),
     }
 }
 
-/// Clears the slots, writes the first chunk and then its checkpoint, each synced before the next.
-fn write_volume<D: SectorDevice>(
-    device: &mut D,
+/// What a new volume is to have: this version of the layout, and so many segments.
+#[derive(Clone, Copy)]
+struct Shape {
     version: u32,
     segments: u32,
-) -> Result<(), DeviceFault>
-    requires known { IsVersion version }
-    requires count { IsSegmentCount segments }
-    requires size { segment_start segments ≤ (D.state device.old).size }
+    ghost first: { 1 ≤ version },
+    ghost last: { version ≤ 2 },
+    ghost count: { IsSegmentCount segments },
+}
+
+/// Clears the slots, writes the first chunk and then its checkpoint, each synced before the next.
+fn write_volume<D: SectorDevice>(device: &mut D, shape: Shape) -> Result<(), DeviceFault>
+    requires size { segment_start shape.segments ≤ (D.state device.old).size }
     ensures made { OnOk result
-        (HasMade version segments (D.state device.old) (D.state device.new)) }
-    ensures making { IsMaking version segments (D.state device.old) (D.state device.new) }
+        (HasMade shape.version shape.segments (D.state device.old) (D.state device.new)) }
+    ensures making { IsMaking shape.version shape.segments
+        (D.state device.old) (D.state device.new) }
     ensures failed { OnErr result ((D.state device.old).failures < (D.state device.new).failures) }
 {
     clear_slots(device)?;
-    write_chunk(device, version, segments)?;
+    write_chunk(device, shape)?;
     device.sync()?;
-    replace(device, &checkpoint(version, segments))?;
+    replace(device, &checkpoint(shape.version, shape.segments))?;
     Ok(())
 }
 
@@ -108,9 +113,7 @@ fn clear_slots<D: SectorDevice>(device: &mut D) -> Result<(), DeviceFault>
         → SameOutside 0 2 (D.state device.old).content (D.state device.new).content) }
     ensures durable { OnOk result ((D.state device.new).keeps_model
         → Only (D.state device.new).content (D.state device.new)) }
-    ensures failed { OnErr result ((D.state device.old).failures < (D.state device.new).failures) }
-    ensures no_failure { OnOk result
-        ((D.state device.new).failures ≡ (D.state device.old).failures) }
+    ensures ends { EndsWriting (D.state device.old) (D.state device.new) result }
     ensures carries { Carries (D.state device.old) (D.state device.new) }
 {
     device.write(0, &[0; 512])?;
@@ -120,47 +123,32 @@ fn clear_slots<D: SectorDevice>(device: &mut D) -> Result<(), DeviceFault>
 }
 
 /// Writes the first chunk, which isn't synced then. Where the slots are clear they stay so.
-fn write_chunk<D: SectorDevice>(
-    device: &mut D,
-    version: u32,
-    segments: u32,
-) -> Result<(), DeviceFault>
-    requires known { IsVersion version }
-    requires count { IsSegmentCount segments }
-    requires size { segment_start segments ≤ (D.state device.old).size }
-    ensures writes { WritesChunk segments (D.state device.old) (D.state device.new) }
+fn write_chunk<D: SectorDevice>(device: &mut D, shape: Shape) -> Result<(), DeviceFault>
+    requires size { segment_start shape.segments ≤ (D.state device.old).size }
+    ensures writes { WritesChunk shape.segments (D.state device.old) (D.state device.new) }
     ensures chunk { OnOk result ((D.state device.new).keeps_model
-        → HasChunk version segments (usage_blocks segments) (D.state device.old).content
-        (D.state device.new).content) }
-    ensures failed { OnErr result ((D.state device.old).failures < (D.state device.new).failures) }
-    ensures no_failure { OnOk result
-        ((D.state device.new).failures ≡ (D.state device.old).failures) }
+        → HasChunk shape.version shape.segments (usage_blocks shape.segments)
+        (D.state device.old).content (D.state device.new).content) }
+    ensures ends { EndsWriting (D.state device.old) (D.state device.new) result }
 {
-    write_first_blocks(device, version, segments)?;
-    write_later_usage(device, segments)?;
+    write_first_blocks(device, shape)?;
+    write_later_usage(device, shape.segments)?;
     Ok(())
 }
 
 /// Writes the first chunk as far as its first usage block.
-fn write_first_blocks<D: SectorDevice>(
-    device: &mut D,
-    version: u32,
-    segments: u32,
-) -> Result<(), DeviceFault>
-    requires known { IsVersion version }
-    requires count { IsSegmentCount segments }
-    requires size { segment_start segments ≤ (D.state device.old).size }
-    ensures writes { WritesChunk segments (D.state device.old) (D.state device.new) }
+fn write_first_blocks<D: SectorDevice>(device: &mut D, shape: Shape) -> Result<(), DeviceFault>
+    requires size { segment_start shape.segments ≤ (D.state device.old).size }
+    ensures writes { WritesChunk shape.segments (D.state device.old) (D.state device.new) }
     ensures chunk { OnOk result ((D.state device.new).keeps_model
-        → HasChunk version segments 1 (D.state device.old).content (D.state device.new).content) }
-    ensures failed { OnErr result ((D.state device.old).failures < (D.state device.new).failures) }
-    ensures no_failure { OnOk result
-        ((D.state device.new).failures ≡ (D.state device.old).failures) }
+        → HasChunk shape.version shape.segments 1
+        (D.state device.old).content (D.state device.new).content) }
+    ensures ends { EndsWriting (D.state device.old) (D.state device.new) result }
 {
-    device.write(2, &summary_block(segments))?;
-    device.write(INODE, &root_block(version))?;
+    device.write(2, &summary_block(shape.segments))?;
+    device.write(INODE, &root_block(shape.version))?;
     device.write(MAP, &map_block())?;
-    device.write(USAGE, &usage_block(segments))?;
+    device.write(USAGE, &usage_block(shape.segments))?;
     Ok(())
 }
 
@@ -172,9 +160,7 @@ fn write_later_usage<D: SectorDevice>(device: &mut D, segments: u32) -> Result<(
     ensures chunk { OnOk result ((D.state device.new).keeps_model → (version : ℕ) (before : Content)
         → HasChunk version segments 1 before (D.state device.old).content
         → HasChunk version segments (usage_blocks segments) before (D.state device.new).content) }
-    ensures failed { OnErr result ((D.state device.old).failures < (D.state device.new).failures) }
-    ensures no_failure { OnOk result
-        ((D.state device.new).failures ≡ (D.state device.old).failures) }
+    ensures ends { EndsWriting (D.state device.old) (D.state device.new) result }
 {
     for index in 1..usage_count(segments) {
         device.write(USAGE + index, &[0; 512])?;

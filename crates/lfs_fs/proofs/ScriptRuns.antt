@@ -23,7 +23,7 @@ use Rattle.lfs_model.proofs.Volume.{single_state}
 use Rattle.lfs_model.specs.Use.{AreUnstuck, StandsForSome, left_states}
 use Rattle.lfs_fs.specs.Scripts.{RanAt, RunsLines, ServesLine, ServesLines, TellsLines, ToldAt}
 use Rattle.lfs_fs.specs.Volume.{IsAt, Mounted, Serves, segments_of}
-use Rattle.lfs_fs.proofs.LineSteps.{StepsLine, left_none, line_carries, line_running, line_segments, line_steps}
+use Rattle.lfs_fs.proofs.scripts.Lines.{StepsLine, left_none, line_carries, line_running, line_segments, line_steps}
 
 -- ---- the points of a run
 

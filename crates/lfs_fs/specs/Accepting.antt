@@ -27,7 +27,7 @@ module _ {D : Type 0} (state : D → DeviceState) where
 
   -- The draft is staged, and the totals are those with it.
   pub record StagesDraft (old new : Fs D) : Type 0 where
-    pub accepts : Accepts state old.store.log old.store.saved new.store.log new.store.saved old.store.draft.changes
+    pub accepts : Accepts state old.store.log old.store.log.saved new.store.log new.store.log.saved old.store.draft.changes
     pub totals : new.store.log.totals ≡ old.store.drafted
     pub young : old.store.log.number < 2 ^ 62
     pub room : need_of old ≤ limit_of old
@@ -35,7 +35,7 @@ module _ {D : Type 0} (state : D → DeviceState) where
 
   -- It isn't, after room was to be made for it.
   pub record IsDeclined (old new : Fs D) : Type 0 where
-    pub declines : Declines state old.store.log old.store.saved new.store.log new.store.saved old.store.draft.changes
+    pub declines : Declines state old.store.log old.store.log.saved new.store.log new.store.log.saved old.store.draft.changes
     pub totals : new.store.log.totals ≡ old.store.log.totals
     pub young : old.store.log.number < 2 ^ 62
     pub tells : TellsFew old.store.log new.store.log
@@ -43,8 +43,8 @@ module _ {D : Type 0} (state : D → DeviceState) where
   -- A call of the device failed, or no room could be made, as it can where the device keeps the model.
   abbrev pub IsFailed : Fs D → Fs D → Type 0
   IsFailed old new =
-      IsAcceptFault state old.store.log old.store.saved new.store.log old.store.draft.changes
-      ⊎ CannotMakeRoom state old.store.log old.store.saved new.store.log
+      IsAcceptFault state old.store.log old.store.log.saved new.store.log old.store.draft.changes
+      ⊎ CannotMakeRoom state old.store.log old.store.log.saved new.store.log
 
   -- Why it isn't: no other fault comes.
   abbrev pub TurnsDown : Fs D → Fs D → FsError → Type 0
@@ -53,5 +53,5 @@ module _ {D : Type 0} (state : D → DeviceState) where
   TurnsDown old new error.NoMemory = IsDeclined old new
   TurnsDown old new error.Device = IsDeclined old new × IsFailed old new
   TurnsDown old new error.Halted =
-      HaltsLater state old.store.log new.store.log (most_written old.store.log old.store.saved) × TellsFew old.store.log new.store.log
+      HaltsLater state old.store.log new.store.log (most_written old.store.log old.store.log.saved) × TellsFew old.store.log new.store.log
   TurnsDown old new _ = ⊥

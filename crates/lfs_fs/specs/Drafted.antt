@@ -29,7 +29,7 @@ use Rattle.lfs_path.specs.dirs.Listing.{AreSlots, IsListOf, pairs}
 module _ {D : Type 0} (state : D → DeviceState) where
   -- a store as files with a draft
   abbrev pub files_of : Store D → FilesState StagedLog Draft
-  files_of s = state_of state s.log s.draft s.saved s.drafted
+  files_of s = state_of state s.log s.draft s.log.saved s.drafted
 
   -- this is so of each log map that the log holds, after the draft
   abbrev pub EachDrafted : Held D → Held D → Changes → (LogMap → Type 0) → Type 0

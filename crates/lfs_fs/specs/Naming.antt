@@ -4,16 +4,18 @@ use Rattle.std.specs.Ordering.{nat_cmp}
 use Rattle.std.specs.FinMap.{find, put}
 use Rattle.lfs_model.specs.Image.{new_form}
 use Rattle.lfs_model.specs.declared.Kind.{Kind}
-use Rattle.lfs_model.specs.declared.limits.TheConstants.{MOST_ENTRIES, MOST_HANDLES}
+use Rattle.lfs_model.specs.declared.limits.TheConstants.{MOST_ENTRIES, MOST_HANDLES, MOST_LINKS}
 use Rattle.lfs_model.specs.declared.Kind.TheVariants as kind
 use Rattle.lfs_model.specs.Bytes.{AreBytes}
 use Rattle.lfs_model.specs.Checkpoint.{CheckpointValue}
 use Rattle.lfs_model.specs.Device.{DeviceState}
 use Rattle.lfs_model.specs.Objects.{IsDirectory}
+use Rattle.lfs_model.specs.PathText.{text_refusal}
 use Rattle.lfs_model.specs.Slot.{IsName}
 use Rattle.lfs_model.specs.Stands.{LogMap}
 use Rattle.lfs_model.specs.Tree.{State, byte_cmp, least_handle, name_len, slot_len}
 use Rattle.lfs_model.specs.Walk.{At, Parent}
+use Rattle.lfs_files.specs.declared.fault.LogFault.TheVariants as log
 use Rattle.lfs_store.specs.memory.declared.changes.Changes.{Changes}
 use Rattle.lfs_files.specs.declared.header.Header.{Header}
 use Rattle.lfs_store.specs.memory.Batch.{IsNoChange, staged}
@@ -23,18 +25,22 @@ use Rattle.lfs_store.specs.log.verify.declared.totals.BlockTotals.{BlockTotals}
 use Rattle.lfs_store.specs.Making.{Makes, SetsLinks, first_header, relinked}
 use Rattle.lfs_store.specs.Recounting.{Counts, CountsMade, CountsRelinked}
 use Rattle.lfs_store.specs.Writing.{Writes}
-use Rattle.lfs_fs.specs.Drafted.{Adds}
+use Rattle.lfs_fs.specs.Drafted.{Adds, EndsRefused, WalksTo}
+use Rattle.lfs_fs.specs.Faults.{error_of_walk}
 use Rattle.lfs_path.specs.dirs.Directory.{names_at}
 use Rattle.lfs_path.specs.declared.last.Last.{Last}
 use Rattle.lfs_path.specs.Pieces.{is_dots}
+use Rattle.lfs_path.specs.declared.walk_fault.WalkFault.{WalkFault}
+use Rattle.lfs_path.specs.declared.walk_fault.WalkFault.TheVariants as walking
 use Rattle.lfs_path.specs.Lasts.{HasLast}
+use Rattle.lfs_path.specs.Reaching.{EndsParent}
 use Rattle.lfs_fs.specs.declared.error.FsError.{FsError}
 use Rattle.lfs_fs.specs.declared.error.FsError.TheVariants as error
 use Rattle.lfs_fs.specs.declared.fs.Fs.{Fs}
+use Rattle.lfs_fs.specs.declared.naming.NewEntry.{NewEntry}
 use Rattle.lfs_fs.specs.Accepting.{StagesDraft, TurnsDown}
-use Rattle.lfs_fs.specs.Handles.{handles_of}
 use Rattle.lfs_fs.specs.Reading.{LacksObject, TellsStat}
-use Rattle.lfs_fs.specs.Seen.{HasHeader, OnlyReads, seen}
+use Rattle.lfs_fs.specs.Seen.{Begins, HasHeader, IsReady, OnlyReads, seen}
 use Rattle.lfs_fs.specs.Sizes.{HasRoom}
 use Rattle.lfs_fs.specs.declared.rows.Stat.{Stat}
 use Rattle.lfs_fs.specs.Volume.{IsIn, IsStill, Mounted}
@@ -67,6 +73,17 @@ abbrev pub text_of_new : NewKind → List ℕ
 text_of_new new_file = []
 text_of_new (new_directory form) = []
 text_of_new (new_link text) = text
+
+-- What is to be made has a name, and the directory room for it.
+pub record MayMake (new_entry : NewEntry) : Type 0 where
+  pub room : HasRoom new_entry.holder
+  pub linked : new_entry.kind ≡ kind.Directory → new_entry.holder.links < MOST_LINKS
+  pub text : new_entry.kind ≡ kind.Link → text_refusal new_entry.text.now ≡ None
+  pub name : IsName (name_len new_entry.holder.form) new_entry.name.now
+
+-- what it is on a volume of this version
+abbrev pub kind_in : ℕ → NewEntry → NewKind
+kind_in version new_entry = new_kind version new_entry.kind new_entry.text.now
 
 -- the links of a directory with a new object of this kind in it
 abbrev pub more_links : Kind → ℕ → ℕ
@@ -102,8 +119,8 @@ module _ {D : Type 0} (state : D → DeviceState) where
     pub looked : IsNoDirectory old mid n
     pub store : new.store ≡ mid.store
     pub few : handle < MOST_HANDLES
-    pub first : least_handle (handles_of mid.handles.numbers.items) ≡ handle
-    pub opened : n ≢ 0 → handles_of new.handles.numbers.items ≡ put nat_cmp handle n (handles_of mid.handles.numbers.items)
+    pub first : least_handle mid.handles ≡ handle
+    pub opened : new.handles ≡ put nat_cmp handle n mid.handles
 
   -- It is a directory.
   pub record IsDirectoryTold (old new : Fs D) (n : ℕ) : Type 0 where
@@ -114,7 +131,7 @@ module _ {D : Type 0} (state : D → DeviceState) where
   -- why it gets none: it is a directory, or all handles are open, or nothing is told of it
   abbrev pub OpensNone : Fs D → Fs D → ℕ → FsError → Type 0
   OpensNone old new n fault = OnlyReads state old new × (((fault ≡ error.IsDir) × IsDirectoryTold old new n)
-      ⊎ (((fault ≡ error.TooManyOpen) × IsNoDirectory old new n × (MOST_HANDLES ≤ least_handle (handles_of new.handles.numbers.items)))
+      ⊎ (((fault ≡ error.TooManyOpen) × IsNoDirectory old new n × (MOST_HANDLES ≤ least_handle new.handles))
       ⊎ LacksObject state old new n fault))
 
   -- ---- a name is looked up in directory d
@@ -251,3 +268,39 @@ module _ {D : Type 0} (state : D → DeviceState) where
     pub walk : (k : CheckpointValue) (m0 m : LogMap) (s : State)
         → (state old.store.log.device).keeps_model → IsIn state v k m0 m s
         → Parent s.tree path (At d)
+
+  -- The walk of a path came to directory d, where its last piece stands.
+  pub record FindsPlace (old new : Fs D) (path : List ℕ) (d : ℕ) (piece : Option Last) : Type 0 where
+    pub last : HasLast path piece
+    pub walks : WalksTo state old.store.log new.store.log old.store.draft.changes (EndsParent path) (At d)
+
+  -- It ended refused, or the log gave no answer.
+  pub record FailsPlace (old new : Fs D) (path : List ℕ) (fault : FsError) : Type 0 where
+    pub cause : WalkFault
+    pub is : fault ≡ error_of_walk cause
+    pub ends : EndsRefused state old.store.log new.store.log old.store.draft.changes (EndsParent path) cause
+    pub halted : cause ≡ walking.Log log.Halted → old.store.log.halted ≡ true
+    pub other : cause ≡ walking.Log log.Full → ⊥
+
+  -- or the path has no piece, which has a fault of its own
+  abbrev pub LacksPlace : Fs D → Fs D → List ℕ → FsError → FsError → Type 0
+  LacksPlace old new path nameless fault = FailsPlace old new path fault
+      ⊎ ((fault ≡ nameless) × ((d : ℕ) × FindsPlace old new path d None))
+
+  -- A call began, and came to the last piece of its path, in directory d.
+  pub record BeginsAt (old new : Fs D) (path : List ℕ) (d : ℕ) (last : Last) : Type 0 where
+    pub reached : Reaches (seen old) new path d (Some last)
+    pub ready : IsReady new
+
+  -- It began, and the path was refused.
+  pub record BeginsOnly (old new : Fs D) (path : List ℕ) (fault : FsError) : Type 0 where
+    pub begun : Fs D
+    pub begins : Begins old begun
+    pub reads : OnlyReads state begun new
+    pub fails : FailsPlace begun new path fault
+
+  -- It came nowhere: the volume is halted, or the path was refused, or has no piece.
+  abbrev pub BeginsNowhere : Fs D → Fs D → List ℕ → FsError → FsError → Type 0
+  BeginsNowhere old new path nameless fault = ((fault ≡ error.Halted) × (new ≡ old) × (old.store.log.halted ≡ true))
+      ⊎ (BeginsOnly old new path fault
+      ⊎ ((fault ≡ nameless) × ((d : ℕ) × (Reaches (seen old) new path d None × IsReady new))))

@@ -56,12 +56,6 @@ module _ {D : Type 0} (state : D → DeviceState) where
 
   -- ---- it goes
 
-  -- Object n is gone in the draft.
-  pub record LosesObject (old new : Fs D) (n : ℕ) : Type 0 where
-    pub removes : DraftsRemoval new.store.draft.changes n
-    pub counts : Counts state old.store.log new.store.log old.store.draft.changes
-        new.store.draft.changes old.store.drafted new.store.drafted
-
   -- Object n is drafted out of the volume, and then its name out of directory d, which has a link
   -- less.
   pub record DraftsRmdir (old new : Fs D) (d : ℕ) (head : Header) (n : ℕ) (name : List ℕ) : Type 0

@@ -20,7 +20,7 @@ use Rattle.lfs_store.specs.memory.Present.{as_header}
 use Rattle.lfs_store.specs.log.Held.{Held, Holds}
 use Rattle.lfs_store.specs.log.verify.declared.totals.BlockTotals.{BlockTotals}
 use Rattle.lfs_store.specs.Drafting.{IsApart}
-use Rattle.lfs_store.specs.Making.{DraftsRemoval, SetsLinks, relinked}
+use Rattle.lfs_store.specs.Making.{SetsLinks, relinked}
 use Rattle.lfs_store.specs.Recounting.{Counts, CountsRelinked}
 use Rattle.lfs_store.specs.Writing.{TakesWrite}
 use Rattle.lfs_files.specs.Files.{WritesFile}
@@ -28,7 +28,7 @@ use Rattle.lfs_path.specs.dirs.Adding.{slot_for}
 use Rattle.lfs_path.specs.dirs.Repointing.{RepointsName}
 use Rattle.lfs_path.specs.dirs.Taking.{shrunk}
 use Rattle.lfs_fs.specs.Drafted.{Adds}
-use Rattle.lfs_fs.specs.Unlinking.{LosesLink, TakesOut}
+use Rattle.lfs_fs.specs.Unlinking.{LosesLink, LosesObject, TakesOut}
 use Rattle.lfs_fs.specs.Accepting.{StagesDraft, TurnsDown}
 use Rattle.lfs_fs.specs.Naming.{DraftsNone, IsTooLong}
 use Rattle.lfs_path.specs.declared.last.Last.{Last}
@@ -38,7 +38,7 @@ use Rattle.lfs_path.specs.Trees.{IsChain, here, risen}
 use Rattle.lfs_fs.specs.declared.error.FsError.{FsError}
 use Rattle.lfs_fs.specs.declared.error.FsError.TheVariants as error
 use Rattle.lfs_fs.specs.declared.fs.Fs.{Fs}
-use Rattle.lfs_fs.specs.declared.moving.Object.{Object}
+use Rattle.lfs_fs.specs.declared.entries.Object.{Object}
 use Rattle.lfs_fs.specs.declared.moving.Source.{Source}
 use Rattle.lfs_fs.specs.declared.moving.Target.{Target}
 use Rattle.lfs_fs.specs.Seen.{HasHeader, seen}
@@ -325,16 +325,10 @@ module _ {D : Type 0} (state : D → DeviceState) where
 
   -- ---- drafts
 
-  -- What is replaced is gone with all its blocks.
-  pub record DropsObject (old new : Fs D) (n : ℕ) : Type 0 where
-    pub removes : DraftsRemoval new.store.draft.changes n
-    pub counts : Counts state old.store.log new.store.log old.store.draft.changes new.store.draft.changes old.store.drafted
-        new.store.drafted
-
   -- a directory goes, and another object has a link less
   abbrev pub DropsFound : Fs D → Fs D → Option Object → Type 0
   DropsFound old new None = (new.store.draft.changes ≡ old.store.draft.changes) × (new.store.drafted ≡ old.store.drafted)
-  DropsFound old new (Some o) = ((is_directory o.header.kind ≡ true) × DropsObject old new o.number.value)
+  DropsFound old new (Some o) = ((is_directory o.header.kind ≡ true) × LosesObject state old new o.number.value)
       ⊎ ((is_directory o.header.kind ≡ false) × LosesLink state old new o.number.value o.header)
 
   -- A name of directory d that it has is drafted to give another number.

@@ -1,20 +1,19 @@
 -- What contracts see of a volume's value, and the answers of its calls.
-use Rattle.std.specs.Prelude.{◌≡◌, ◌⊎◌, ◌<◌, ℕ, true, false, List, Option, Some, None, Result, Ok, Err}
+use Rattle.std.specs.Prelude.{◌≡◌, ◌⊎◌, ◌<◌, ℕ, true, false, Option, Some, None, Result, Ok, Err}
 use Rattle.std.specs.Ordering.{nat_cmp}
 use Rattle.std.specs.FinMap.{find}
 use Rattle.lfs_model.specs.Call.{Answer, Refuse}
-use Rattle.lfs_model.specs.declared.limits.TheConstants.{LAST_NUMBER}
 use Rattle.lfs_model.specs.Device.{DeviceState}
 use Rattle.lfs_store.specs.log.Held.{Holds, IsReadFault}
 use Rattle.lfs_model.specs.Checkpoint.{CheckpointValue}
 use Rattle.lfs_model.specs.Stands.{LogMap}
+use Rattle.lfs_model.specs.Tree.{Handles}
 use Rattle.lfs_files.specs.declared.header.Header.{Header}
 use Rattle.lfs_store.specs.memory.Batch.{staged}
 use Rattle.lfs_store.specs.memory.Present.{HeaderAnswer, as_header}
 use Rattle.lfs_fs.specs.declared.error.FsError.{FsError}
 use Rattle.lfs_fs.specs.declared.error.FsError.TheVariants as error
 use Rattle.lfs_fs.specs.declared.fs.Fs.{Fs}
-use Rattle.lfs_fs.specs.Handles.{handles_of}
 use Rattle.lfs_fs.specs.Refusals.{refusal_of}
 use Rattle.lfs_fs.specs.Volume.{IsStill, Mounted}
 use Rattle.lfs_store.specs.memory.Batch.{IsNoChange}
@@ -22,10 +21,10 @@ use Rattle.lfs_store.specs.memory.Batch.{IsNoChange}
 abbrev pub seen : {D : Type 0} → Fs D → Mounted D
 seen f = record {
   log = f.store.log;
-  saved = f.store.saved;
+  saved = f.store.log.saved;
   blocks = f.store.log.totals.data_blocks;
   others = f.store.log.totals.meta_blocks;
-  table = f.handles.numbers.items;
+  table = f.handles;
 }
 
 -- the answer of a call by its result
@@ -39,6 +38,18 @@ pub record OnlyReads {D : Type 0} (state : D → DeviceState) (old new : Fs D) :
   pub draft : new.store.draft ≡ old.store.draft
   pub drafted : new.store.drafted ≡ old.store.drafted
 
+-- A volume of whose draft only the changes are others.
+pub record OnlyDrafts {D : Type 0} (old new : Fs D) : Type 0 where
+  pub log : new.store.log ≡ old.store.log
+  pub saved : new.store.log.saved ≡ old.store.log.saved
+  pub drafted : new.store.drafted ≡ old.store.drafted
+  pub handles : new.handles ≡ old.handles
+
+-- A call may draft: the volume isn't halted, and nothing is drafted.
+pub record IsReady {D : Type 0} (f : Fs D) : Type 0 where
+  pub running : f.store.log.halted ≡ false
+  pub empty : IsNoChange f.store.draft.changes
+
 -- A call begins: the volume isn't halted, and nothing is drafted.
 pub record Begins {D : Type 0} (old new : Fs D) : Type 0 where
   pub running : old.store.log.halted ≡ false
@@ -46,10 +57,9 @@ pub record Begins {D : Type 0} (old new : Fs D) : Type 0 where
   pub empty : IsNoChange new.store.draft.changes
   pub drafted : new.store.drafted ≡ new.store.log.totals
 
--- why a handle gives no file: it isn't open, or gives a number that no file has
-abbrev pub GivesNone : List ℕ → ℕ → FsError → Type 0
-GivesNone table handle fault = ((fault ≡ error.BadHandle) × (find nat_cmp handle (handles_of table) ≡ None))
-    ⊎ ((fault ≡ error.Device) × ((n : ℕ) × (find nat_cmp handle (handles_of table) ≡ Some n) × (LAST_NUMBER < n)))
+-- why a handle gives no file: it isn't open
+abbrev pub GivesNone : Handles → ℕ → FsError → Type 0
+GivesNone table handle fault = (fault ≡ error.BadHandle) × (find nat_cmp handle table ≡ None)
 
 module _ {D : Type 0} (state : D → DeviceState) where
   -- the header of what stands at a number, where the log holds a log map; or nothing does

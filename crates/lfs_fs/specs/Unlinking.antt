@@ -26,7 +26,6 @@ use Rattle.lfs_path.specs.Pieces.{is_dots}
 use Rattle.lfs_fs.specs.declared.error.FsError.{FsError}
 use Rattle.lfs_fs.specs.declared.error.FsError.TheVariants as error
 use Rattle.lfs_fs.specs.declared.fs.Fs.{Fs}
-use Rattle.lfs_fs.specs.Handles.{handles_of}
 use Rattle.lfs_fs.specs.Naming.{FailsLook, IsTooLong, LooksUp}
 use Rattle.lfs_fs.specs.Seen.{HasHeader, LacksHeader}
 
@@ -81,17 +80,23 @@ module _ {D : Type 0} (state : D → DeviceState) where
   pub record Relinks (old new : Fs D) (n : ℕ) (object : Header) : Type 0 where
     pub links : ℕ
     pub is : links ≡ object.links - 1
-    pub stays : (links ≢ 0) ⊎ (opened (handles_of old.handles.numbers.items) n ≢ 0)
+    pub stays : (links ≢ 0) ⊎ (opened old.handles n ≢ 0)
     pub sets : SetsLinks old.store.draft.changes new.store.draft.changes n object links
     pub counts : CountsRelinked old.store.draft.changes new.store.draft.changes n object
         new.store.drafted
     pub drafted : new.store.drafted ≡ old.store.drafted
     pub apart : (k : ℕ) → IsApart new.store.draft.changes.loss k
 
+  -- Object n is gone in the draft.
+  pub record LosesObject (old new : Fs D) (n : ℕ) : Type 0 where
+    pub removes : DraftsRemoval new.store.draft.changes n
+    pub counts : Counts state old.store.log new.store.log old.store.draft.changes
+        new.store.draft.changes old.store.drafted new.store.drafted
+
   -- It is gone, since it had no other, and no handle is open on it.
   pub record GoesWhole (old new : Fs D) (n : ℕ) (object : Header) : Type 0 where
     pub last : object.links ≤ 1
-    pub shut : opened (handles_of old.handles.numbers.items) n ≡ 0
+    pub shut : opened old.handles n ≡ 0
     pub removes : DraftsRemoval new.store.draft.changes n
     pub apart : (k : ℕ) → k ≢ n → IsApart new.store.draft.changes.loss k
     pub counts : Counts state old.store.log new.store.log old.store.draft.changes

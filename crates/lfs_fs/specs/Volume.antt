@@ -1,6 +1,6 @@
 -- What contracts see of a mounted volume, the state that it is in, and what its calls do.
 -- The calls are those of POSIX.1-2017; which refusals are excused and what a stop leaves is an own choice.
-use Rattle.std.specs.Prelude.{◌≡◌, ◌⊎◌, ◌≤◌, ◌+◌, ◌/◌, ◌^◌, ℕ, Bool, true, false, IsTrue, List, [], ◌∷◌, length}
+use Rattle.std.specs.Prelude.{◌≡◌, ◌⊎◌, ◌≤◌, ◌+◌, ◌/◌, ◌^◌, ℕ, Bool, true, false, IsTrue, [], ◌∷◌, length}
 use Rattle.lfs_model.specs.Call.{Call, Open, Create, Close, Pread, Pwrite, Truncate, Mkdir, LinkTo, Symlink, Readlink, Unlink, Rmdir}
 use Rattle.lfs_model.specs.Call.{Rename, StatOf, LstatOf, Readdir, Fsync, Sync, Clean, Space, Version, Upgrade, Widen, ListTree, Answer}
 use Rattle.lfs_model.specs.Call.{Refuse, cleans, may_write, takes_no_memory}
@@ -10,7 +10,7 @@ use Rattle.lfs_model.specs.Encodes.{IsLogMap}
 use Rattle.lfs_model.specs.Refusal.{Refusal, NoMemory, Halted, Stuck}
 use Rattle.lfs_model.specs.Run.{Point, Answers, acknowledges}
 use Rattle.lfs_model.specs.Stands.{LogMap}
-use Rattle.lfs_model.specs.Tree.{State, drop_nameless}
+use Rattle.lfs_model.specs.Tree.{Handles, State, drop_nameless}
 use Rattle.lfs_model.specs.TreeOf.{IsTree, LeavesOne, LeavesStates, Stands}
 use Rattle.lfs_model.specs.Volume.{IsLogOf}
 use Rattle.lfs_store.specs.log.Held.{Held, Reads}
@@ -18,7 +18,6 @@ use Rattle.lfs_store.specs.log.Saving.{commit_orders}
 use Rattle.lfs_store.specs.cleaner.Room.{room_orders}
 use Rattle.lfs_store.specs.Accepting.{Stores, HasClean, HasCleanForTwo}
 use Rattle.lfs_model.specs.Totals.{IsCounted}
-use Rattle.lfs_fs.specs.Handles.{handles_of}
 
 -- a volume between two calls: its log, whether all of it is saved, its data blocks and its other blocks, and the table of open files
 pub record Mounted (D : Type 0) : Type 0 where
@@ -26,7 +25,7 @@ pub record Mounted (D : Type 0) : Type 0 where
   pub saved : Bool
   pub blocks : ℕ
   pub others : ℕ
-  pub table : List ℕ
+  pub table : Handles
 
 -- the number of its segments
 abbrev pub segments_of : {D : Type 0} → Mounted D → ℕ
@@ -101,7 +100,7 @@ module _ {D : Type 0} (state : D → DeviceState) where
     pub stores : Stores state v.log v.saved k m0 m
     pub map : IsLogMap m
     pub log : IsLogOf (segments_of v) m s
-    pub handles : s.handles ≡ handles_of v.table
+    pub handles : s.handles ≡ v.table
     pub counted : IsCounted m v.blocks v.others
     pub acknowledged : IsTree (segments_of v) m0
     -- what isn't saved can be saved: the change began below the last number, and room was made for it

@@ -4,10 +4,8 @@ ghost use Rattle.std.specs.FinMap.{find};
 ghost use Rattle.std.specs.Ordering.{nat_cmp};
 ghost use Rattle.lfs_model.specs.Call.{Close, Done};
 ghost use Rattle.lfs_model.specs.Tree.{opened, without};
-ghost use Rattle.lfs_store.specs.memory.Batch.{IsNoChange};
-ghost use Rattle.lfs_fs.specs.Handles.{handles_of};
 ghost use Rattle.lfs_fs.specs.Volume.{Serves};
-ghost use Rattle.lfs_fs.specs.Seen.{seen, answer_by};
+ghost use Rattle.lfs_fs.specs.Seen.{IsReady, answer_by, seen};
 
 use crate::error::FsError;
 use crate::fs::Fs;
@@ -38,12 +36,9 @@ impl<D: SectorDevice> Fs<D> {
     /// Closes the last handle of a file.
     fn close_last(&mut self, handle: u32, number: FileNumber) -> Result<(), FsError>
         requires place { handle < MOST_HANDLES }
-        requires running { self.old.store.log.halted ≡ false }
-        requires empty { IsNoChange self.old.store.draft.changes }
-        ensures { find nat_cmp handle (handles_of self.old.handles.numbers.items)
-            ≡ Some number.value
-            → opened (without nat_cmp handle (handles_of self.old.handles.numbers.items))
-            number.value ≡ 0
+        requires ready { IsReady self.old }
+        ensures { find nat_cmp handle self.old.handles ≡ Some number.value
+            → opened (without nat_cmp handle self.old.handles) number.value ≡ 0
             → Serves D.SectorDevice.state (seen self.old) (seen self.new) (Close handle)
             (answer_by (λ _. Done) result) }
     {

@@ -2,9 +2,9 @@
 ghost use Rattle.std.specs.Prelude.{◌≡◌, ◌≤◌, ◌<◌, ◌^◌, ◌+◌, ◌*◌, length, true, false, Some, IfOk, IfErr, OnOk, OnErr};
 ghost use Rattle.std.specs.FinMap.{find};
 ghost use Rattle.std.specs.Ordering.{nat_cmp};
+ghost use Rattle.lfs_model.specs.declared.limits.TheConstants.{MOST_HANDLES};
 ghost use Rattle.lfs_store.specs.cleaner.Room.{IsAtRest, room_orders};
 ghost use Rattle.lfs_store.specs.memory.Batch.{room_for};
-ghost use Rattle.lfs_fs.specs.Handles.{handles_of};
 ghost use Rattle.lfs_fs.specs.Accepting.{StagesDraft, TurnsDown};
 ghost use Rattle.lfs_fs.specs.Seen.{Begins, FindsHeader, OnlyReads, GivesNone, HasHeader, LacksAnswer, LacksHeader};
 
@@ -45,19 +45,12 @@ impl<D: SectorDevice> Fs<D> {
 
     /// The file of an open handle.
     pub(crate) fn file(&self, handle: u32) -> Result<FileNumber, FsError>
-        ensures opens { IfOk result (λ number. find nat_cmp handle
-            (handles_of self.now.handles.numbers.items) ≡ Some number.value) }
-        ensures missing { IfErr result (λ fault. GivesNone self.now.handles.numbers.items handle
-            fault) }
+        ensures within { OnOk result (handle < MOST_HANDLES) }
+        ensures opens { IfOk result (λ number. find nat_cmp handle self.now.handles
+            ≡ Some number.value) }
+        ensures missing { IfErr result (GivesNone self.now.handles handle) }
     {
-        match self.handles.get(handle) {
-            Some(number) => match FileNumber::new(number) {
-                Some(number) => Ok(number),
-                // No volume has a file of a greater number.
-                None => Err(FsError::Device),
-            },
-            None => Err(FsError::BadHandle),
-        }
+        self.handles.get(handle).ok_or(FsError::BadHandle)
     }
 
     /// The header of what stands at a number, if something does.
@@ -128,7 +121,7 @@ impl<D: SectorDevice> Fs<D> {
         ensures done { OnOk result (StagesDraft D.SectorDevice.state self.old self.new) }
         ensures refused { IfErr result (TurnsDown D.SectorDevice.state self.old self.new) }
         ensures fits { IfErr result (λ fault. fault ≡ FsError.NoMemory
-            → (self.old.store.saved ≡ true → IsAtRest self.old.store.log) → ⊥) }
+            → (self.old.store.log.saved ≡ true → IsAtRest self.old.store.log) → ⊥) }
         ensures rest { self.new.handles ≡ self.old.handles }
         ensures told { length (D.state self.new.store.log.device).told
             ≤ length (D.state self.old.store.log.device).told

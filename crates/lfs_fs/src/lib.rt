@@ -3,6 +3,7 @@
 
 mod cleaning;
 mod closing;
+mod entries;
 mod error;
 mod fs;
 mod handles;
@@ -13,6 +14,7 @@ mod mounting;
 mod moving;
 mod naming;
 mod old_entry;
+mod places;
 mod reading;
 mod removing;
 mod renaming;

@@ -2,21 +2,20 @@
 ghost use Rattle.std.specs.Prelude.{◌≡◌, ◌≤◌, ℕ, List, None, Some, false, IfErr, OnOk};
 ghost use Rattle.lfs_model.specs.Call.{Done, Symlink};
 ghost use Rattle.lfs_model.specs.PathText.{text_refusal};
-ghost use Rattle.lfs_store.specs.memory.Batch.{IsNoChange};
 ghost use Rattle.lfs_store.specs.Growing.{GrowsBy};
-ghost use Rattle.lfs_fs.specs.Naming.{DraftsLink, DraftsNone, Reaches};
+ghost use Rattle.lfs_fs.specs.Naming.{DraftsLink, DraftsNone};
 ghost use Rattle.lfs_fs.specs.Refusals.{refusal_of};
 ghost use Rattle.lfs_fs.specs.Seen.{answer_by, seen};
-ghost use Rattle.lfs_fs.specs.Volume.{IsStill, Mounted, Serves};
+ghost use Rattle.lfs_fs.specs.Volume.{IsStill, Serves};
 
 use crate::error::FsError;
 use crate::fs::Fs;
+use crate::naming::NewEntry;
 use lfs_device::SectorDevice;
 use lfs_files::FIRST_FORM;
 use lfs_model::{FileNumber, Kind};
+use lfs_path::WalkFault;
 use lfs_path::text::check_text;
-use lfs_path::tree::parent;
-use lfs_path::{Last, WalkFault};
 use lfs_store::Header;
 
 impl<D: SectorDevice> Fs<D> {
@@ -33,33 +32,19 @@ impl<D: SectorDevice> Fs<D> {
     {
         self.begin()?;
         check_link_text(text)?;
-        let place = parent(self.alloc, &mut self.store, path)?;
-        self.symlink_at(place.chain.directory(), place.last, text)
-    }
-
-    /// Makes a symbolic link under the last piece of a path, which stands in this directory.
-    fn symlink_at(
-        &mut self,
-        directory: FileNumber,
-        last: Option<Last<'_>>,
-        text: &[u8],
-    ) -> Result<(), FsError>
-        requires good { text_refusal text.now ≡ None }
-        requires running { self.old.store.log.halted ≡ false }
-        requires empty { IsNoChange self.old.store.draft.changes }
-        ensures { (v : Mounted D) (path : List ℕ)
-            → Reaches D.SectorDevice.state v self.old path directory.value last.entry
-            → Serves D.SectorDevice.state v (seen self.new) (Symlink text.now path)
-            (answer_by (λ _. Done) result) }
-    {
-        let Some(last) = last else {
-            return Err(FsError::Exist);
-        };
+        let (directory, last) = self.reach(path, FsError::Exist)?;
         let header = self.check_new_entry(directory, last, false)?;
         let Some(number) = self.store.least_free() else {
             return Err(FsError::NoNumber);
         };
-        self.make_entry(directory, header, number, Kind::Link, text, last.name)
+        self.make_entry(NewEntry {
+            directory,
+            holder: header,
+            number,
+            kind: Kind::Link,
+            text,
+            name: last.name,
+        })
     }
 
     /// Drafts a link with its text, without a name.

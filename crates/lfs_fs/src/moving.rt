@@ -2,37 +2,25 @@
 ghost use Rattle.std.specs.Prelude.{◌≡◌, ◌≢◌, ℕ, ◌≤◌, ◌<◌, ◌+◌, ◌-◌, ◌*◌, ◌==◌, true, false, IfOk, IfErr, OnOk, None, if◌then◌else◌, is_some};
 ghost use Rattle.lfs_model.specs.Slot.{IsName};
 ghost use Rattle.lfs_model.specs.Tree.{name_len, slot_len};
-ghost use Rattle.lfs_store.specs.memory.Batch.{IsNoChange};
-ghost use Rattle.lfs_store.specs.Drafting.{IsApart};
 ghost use Rattle.lfs_store.specs.Growing.{GrowsBy};
 ghost use Rattle.lfs_store.specs.Making.{relinked};
 ghost use Rattle.lfs_store.specs.Recounting.{Counts};
 ghost use Rattle.lfs_path.specs.dirs.Taking.{shrunk};
-ghost use Rattle.lfs_fs.specs.Drafted.{Adds};
 ghost use Rattle.lfs_fs.specs.Naming.{DraftsNone};
-ghost use Rattle.lfs_fs.specs.Renaming.{DraftsLinks, DraftsMove, DropsFound, DropsObject, FailsMove, FailsName, FailsOver, MayMove, MovesEntry, MovesNone, NamesFound, RepointsTo, RelinksBoth, RelinksWhere, fewer_links as fewer_of, first_holder, gains_directory as gains_of, is_directory as holds_names, loses_directory as loses_of, more_links as more_of};
-ghost use Rattle.lfs_fs.specs.Seen.{seen};
-ghost use Rattle.lfs_fs.specs.Unlinking.{TakesOut};
+ghost use Rattle.lfs_fs.specs.Renaming.{DraftsLinks, DraftsMove, DropsFound, FailsMove, FailsName, FailsOver, MayMove, MovesEntry, MovesNone, NamesFound, RepointsTo, RelinksBoth, RelinksWhere, fewer_links as fewer_of, first_holder, gains_directory as gains_of, loses_directory as loses_of, more_links as more_of};
+ghost use Rattle.lfs_fs.specs.Seen.{IsReady, OnlyDrafts, seen};
 ghost use Rattle.lfs_fs.specs.Volume.{IsStill};
 ghost use Rattle.lfs_fs.specs.Sizes.{HasRoom, IsSmall};
 
+use crate::entries::{Object, is_directory, with_links};
 use crate::error::FsError;
 use crate::fs::Fs;
 use lfs_device::SectorDevice;
 use lfs_layout::slot_len;
+use lfs_model::FileNumber;
 use lfs_model::limits::MOST_LINKS;
-use lfs_model::{FileNumber, Kind};
-use lfs_path::dirs::{add, repoint, take};
+use lfs_path::dirs::repoint;
 use lfs_store::Header;
-
-/// An object that a name gives, and its header.
-#[derive(Clone, Copy)]
-pub(crate) struct Object {
-    /// How many slots stand before that of the name.
-    pub place: u32,
-    pub number: FileNumber,
-    pub header: Header,
-}
 
 /// A name of an object, which is to go.
 #[derive(Clone, Copy)]
@@ -62,8 +50,7 @@ impl<D: SectorDevice> Fs<D> {
         target: Target<'_>,
     ) -> Result<(), FsError>
         requires may { MayMove source target }
-        requires running { self.old.store.log.halted ≡ false }
-        requires empty { IsNoChange self.old.store.draft.changes }
+        requires ready { IsReady self.old }
         ensures moved { OnOk result (MovesEntry D.SectorDevice.state self.old self.new source.entry
             target.entry) }
         ensures refused { IfErr result (MovesNone D.SectorDevice.state self.old self.new
@@ -82,8 +69,7 @@ impl<D: SectorDevice> Fs<D> {
     /// first change.
     fn draft_move(&mut self, source: Source<'_>, target: Target<'_>) -> Result<(), FsError>
         requires may { MayMove source target }
-        requires running { self.old.store.log.halted ≡ false }
-        requires empty { IsNoChange self.old.store.draft.changes }
+        requires ready { IsReady self.old }
         ensures still { IsStill D.SectorDevice.state (seen self.old) (seen self.new) }
         ensures drafted { OnOk result (DraftsMove D.SectorDevice.state self.old self.new
             source.entry target.entry) }
@@ -106,14 +92,13 @@ impl<D: SectorDevice> Fs<D> {
         target: Target<'_>,
     ) -> Result<(Header, Header), FsError>
         requires may { MayMove source target }
-        requires running { self.old.store.log.halted ≡ false }
-        requires empty { IsNoChange self.old.store.draft.changes }
+        requires ready { IsReady self.old }
         ensures still { IsStill D.SectorDevice.state (seen self.old) (seen self.new) }
+        ensures drafted { OnOk result (DraftsLinks D.SectorDevice.state self.old self.new
+            source.entry target.entry) }
         ensures first { IfOk result (λ r. r.0 ≡ first_holder source.entry target.entry) }
         ensures second { IfOk result (λ r. r.1 ≡ relinked target.entry.holder
             (more_of source.entry target.entry)) }
-        ensures drafted { OnOk result (DraftsLinks D.SectorDevice.state self.old self.new
-            source.entry target.entry) }
         ensures small { OnOk result (GrowsBy self.old.store.draft.changes
             self.new.store.draft.changes 3 0) }
         ensures refused { IfErr result (FailsMove D.SectorDevice.state self.old self.new
@@ -126,40 +111,10 @@ impl<D: SectorDevice> Fs<D> {
         }
     }
 
-    /// Drafts a name away that is there, near this place.
-    fn take_name(
-        &mut self,
-        directory: FileNumber,
-        holder: Header,
-        name: &[u8],
-        place: u32,
-    ) -> Result<(), FsError>
-        requires size { IsSmall holder }
-        requires running { self.old.store.log.halted ≡ false }
-        ensures still { IsStill D.SectorDevice.state (seen self.old) (seen self.new) }
-        ensures taken { OnOk result (TakesOut D.SectorDevice.state self.old.store.log
-            self.new.store.log self.old.store.draft.changes self.new.store.draft.changes
-            directory.value holder name.now self.old.store.drafted self.new.store.drafted) }
-        ensures apart { OnOk result ((k : ℕ) → IsApart self.old.store.draft.changes.loss k
-            → IsApart self.new.store.draft.changes.loss k) }
-        ensures small { OnOk result (GrowsBy self.old.store.draft.changes
-            self.new.store.draft.changes 2 2) }
-        ensures refused { IfErr result (FailsOver D.SectorDevice.state self.old self.new
-            directory.value holder name.now) }
-    {
-        match take(&mut self.store, directory, holder, name, place) {
-            Ok(true) => Ok(()),
-            // The directory has the name.
-            Ok(false) => Err(FsError::Device),
-            Err(fault) => Err(FsError::from(fault)),
-        }
-    }
-
     /// Drafts a link less for what is replaced: without one it goes, unless a handle is open on it.
     /// A directory goes.
     pub(crate) fn drop_replaced(&mut self, replaced: Option<Object>) -> Result<(), FsError>
-        requires running { self.old.store.log.halted ≡ false }
-        requires empty { IsNoChange self.old.store.draft.changes }
+        requires ready { IsReady self.old }
         ensures still { IsStill D.SectorDevice.state (seen self.old) (seen self.new) }
         ensures dropped { OnOk result (DropsFound D.SectorDevice.state self.old self.new replaced) }
         ensures small { OnOk result (GrowsBy self.old.store.draft.changes
@@ -170,28 +125,11 @@ impl<D: SectorDevice> Fs<D> {
             None => Ok(()),
             Some(object) => {
                 if is_directory(object.header.kind) {
-                    self.drop_directory(object.number)
+                    self.drop_object(object.number)
                 } else {
                     self.drop_link(object.number, object.header)
                 }
             }
-        }
-    }
-
-    /// Drafts a directory away, with all its blocks.
-    fn drop_directory(&mut self, number: FileNumber) -> Result<(), FsError>
-        requires running { self.old.store.log.halted ≡ false }
-        requires empty { IsNoChange self.old.store.draft.changes }
-        ensures still { IsStill D.SectorDevice.state (seen self.old) (seen self.new) }
-        ensures dropped { OnOk result (DropsObject D.SectorDevice.state self.old self.new
-            number.value) }
-        ensures small { OnOk result (GrowsBy self.old.store.draft.changes
-            self.new.store.draft.changes 0 0) }
-        ensures refused { IfErr result (DraftsNone D.SectorDevice.state self.old self.new) }
-    {
-        match self.store.remove(number) {
-            Ok(()) => Ok(()),
-            Err(fault) => Err(FsError::from(fault)),
         }
     }
 
@@ -202,10 +140,7 @@ impl<D: SectorDevice> Fs<D> {
         target: Target<'_>,
     ) -> Result<(Header, Header), FsError>
         requires may { MayMove source target }
-        ensures log { self.new.store.log ≡ self.old.store.log }
-        ensures saved { self.new.store.saved ≡ self.old.store.saved }
-        ensures drafted { self.new.store.drafted ≡ self.old.store.drafted }
-        ensures handles { self.new.handles ≡ self.old.handles }
+        ensures keeps { OnlyDrafts self.old self.new }
         ensures first { IfOk result (λ r. r.0 ≡ relinked source.entry.holder
             (fewer_of source.entry target.entry)) }
         ensures second { IfOk result (λ r. r.1 ≡ relinked target.entry.holder
@@ -260,34 +195,6 @@ impl<D: SectorDevice> Fs<D> {
         }
     }
 
-    /// Drafts a name more.
-    fn add_name(
-        &mut self,
-        directory: FileNumber,
-        holder: Header,
-        number: FileNumber,
-        name: &[u8],
-    ) -> Result<(), FsError>
-        requires room { HasRoom holder }
-        requires name { IsName (name_len holder.form) name.now }
-        requires running { self.old.store.log.halted ≡ false }
-        ensures still { IsStill D.SectorDevice.state (seen self.old) (seen self.new) }
-        ensures named { OnOk result (Adds D.SectorDevice.state self.old.store.log self.new.store.log
-            self.old.store.draft.changes self.new.store.draft.changes directory.value holder
-            number.value name.now) }
-        ensures counted { OnOk result (Counts D.SectorDevice.state self.old.store.log
-            self.new.store.log self.old.store.draft.changes self.new.store.draft.changes
-            self.old.store.drafted self.new.store.drafted) }
-        ensures small { OnOk result (GrowsBy self.old.store.draft.changes
-            self.new.store.draft.changes 1 2) }
-        ensures refused { IfErr result (DraftsNone D.SectorDevice.state self.old self.new) }
-    {
-        match add(&mut self.store, directory, holder, number, name) {
-            Ok(()) => Ok(()),
-            Err(fault) => Err(FsError::from(fault)),
-        }
-    }
-
     /// Drafts another number for a name that is there, near this place.
     fn repoint_name(
         &mut self,
@@ -330,10 +237,7 @@ impl<D: SectorDevice> Fs<D> {
     ) -> Result<Header, FsError>
         requires linked { changes ≡ true → 1 ≤ links }
         requires same { changes ≡ false → links ≡ header.links }
-        ensures log { self.new.store.log ≡ self.old.store.log }
-        ensures saved { self.new.store.saved ≡ self.old.store.saved }
-        ensures drafted { self.new.store.drafted ≡ self.old.store.drafted }
-        ensures handles { self.new.handles ≡ self.old.handles }
+        ensures keeps { OnlyDrafts self.old self.new }
         ensures header { IfOk result (λ now. now ≡ relinked header links) }
         ensures done { OnOk result (RelinksWhere changes self.old.store.draft.changes
             self.new.store.draft.changes directory.value header links self.new.store.drafted) }
@@ -344,25 +248,8 @@ impl<D: SectorDevice> Fs<D> {
         if !changes {
             return Ok(header);
         }
-        match self.store.set_links(directory, header, links) {
-            Ok(()) => Ok(Header {
-                kind: header.kind,
-                form: header.form,
-                links,
-                size: header.size,
-            }),
-            Err(_) => Err(FsError::NoMemory),
-        }
-    }
-}
-
-/// Whether an object of this kind is a directory.
-pub(crate) fn is_directory(kind: Kind) -> bool
-    ensures { result ≡ holds_names kind }
-{
-    match kind {
-        Kind::Directory => true,
-        Kind::File | Kind::Link => false,
+        self.relink(directory, header, links)?;
+        Ok(with_links(header, links))
     }
 }
 

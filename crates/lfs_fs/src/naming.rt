@@ -2,17 +2,16 @@
 ghost use Rattle.std.specs.Prelude.{◌≡◌, ◌≤◌, ◌<◌, ◌+◌, ◌*◌, ◌&&◌, not, length, ℕ, List, None, false, IfSome, IfOk, IfErr, OnOk, OnErr};
 ghost use Rattle.lfs_model.specs.Call.{Open, Create, Done, Handle, Mkdir};
 ghost use Rattle.lfs_model.specs.PathText.{text_refusal};
-ghost use Rattle.lfs_model.specs.Slot.{IsName};
 ghost use Rattle.lfs_model.specs.Tree.{name_len, slot_len};
-ghost use Rattle.lfs_store.specs.memory.Batch.{IsNoChange};
 ghost use Rattle.lfs_store.specs.Growing.{GrowsBy};
 ghost use Rattle.lfs_store.specs.Making.{relinked};
 ghost use Rattle.lfs_path.specs.dirs.Finding.{value_of};
-ghost use Rattle.lfs_fs.specs.Volume.{IsStill, Mounted, Serves};
-ghost use Rattle.lfs_fs.specs.Seen.{seen, answer_by, OnlyReads};
-ghost use Rattle.lfs_fs.specs.Naming.{DraftsEmpty, DraftsNew, DraftsNone, DraftsObject, LooksNone, LooksUp, MakesNew, MakesNone, OpensNone, OpensNumber, Reaches, RefusesEntry, RelinksParent, TakesEntry, more_links, new_kind};
+ghost use Rattle.lfs_fs.specs.Volume.{IsStill, Serves};
+ghost use Rattle.lfs_fs.specs.Seen.{IsReady, OnlyDrafts, OnlyReads, answer_by, seen};
+ghost use Rattle.lfs_fs.specs.Naming.{DraftsEmpty, DraftsNew, DraftsNone, DraftsObject, LooksNone, LooksUp, MakesNew, MakesNone, MayMake, OpensNone, OpensNumber, RefusesEntry, RelinksParent, TakesEntry, kind_in, more_links, new_kind};
 ghost use Rattle.lfs_fs.specs.Sizes.{HasRoom};
 
+use crate::entries::with_links;
 use crate::error::FsError;
 use crate::fs::Fs;
 use crate::sizes::is_full;
@@ -24,8 +23,21 @@ use lfs_model::{FileNumber, Kind};
 use lfs_path::Last;
 use lfs_path::dirs::{Found, add, find, longest_name};
 use lfs_path::text::is_dots;
-use lfs_path::tree::{parent, resolve};
+use lfs_path::tree::resolve;
 use lfs_store::Header;
+
+/// An object that is to be made, and its name in a directory.
+#[derive(Clone, Copy)]
+pub(crate) struct NewEntry<'a> {
+    pub directory: FileNumber,
+    /// The directory's header.
+    pub holder: Header,
+    pub number: FileNumber,
+    pub kind: Kind,
+    /// The text of a link.
+    pub text: &'a [u8],
+    pub name: &'a [u8],
+}
 
 impl<D: SectorDevice> Fs<D> {
     /// A handle on the file of a path: the least that is free (POSIX.1-2017, open).
@@ -70,32 +82,23 @@ impl<D: SectorDevice> Fs<D> {
         ensures { Serves D.SectorDevice.state (seen self.old) (seen self.new) (Create path.now)
             (answer_by Handle result) }
     {
-        self.begin()?;
-        let place = parent(self.alloc, &mut self.store, path)?;
-        self.create_at(place.chain.directory(), place.last)
-    }
-
-    /// Makes an empty file under the last piece of a path, which stands in this directory.
-    fn create_at(&mut self, directory: FileNumber, last: Option<Last<'_>>) -> Result<u32, FsError>
-        requires running { self.old.store.log.halted ≡ false }
-        requires empty { IsNoChange self.old.store.draft.changes }
-        ensures { (v : Mounted D) (path : List ℕ)
-            → Reaches D.SectorDevice.state v self.old path directory.value last.entry
-            → Serves D.SectorDevice.state v (seen self.new) (Create path)
-            (answer_by Handle result) }
-    {
-        let Some(last) = last else {
-            return Err(FsError::Exist);
-        };
+        let (directory, last) = self.begin_at(path, FsError::Exist)?;
         let header = self.check_new_entry(directory, last, false)?;
         let Some(handle) = self.handles.least_free() else {
             return Err(FsError::TooManyOpen);
         };
-        let Some(number) = self.store.least_free() else {
+        let Some(file) = self.store.least_free() else {
             return Err(FsError::NoNumber);
         };
-        self.make_entry(directory, header, number, Kind::File, &[], last.name)?;
-        self.handles.open(handle, number);
+        self.make_entry(NewEntry {
+            directory,
+            holder: header,
+            number: file,
+            kind: Kind::File,
+            text: &[],
+            name: last.name,
+        })?;
+        self.handles.open(handle, file);
         Ok(handle)
     }
 
@@ -110,23 +113,7 @@ impl<D: SectorDevice> Fs<D> {
         ensures { Serves D.SectorDevice.state (seen self.old) (seen self.new) (Mkdir path.now)
             (answer_by (λ _. Done) result) }
     {
-        self.begin()?;
-        let place = parent(self.alloc, &mut self.store, path)?;
-        self.mkdir_at(place.chain.directory(), place.last)
-    }
-
-    /// Makes an empty directory under the last piece of a path, which stands in this directory.
-    fn mkdir_at(&mut self, directory: FileNumber, last: Option<Last<'_>>) -> Result<(), FsError>
-        requires running { self.old.store.log.halted ≡ false }
-        requires empty { IsNoChange self.old.store.draft.changes }
-        ensures { (v : Mounted D) (path : List ℕ)
-            → Reaches D.SectorDevice.state v self.old path directory.value last.entry
-            → Serves D.SectorDevice.state v (seen self.new) (Mkdir path)
-            (answer_by (λ _. Done) result) }
-    {
-        let Some(last) = last else {
-            return Err(FsError::Exist);
-        };
+        let (directory, last) = self.begin_at(path, FsError::Exist)?;
         let header = self.check_new_entry(directory, last, true)?;
         if header.links >= MOST_LINKS {
             return Err(FsError::TooManyLinks);
@@ -134,7 +121,14 @@ impl<D: SectorDevice> Fs<D> {
         let Some(number) = self.store.least_free() else {
             return Err(FsError::NoNumber);
         };
-        self.make_entry(directory, header, number, Kind::Directory, &[], last.name)
+        self.make_entry(NewEntry {
+            directory,
+            holder: header,
+            number,
+            kind: Kind::Directory,
+            text: &[],
+            name: last.name,
+        })
     }
 
     /// The header of a directory, and what a name gives in it. How long the name may be, the
@@ -201,29 +195,18 @@ impl<D: SectorDevice> Fs<D> {
         Ok(header)
     }
 
-    /// Makes an object of this number, with this name in a directory. Only a link has a text.
-    pub(crate) fn make_entry(
-        &mut self,
-        directory: FileNumber,
-        header: Header,
-        number: FileNumber,
-        kind: Kind,
-        text: &[u8],
-        name: &[u8],
-    ) -> Result<(), FsError>
-        requires room { HasRoom header }
-        requires linked { kind ≡ Kind.Directory → header.links < MOST_LINKS }
-        requires text { kind ≡ Kind.Link → text_refusal text.now ≡ None }
-        requires name { IsName (name_len header.form) name.now }
-        requires running { self.old.store.log.halted ≡ false }
-        requires empty { IsNoChange self.old.store.draft.changes }
-        ensures made { OnOk result (MakesNew D.SectorDevice.state self.old self.new directory.value
-            header number.value (new_kind self.old.store.log.version kind text.now) name.now) }
+    /// Makes an object with a name in a directory.
+    pub(crate) fn make_entry(&mut self, new_entry: NewEntry<'_>) -> Result<(), FsError>
+        requires may { MayMake new_entry }
+        requires ready { IsReady self.old }
+        ensures made { OnOk result (MakesNew D.SectorDevice.state self.old self.new
+            new_entry.entry.directory.value new_entry.entry.holder new_entry.entry.number.value
+            (kind_in self.old.store.log.version new_entry.entry) new_entry.entry.name.now) }
         ensures refused { IfErr result (MakesNone D.SectorDevice.state self.old self.new
-            directory.value header number.value
-            (new_kind self.old.store.log.version kind text.now) name.now) }
+            new_entry.entry.directory.value new_entry.entry.holder new_entry.entry.number.value
+            (kind_in self.old.store.log.version new_entry.entry) new_entry.entry.name.now) }
     {
-        match self.draft_entry(directory, header, number, kind, text, name) {
+        match self.draft_entry(new_entry) {
             Ok(()) => self.accept(),
             Err(fault) => {
                 self.store.give_up();
@@ -233,31 +216,26 @@ impl<D: SectorDevice> Fs<D> {
     }
 
     /// Drafts an object and its name.
-    fn draft_entry(
-        &mut self,
-        directory: FileNumber,
-        header: Header,
-        number: FileNumber,
-        kind: Kind,
-        text: &[u8],
-        name: &[u8],
-    ) -> Result<(), FsError>
-        requires room { HasRoom header }
-        requires linked { kind ≡ Kind.Directory → header.links < MOST_LINKS }
-        requires text { kind ≡ Kind.Link → text_refusal text.now ≡ None }
-        requires name { IsName (name_len header.form) name.now }
+    fn draft_entry(&mut self, new_entry: NewEntry<'_>) -> Result<(), FsError>
+        requires may { MayMake new_entry }
         requires running { self.old.store.log.halted ≡ false }
         ensures still { IsStill D.SectorDevice.state (seen self.old) (seen self.new) }
         ensures drafted { OnOk result (DraftsNew D.SectorDevice.state self.old self.new
-            directory.value header number.value
-            (new_kind self.old.store.log.version kind text.now) name.now) }
+            new_entry.entry.directory.value new_entry.entry.holder new_entry.entry.number.value
+            (kind_in self.old.store.log.version new_entry.entry) new_entry.entry.name.now) }
         ensures small { OnOk result (GrowsBy self.old.store.draft.changes
             self.new.store.draft.changes 4 4) }
         ensures refused { IfErr result (DraftsNone D.SectorDevice.state self.old self.new) }
     {
-        self.draft_object(number, kind, text)?;
-        let header = self.relink_parent(directory, header, kind)?;
-        match add(&mut self.store, directory, header, number, name) {
+        self.draft_object(new_entry.number, new_entry.kind, new_entry.text)?;
+        let header = self.relink_parent(new_entry.directory, new_entry.holder, new_entry.kind)?;
+        match add(
+            &mut self.store,
+            new_entry.directory,
+            header,
+            new_entry.number,
+            new_entry.name,
+        ) {
             Ok(()) => Ok(()),
             Err(fault) => Err(FsError::from(fault)),
         }
@@ -296,10 +274,8 @@ impl<D: SectorDevice> Fs<D> {
             self.new.store.draft.changes 1 0) }
         ensures fault { IfErr result (λ fault. fault ≡ FsError.NoMemory) }
     {
-        match self.store.create(number, kind, form) {
-            Ok(()) => Ok(()),
-            Err(_) => Err(FsError::NoMemory),
-        }
+        self.store.create(number, kind, form)?;
+        Ok(())
     }
 
     /// Drafts the links of a directory that gets an entry of this kind, and gives its header.
@@ -310,10 +286,7 @@ impl<D: SectorDevice> Fs<D> {
         kind: Kind,
     ) -> Result<Header, FsError>
         requires linked { kind ≡ Kind.Directory → header.links < MOST_LINKS }
-        ensures log { self.new.store.log ≡ self.old.store.log }
-        ensures saved { self.new.store.saved ≡ self.old.store.saved }
-        ensures drafted { self.new.store.drafted ≡ self.old.store.drafted }
-        ensures handles { self.new.handles ≡ self.old.handles }
+        ensures keeps { OnlyDrafts self.old self.new }
         ensures header { IfOk result (λ now. now ≡ relinked header (more_links kind header.links)) }
         ensures done { OnOk result (RelinksParent self.old.store.draft.changes
             self.new.store.draft.changes directory.value header self.new.store.drafted kind) }
@@ -323,35 +296,12 @@ impl<D: SectorDevice> Fs<D> {
     {
         match kind {
             Kind::File => Ok(header),
-            Kind::Directory => self.add_link(directory, header),
+            Kind::Directory => {
+                let links = header.links + 1;
+                self.relink(directory, header, links)?;
+                Ok(with_links(header, links))
+            }
             Kind::Link => Ok(header),
-        }
-    }
-
-    /// Drafts one link more of a directory.
-    fn add_link(&mut self, directory: FileNumber, header: Header) -> Result<Header, FsError>
-        requires linked { header.links < MOST_LINKS }
-        ensures log { self.new.store.log ≡ self.old.store.log }
-        ensures saved { self.new.store.saved ≡ self.old.store.saved }
-        ensures drafted { self.new.store.drafted ≡ self.old.store.drafted }
-        ensures handles { self.new.handles ≡ self.old.handles }
-        ensures header { IfOk result (λ now. now ≡ relinked header (header.links + 1)) }
-        ensures done { OnOk result (RelinksParent self.old.store.draft.changes
-            self.new.store.draft.changes directory.value header self.new.store.drafted
-            Kind.Directory) }
-        ensures small { OnOk result (GrowsBy self.old.store.draft.changes
-            self.new.store.draft.changes 1 0) }
-        ensures fault { IfErr result (λ fault. fault ≡ FsError.NoMemory) }
-    {
-        let links = header.links + 1;
-        match self.store.set_links(directory, header, links) {
-            Ok(()) => Ok(Header {
-                kind: header.kind,
-                form: header.form,
-                links,
-                size: header.size,
-            }),
-            Err(_) => Err(FsError::NoMemory),
         }
     }
 }

@@ -2,15 +2,15 @@
 ghost use Rattle.std.specs.Prelude.{◌≡◌, ◌≢◌, ◌≤◌, ◌&&◌, not, ℕ, List, length, false, IfOk, IfErr, OnOk, OnErr, IsTrue, IsFalse};
 ghost use Rattle.lfs_model.specs.Call.{Done, Rename};
 ghost use Rattle.lfs_model.specs.Tree.{name_len};
-ghost use Rattle.lfs_store.specs.memory.Batch.{IsNoChange};
 ghost use Rattle.lfs_fs.specs.Naming.{Reaches};
-ghost use Rattle.lfs_fs.specs.Seen.{OnlyReads, answer_by, seen};
+ghost use Rattle.lfs_fs.specs.Seen.{IsReady, OnlyReads, answer_by, seen};
 ghost use Rattle.lfs_fs.specs.Volume.{Mounted, Serves};
 ghost use Rattle.lfs_fs.specs.Renaming.{FailsLookAt, FailsWhere, FindsName, FindsObject, FindsSource, FindsTarget, FitsReplaced, FitsRoom, FitsTarget, GivesName, HaveOneForm, IsAbove, IsNotAbove, IsObject, MayLook, ReachesBoth, RefusesNext, RefusesRename, RefusesReplaced, RefusesRoom, RefusesSource, RefusesTarget, TakesRename, is_directory as holds_names};
 
+use crate::entries::{Object, is_directory, named_object};
 use crate::error::FsError;
 use crate::fs::Fs;
-use crate::moving::{Object, Source, Target, is_directory};
+use crate::moving::{Source, Target};
 use crate::sizes::{is_full, is_too_large};
 use lfs_device::SectorDevice;
 use lfs_layout::is_name;
@@ -52,8 +52,7 @@ impl<D: SectorDevice> Fs<D> {
         last: Option<Last<'_>>,
         to: &[u8],
     ) -> Result<(), FsError>
-        requires running { self.old.store.log.halted ≡ false }
-        requires empty { IsNoChange self.old.store.draft.changes }
+        requires ready { IsReady self.old }
         ensures { (v : Mounted D) (from : List ℕ)
             → Reaches D.SectorDevice.state v self.old from directory.value last.entry
             → Serves D.SectorDevice.state v (seen self.new) (Rename from to.now)
@@ -71,8 +70,7 @@ impl<D: SectorDevice> Fs<D> {
         chain: Chain,
         to: Option<Last<'_>>,
     ) -> Result<(), FsError>
-        requires running { self.old.store.log.halted ≡ false }
-        requires empty { IsNoChange self.old.store.draft.changes }
+        requires ready { IsReady self.old }
         ensures { (v : Mounted D) (a b : List ℕ)
             → ReachesBoth D.SectorDevice.state v self.old a directory.value from.entry b chain
             to.entry
@@ -229,11 +227,7 @@ impl<D: SectorDevice> Fs<D> {
             (λ m. IsObject m found.number.value)) }
     {
         match self.header(found.number) {
-            Ok(header) => Ok(Object {
-                place: found.place,
-                number: found.number,
-                header,
-            }),
+            Ok(header) => Ok(named_object(found, header)),
             Err(fault) => Err(fault),
         }
     }

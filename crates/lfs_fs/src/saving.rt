@@ -18,10 +18,7 @@ impl<D: SectorDevice> Fs<D> {
         ensures { Serves D.SectorDevice.state (seen self.old) (seen self.new) Sync
             (answer_by (λ _. Done) result) }
     {
-        match self.begin() {
-            Ok(()) => {}
-            Err(fault) => return Err(fault),
-        }
+        self.begin()?;
         match self.store.commit() {
             Ok(()) => Ok(()),
             Err(fault) => Err(FsError::from(fault)),

@@ -2,14 +2,13 @@
 //! names.
 ghost use Rattle.std.specs.Prelude.{◌≡◌, ℕ, List, false};
 ghost use Rattle.lfs_model.specs.Call.{Done, Upgrade, Widen};
-ghost use Rattle.lfs_store.specs.memory.Batch.{IsNoChange};
-ghost use Rattle.lfs_fs.specs.Seen.{seen, answer_by};
+ghost use Rattle.lfs_fs.specs.Seen.{IsReady, answer_by, seen};
 ghost use Rattle.lfs_fs.specs.Upgrading.{ReachesNarrow, ReachesWhole};
 ghost use Rattle.lfs_fs.specs.Volume.{Mounted, Serves};
 
+use crate::entries::is_directory;
 use crate::error::FsError;
 use crate::fs::Fs;
-use crate::old_entry::is_directory;
 use crate::sizes::is_too_large;
 use lfs_device::SectorDevice;
 use lfs_files::FIRST_FORM;
@@ -55,8 +54,7 @@ impl<D: SectorDevice> Fs<D> {
 
     /// Gives the directory of a number that form, where one stands there.
     fn widen_at(&mut self, number: FileNumber) -> Result<(), FsError>
-        requires running { self.old.store.log.halted ≡ false }
-        requires empty { IsNoChange self.old.store.draft.changes }
+        requires ready { IsReady self.old }
         ensures { (v : Mounted D) (path : List ℕ)
             → ReachesWhole D.SectorDevice.state v self.old path number.value
             → Serves D.SectorDevice.state v (seen self.new) (Widen path)
@@ -77,8 +75,7 @@ impl<D: SectorDevice> Fs<D> {
 
     /// Gives a directory of the first form the second.
     fn widen_directory(&mut self, number: FileNumber, header: Header) -> Result<(), FsError>
-        requires running { self.old.store.log.halted ≡ false }
-        requires empty { IsNoChange self.old.store.draft.changes }
+        requires ready { IsReady self.old }
         ensures { (v : Mounted D) (path : List ℕ)
             → ReachesNarrow D.SectorDevice.state v self.old path number.value header
             → Serves D.SectorDevice.state v (seen self.new) (Widen path)

@@ -3,10 +3,8 @@ ghost use Rattle.std.specs.Prelude.{◌≡◌, ◌≤◌, ◌<◌, ◌+◌, ℕ,
 ghost use Rattle.std.specs.FinMap.{find};
 ghost use Rattle.std.specs.Ordering.{nat_cmp};
 ghost use Rattle.lfs_model.specs.Call.{Pwrite, Truncate, Count, Done};
-ghost use Rattle.lfs_store.specs.memory.Batch.{IsNoChange};
-ghost use Rattle.lfs_fs.specs.Handles.{handles_of};
 ghost use Rattle.lfs_fs.specs.Volume.{Serves};
-ghost use Rattle.lfs_fs.specs.Seen.{seen, answer_by};
+ghost use Rattle.lfs_fs.specs.Seen.{IsReady, answer_by, seen};
 
 use crate::error::FsError;
 use crate::fs::Fs;
@@ -54,12 +52,11 @@ impl<D: SectorDevice> Fs<D> {
     fn write_file(&mut self, number: FileNumber, at: u32, bytes: &[u8]) -> Result<(), FsError>
         requires bytes { 0 < length bytes.now }
         requires end { at + length bytes.now ≤ LARGEST_FILE }
-        requires running { self.old.store.log.halted ≡ false }
-        requires empty { IsNoChange self.old.store.draft.changes }
+        requires ready { IsReady self.old }
         requires counted { self.old.store.drafted ≡ self.old.store.log.totals }
         requires most { length bytes.now ≤ LONGEST_TRANSFER }
-        ensures { (handle : ℕ) → find nat_cmp handle (handles_of self.old.handles.numbers.items)
-            ≡ Some number.value → length bytes.now ≤ LONGEST_TRANSFER
+        ensures { (handle : ℕ) → find nat_cmp handle self.old.handles ≡ Some number.value
+            → length bytes.now ≤ LONGEST_TRANSFER
             → Serves D.SectorDevice.state (seen self.old) (seen self.new)
             (Pwrite handle at bytes.now) (answer_by (λ _. Count (length bytes.now)) result) }
     {
@@ -93,12 +90,11 @@ impl<D: SectorDevice> Fs<D> {
     /// Cuts a file to a length, or makes it longer.
     fn cut_file(&mut self, number: FileNumber, len: u32) -> Result<(), FsError>
         requires most { len ≤ LARGEST_FILE }
-        requires running { self.old.store.log.halted ≡ false }
-        requires empty { IsNoChange self.old.store.draft.changes }
+        requires ready { IsReady self.old }
         requires counted { self.old.store.drafted ≡ self.old.store.log.totals }
-        ensures { (handle : ℕ) → find nat_cmp handle (handles_of self.old.handles.numbers.items)
-            ≡ Some number.value → Serves D.SectorDevice.state (seen self.old) (seen self.new)
-            (Truncate handle len) (answer_by (λ _. Done) result) }
+        ensures { (handle : ℕ) → find nat_cmp handle self.old.handles ≡ Some number.value
+            → Serves D.SectorDevice.state (seen self.old) (seen self.new) (Truncate handle len)
+            (answer_by (λ _. Done) result) }
     {
         let header = self.header(number)?;
         match self.store.set_len(number, header, len) {

@@ -107,6 +107,10 @@ fn locate_leaf<D: SectorDevice>(
 /// The address of a data block of the file of an inode, or 0 where none is stored. It reads two
 /// blocks of pointers at most.
 ///
+/// Each pointer is taken for an address on the device, also 1, the slot of a checkpoint, to which
+/// no pointer of a volume leads. `locate_present` takes 1 for a block in memory, so neither can
+/// stand for the other.
+///
 /// # Errors
 ///
 /// `Unreadable` where a block of pointers on the way can't be read or isn't on the device, `Failed`

@@ -194,6 +194,9 @@ pub fn locate_behind<D: SectorDevice>(
 /// else its address. Blocks of pointers that the table has are read there, others on the device,
 /// two at most.
 ///
+/// Where a pointer on the way is 1, the block is looked for in the table alone. `locate`, which
+/// knows no table, reads the sector of that address.
+///
 /// # Errors
 ///
 /// As those of `locate`.

@@ -22,8 +22,7 @@ pub use inode::{
 pub use patch::{SECTOR_WORDS, set_header, set_usage_entry, set_word, word};
 pub use pointers::{PointerView, encode_pointers, one_pointer_spelling};
 pub use slot::{
-    NARROW_SLOT, SlotBytes, SlotView, WIDE_SLOT, encode_slot, has_name, is_name, nth_slot,
-    one_slot_spelling, slot_len,
+    SlotBytes, SlotView, encode_slot, has_name, is_name, nth_slot, one_slot_spelling, slot_len,
 };
 pub use summary::{
     BlockName, SummaryView, encode_summary, is_placed, is_summary, one_summary_spelling,

@@ -7,13 +7,8 @@ ghost use Rattle.lfs_model.specs.Tree.{name_len, slot_len};
 use crate::inode::is_within;
 use crate::writer::Writer;
 use byteorder::{ByteOrder, LittleEndian};
-use lfs_model::limits::{LAST_NUMBER, SECTOR_LEN};
+use lfs_model::limits::{LAST_NUMBER, NARROW_SLOT, SECTOR_LEN, WIDE_SLOT};
 use std::marker::Model;
-
-/// The bytes of a slot of the first form, and of the second.
-pub const NARROW_SLOT: u32 = 64;
-
-pub const WIDE_SLOT: u32 = 128;
 
 /// The place in a slot at which its name begins, behind the number and the name's length.
 const NAME_AT: usize = 5;

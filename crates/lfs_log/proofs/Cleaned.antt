@@ -1,5 +1,5 @@
 -- Segments whose blocks came into memory: nothing lives there, and a commit makes them clean.
-use Rattle.std.proofs.Common.{◌≡◌, ◌<◌, ◌≤◌, ⊎_elim, ◌+◌, ◌*◌, ◌/◌, ℕ, zero, suc, Bool, true, false, List, [], ◌∷◌, length, get_or, refl}
+use Rattle.std.proofs.Common.{◌≡◌, ◌<◌, ◌≤◌, ⊎_elim, ℕ, zero, suc, Bool, true, false, List, [], ◌∷◌, length, get_or, refl}
 use Rattle.std.proofs.Common.{sym, ◌∙◌, ap, ap₂, subst, arith, ◌&&◌, eq-eqb}
 use Rattle.std.specs.List.{AllByRecursion}
 use Rattle.std.proofs.lemmas.Bool.{cond-true}
@@ -17,7 +17,7 @@ use Rattle.lfs_memory.specs.segments.Table.{SegmentNumbers, UsageTable, no_segme
 use Rattle.lfs_memory.specs.inodes.Blocks.{Blocks, TableValue, blocks_in}
 use Rattle.lfs_memory.specs.declared.memory.LogMemory.{LogMemory}
 use Rattle.lfs_memory.specs.Changing.{Tightens}
-use Rattle.lfs_memory.specs.Memory.{IsLog, IsLoose, IsMemory, tables_of, segment_in, chunk_in}
+use Rattle.lfs_memory.specs.Memory.{IsLog, IsLoose, tables_of, segment_in, chunk_in}
 use Rattle.lfs_memory.specs.Present.{FailsFromDevice}
 use Rattle.lfs_memory.proofs.BlockSteps.{tightened_log}
 use Rattle.lfs_memory.proofs.Looses.{loose}

@@ -1,36 +1,38 @@
 -- The log over its device, as full chunks of data blocks are written between commits.
-use Rattle.std.proofs.Common.{◌≡◌, ◌<◌, ◌≤◌, ◌⊎◌, inl, ◌+◌, ◌*◌, ◌/◌, cond, ℕ, Bool, true, false, length, sym, ◌∙◌, ap, ap₂, subst, arith}
+use Rattle.std.proofs.Common.{◌≡◌, ◌<◌, ◌≤◌, ◌⊎◌, inl, ◌+◌, cond, ℕ, Bool, true, false, length, sym, ◌∙◌, ap₂, subst, arith}
+use Rattle.std.specs.Prelude.{max}
 use Rattle.lfs_model.specs.Crash.{StandsOn, StandsForOn}
 use Rattle.lfs_model.specs.Device.{DeviceState}
 use Rattle.lfs_model.specs.TreeOf.{dropped}
 use Rattle.lfs_model.proofs.Moments.{weaker}
 use Rattle.lfs_model.proofs.Settled.{settled_stands}
-use Rattle.lfs_memory.specs.segments.Table.{UsageTable, clean_in}
+use Rattle.lfs_memory.specs.segments.Table.{clean_in}
 use Rattle.lfs_memory.proofs.of_segments.Spare.{emptied_stay}
-use Rattle.lfs_memory.specs.inodes.Blocks.{Capacity}
 use Rattle.lfs_memory.specs.inodes.Data.{data_count}
 use Rattle.lfs_memory.specs.declared.memory.LogMemory.{LogMemory}
 use Rattle.lfs_memory.specs.Memory.{Stops}
-use Rattle.lfs_memory.proofs.Going.{has_room_still}
 use Rattle.lfs_log.specs.Early.{WritesChunks, full_chunk}
 use Rattle.lfs_log.specs.Thresholds.{reserve_of}
-use Rattle.lfs_log.specs.Held.{Held, Halts, IsReadyToPass, WritesEarly}
+use Rattle.lfs_memory.proofs.of_inodes.Data.{no_data}
+use Rattle.lfs_log.specs.Held.{Held, Halts, IsAtRest, NothingWaits, WaitsUnlessSaved, WritesEarly}
 
 module _ {D : Type 0} (state : D → DeviceState) where
   pub writes_early : (h h' : Held D) → WritesChunks (state h.device) (state h'.device) h.memory h'.memory → h'.number ≡ h.number
-      → h'.version ≡ h.version → h'.upgraded ≡ h.upgraded → h'.halted ≡ false
+      → h'.version ≡ h.version → h'.upgraded ≡ h.upgraded → h'.saved ≡ h.saved → h'.halted ≡ false
       → (h' ≡ h) ⊎ (reserve_of (length h'.memory.usage.segments) ≤ clean_in h'.memory.usage.segments)
       → (data_count h.memory.dirty < full_chunk → h' ≡ h) → WritesEarly state h h'
-  writes_early h h' c number version upgraded running reserve idle = record {
+  writes_early h h' c number version upgraded saved running reserve idle = record {
     carries = c.goes.1.carries;
     running = running;
     number = number;
     upgraded = upgraded;
+    saved = saved;
     segments = c.goes.1.segments;
     capacity = c.capacity;
     fewer = c.fewer;
     only_data = c.only_data;
-    unsaved = ap₂ (λ (n : ℕ) (raised : Bool). n + cond raised 1 0) c.due upgraded;
+    unsaved = ap₂ (λ (all : Bool) (n : ℕ). cond all 0 (max 1 n)) saved
+        (ap₂ (λ (n : ℕ) (raised : Bool). n + cond raised 1 0) c.due upgraded);
     reserve = subst (λ (n : ℕ). (h' ≡ h) ⊎ (reserve_of n ≤ clean_in h'.memory.usage.segments)) c.goes.1.segments reserve;
     idle = idle;
     taken = c.taken;
@@ -42,19 +44,38 @@ module _ {D : Type 0} (state : D → DeviceState) where
       number = is.number ∙ sym number;
       version = is.version ∙ sym version;
       running = running;
+      nothing_new = λ all. is.nothing_new (sym saved ∙ all);
+      rest = λ all. rest_early (is.rest (sym saved ∙ all));
     };
     moment = λ k m0 m keeps is. c.goes.1.quiet k m0 m keeps is.log;
   }
+    where
+      -- nothing is written where all is saved
+      rest_early : IsAtRest h → IsAtRest h'
+      rest_early rest =
+          let none = no_data h.memory.dirty rest.nothing.blocks in
+          let few : data_count h.memory.dirty < full_chunk = omega (arith, none) in
+          subst (λ (x : Held D). IsAtRest x) (sym (idle few)) rest
 
   -- a write that failed: what is acknowledged stays
-  pub early_halts : (h h' : Held D) → Stops (state h.device) (state h'.device) h.memory → h'.halted ≡ true → h'.number ≡ h.number
-      → Halts state h h'
-  early_halts h h' stops halted number = record {
+  pub early_halts : (h h' : Held D) → Stops (state h.device) (state h'.device) h.memory → h'.halted ≡ true → h'.saved ≡ false
+      → h'.number ≡ h.number → Halts state h h'
+  early_halts h h' stops halted unsaved number = record {
     carries = stops.carries;
     halted = halted;
+    unsaved = unsaved;
     number = number;
     cause = λ k m0 m keeps is. stops.cause k m0 m keeps is.log;
     left = λ k m0 m keeps is map c left. inl (settled_stands (state h'.device) k m0 (stops.settled k m0 m keeps is.log) c left);
     moment = λ k m0 m keeps is map. weaker (state h.device) (state h'.device) (λ x. StandsOn k.segments x m0)
         (StandsForOn k.segments m0 (dropped m)) (λ x h. inl h) (stops.quiet k m0 m keeps is.log);
   }
+
+-- nothing waits still, where all is saved
+pub early_waits : (v v' : LogMemory) (upgraded saved : Bool) → WaitsUnlessSaved v upgraded saved
+    → (data_count v.dirty < full_chunk → v' ≡ v) → WaitsUnlessSaved v' upgraded saved
+early_waits v v' upgraded saved waits idle all =
+    let nothing = waits all in
+    let none = no_data v.dirty nothing.blocks in
+    let few : data_count v.dirty < full_chunk = omega (arith, none) in
+    subst (λ (x : LogMemory). NothingWaits x upgraded) (sym (idle few)) nothing

@@ -6,6 +6,7 @@ pub mod UsageWrites
 pub mod PublishSteps
 pub mod Saves
 pub mod Opens
+pub mod Linked
 pub mod Volumes
 pub mod StoredBlocks
 pub mod Relocated

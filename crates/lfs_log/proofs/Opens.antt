@@ -7,7 +7,8 @@ use Rattle.lfs_model.specs.Checkpoint.{CheckpointValue, FitsCheckpoint, layout_v
 use Rattle.lfs_model.specs.Content.{Content, block, newest}
 use Rattle.lfs_model.specs.Committing.{IsMountedTables}
 use Rattle.lfs_model.specs.Crash.{Keeps}
-use Rattle.lfs_model.specs.Device.{DeviceState, IsLawful, Only}
+use Rattle.std.specs.Prelude.{Result, Ok, Err}
+use Rattle.lfs_model.specs.Device.{DeviceState, IsLawful, Carries, IsUntouched, LeavesOnly, Only}
 use Rattle.lfs_model.specs.Entry.{Entry, Data, Leaf, Double, Inode, Map, Usage, word}
 use Rattle.lfs_model.specs.Memory.{parent}
 use Rattle.lfs_model.specs.Reach.{address, view, map_block, inode_address}
@@ -32,8 +33,12 @@ use Rattle.lfs_verify.specs.declared.tables.Tables.{Tables}
 use Rattle.lfs_verify.specs.declared.totals.BlockTotals.{BlockTotals}
 use Rattle.lfs_verify.specs.Loading.{HasTables, IsLoaded, IsUsageUpTo, SaysUsage, IsMapUpTo, SaysMap, numbers_in}
 use Rattle.lfs_verify.specs.Take.{Looks}
-use Rattle.lfs_verify.specs.Verified.{HasLogMap}
+use Rattle.lfs_verify.specs.declared.fault.MountFault.{MountFault}
+use Rattle.lfs_verify.specs.declared.fault.MountFault.TheVariants as fault
+use Rattle.lfs_verify.specs.Faults.{IsOpenFault}
+use Rattle.lfs_verify.specs.Verified.{HasLogMap, IsRefusedLog}
 use Rattle.lfs_log.specs.Held.{Held, Holds, IsReadyToPass, Mounts}
+use Rattle.lfs_log.specs.Mounting.{OpenedLog, OpensLog}
 use Rattle.lfs_log.specs.Opening.{CountsOpened, IsOpened, Opens}
 use Rattle.lfs_memory.specs.segments.Early.{AreUntaken}
 use Rattle.lfs_memory.proofs.Opened.{closed_segment, closed_chunk, as_chunk}
@@ -256,19 +261,63 @@ module _ {D : Type 0} (state : D → DeviceState) (d d' : D) (looks : Looks (sta
   only_behind durable keeps = subst (λ (c : Content). Only c (state d')) (sym looks.untouched.content) (durable keeps)
 
 module _ {D : Type 0} (state : D → DeviceState) (d d' : D) (looks : Looks (state d) (state d')) (h : Held D) (same : h.device ≡ d') where
-  pub mounts_behind : Mounts state d' h → Mounts state d h
+  mounts_behind : Mounts state d' h → Mounts state d h
   mounts_behind mounts =
       subst (λ (c : Content). (m : LogMap) → (state h.device).keeps_model → (is : StandsLog c m) → Holds state h is.checkpoint m m)
       looks.untouched.content mounts
 
-  pub counts_behind : CountsOpened (state d') (state h.device) h.totals → CountsOpened (state d) (state h.device) h.totals
+  counts_behind : CountsOpened (state d') (state h.device) h.totals → CountsOpened (state d) (state h.device) h.totals
   counts_behind counts =
       subst (λ (c : Content). (m : LogMap) → (state h.device).keeps_model → StandsLog c m
       → IsCounted m h.totals.data_blocks h.totals.meta_blocks) looks.untouched.content counts
 
-  pub durable_behind : ((state d').keeps_model → Only (state d).content (state d')) → (state h.device).keeps_model
+  durable_behind : ((state d').keeps_model → Only (state d).content (state d')) → (state h.device).keeps_model
       → Only (state d).content (state h.device)
   durable_behind durable = subst (λ (x : D). (state x).keeps_model → Only (state d).content (state x)) (sym same) durable
 
-  pub log_behind : (t : Tables) → ((state d').keeps_model → HasTables (state d).content t) → HasLogMap (state d) (state h.device)
+  log_behind : (t : Tables) → ((state d').keeps_model → HasTables (state d).content t) → HasLogMap (state d) (state h.device)
   log_behind t has = subst (λ (x : D). HasLogMap (state d) (state x)) (sym same) (has_log_map (state d) (state d') t has)
+
+-- ---- how a mount ends
+abbrev pub mount_fails : {D : Type 0} → MountFault → D → Result (Held D) (MountFault × D)
+mount_fails fault device = Err (fault, device)
+
+abbrev pub mount_gives : {D : Type 0} → Held D → Result (Held D) (MountFault × D)
+mount_gives h = Ok h
+
+module _ {D : Type 0} (state : D → DeviceState) (d d' : D) (looks : Looks (state d) (state d')) where
+  -- the walk found no log
+  pub opens_none : (f : MountFault) → ((f ≡ fault.NoMemory → ⊥) → IsOpenFault (state d) (state d') f)
+      → IsRefusedLog (state d) (state d') f → OpensLog state d (mount_fails f d')
+  opens_none f cause reason = record {
+    opened = tt;
+    found = tt;
+    durable = tt;
+    cause = cause;
+    reason = reason;
+    untouched = looks.untouched;
+    carries = looks.carries;
+    any_moment = looks.any_moment;
+  }
+
+  -- it found one
+  pub opens_some : (h : Held D) → h.device ≡ d' → OpenedLog state d' h → (t : Tables)
+      → ((state d').keeps_model → HasTables (state d).content t)
+      → ((state d').keeps_model → Only (state d).content (state d')) → OpensLog state d (mount_gives h)
+  opens_some h same opened t has durable = record {
+    opened = record {
+      holds = mounts_behind state d d' looks h same opened.holds;
+      counts = counts_behind state d d' looks h same opened.counts;
+      saved = opened.saved;
+      empty = opened.empty;
+      untaken = opened.untaken;
+      many = opened.many;
+    };
+    found = log_behind state d d' looks h same t has;
+    durable = durable_behind state d d' looks h same durable;
+    cause = tt;
+    reason = tt;
+    untouched = subst (λ (x : D). IsUntouched (state d) (state x)) (sym same) looks.untouched;
+    carries = subst (λ (x : D). Carries (state d) (state x)) (sym same) looks.carries;
+    any_moment = subst (λ (x : D). LeavesOnly (state d) (state x) (state d).may_leave) (sym same) looks.any_moment;
+  }

@@ -1,5 +1,5 @@
 -- A pass of the cleaner: what came into memory fits, and its commit makes the segments clean.
-use Rattle.std.proofs.Common.{◌≡◌, ◌≤◌, inl, ◌+◌, ◌-◌, ◌*◌, ◌/◌, ℕ, Bool, true, false, List, length, get_or, refl, ◌∙◌, subst, arith}
+use Rattle.std.proofs.Common.{◌≡◌, ◌≤◌, inl, ◌+◌, ◌-◌, ℕ, Bool, true, false, List, length, get_or, refl, ◌∙◌, subst, arith}
 use Rattle.lfs_model.specs.Checkpoint.{CheckpointValue}
 use Rattle.lfs_model.specs.Content.{Content}
 use Rattle.lfs_model.specs.Crash.{StandsOn, StandsForOn}
@@ -10,16 +10,14 @@ use Rattle.lfs_model.specs.Stands.{LogMap}
 use Rattle.lfs_model.specs.TreeOf.{dropped}
 use Rattle.lfs_model.proofs.Moments.{carries_then, joined}
 use Rattle.lfs_model.proofs.Settled.{settled_stands}
-use Rattle.lfs_memory.specs.segments.Table.{used_of, clean_in}
+use Rattle.lfs_memory.specs.segments.Table.{used_of}
 use Rattle.lfs_memory.specs.segments.Spare.{emptied_in}
 use Rattle.lfs_memory.specs.inodes.Blocks.{TableValue}
 use Rattle.lfs_memory.specs.declared.memory.LogMemory.{LogMemory}
-use Rattle.lfs_memory.specs.Memory.{HasRoom, IsMemory}
-use Rattle.lfs_memory.specs.Present.{Looks}
 use Rattle.lfs_memory.proofs.Looses.{loose}
 use Rattle.lfs_memory.proofs.Presents.{looks_quiet}
 use Rattle.lfs_log.specs.Cleaning.{Cleans, Empties, MayClean, most_brought}
-use Rattle.lfs_log.specs.Held.{Held, Halts, Holds, Reads}
+use Rattle.lfs_log.specs.Held.{Held, Halts, Holds, NothingWaits}
 use Rattle.lfs_log.specs.Publishing.{IsAcknowledged}
 use Rattle.lfs_log.specs.Saving.{CommitsAll, CommitFails, IsSpared, segments_for}
 use Rattle.lfs_log.proofs.Cleaned.{at_one, emptied_least, limited_log}
@@ -69,12 +67,14 @@ module _ {D : Type 0} (state : D → DeviceState) where
           number = h.number;
           version = h.version;
           upgraded = h.upgraded;
+          saved = false;
           halted = true;
           totals = h.totals;
         })
     pass_halts device after unfailed fails = record {
       carries = carries_then (state h.device) middle (state device) one.looks.carries fails.carries;
       halted = refl;
+      unsaved = refl;
       number = refl;
       cause = λ k m0 m keeps is.
           (let rose = fails.cause k m0 m keeps (one.log k m0 m (fails.carries.kept_before keeps) is.log) in omega (arith, rose, unfailed));
@@ -93,6 +93,7 @@ module _ {D : Type 0} (state : D → DeviceState) where
           number = h.number + 1;
           version = h.version;
           upgraded = false;
+          saved = true;
           halted = halted;
           totals = h.totals;
         }) vs
@@ -110,7 +111,8 @@ module _ {D : Type 0} (state : D → DeviceState) where
           let clean = one.clean in
           omega (arith, gained, gone, taken, least, clean);
       many = done.many;
-      empty = record { blocks = same ∙ done.dirty; version = refl; sectors = done.untaken };
+      saved = refl;
+      empty = nothing;
       untaken = done.untaken;
       no_failure = done.no_failure ∙ unfailed;
       holds = holds;
@@ -126,6 +128,9 @@ module _ {D : Type 0} (state : D → DeviceState) where
           moment_then (state device) k m0 m back is (done.moment k m0 m keeps (acknowledged k m0 m back is map));
     }
       where
+        nothing : NothingWaits (record { map = w.map; usage = w.usage; dirty = t; chunk = w.chunk }) false
+        nothing = record { blocks = same ∙ done.dirty; version = refl; sectors = done.untaken }
+
         holds : (k : CheckpointValue) (m0 m : LogMap) → (state device).keeps_model → Holds state h k m0 m → IsLogMap (dropped m)
             → (next : CheckpointValue)
             × Holds state (record {
@@ -134,6 +139,7 @@ module _ {D : Type 0} (state : D → DeviceState) where
               number = h.number + 1;
               version = h.version;
               upgraded = false;
+              saved = true;
               halted = halted;
               totals = h.totals;
             }) next (dropped m) m
@@ -145,5 +151,7 @@ module _ {D : Type 0} (state : D → DeviceState) where
                 number = n.1;
                 version = is.version;
                 running = on;
+                nothing_new = λ all. refl;
+                rest = λ all. record { nothing = nothing; untaken = done.untaken; many = done.many };
               },
             )

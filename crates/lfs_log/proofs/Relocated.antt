@@ -1,24 +1,20 @@
 -- Blocks that come into memory from where they stand: what calls one after the other do.
-use Rattle.std.proofs.Common.{◌≡◌, ◌<◌, ◌≤◌, ◌⊎◌, ⊎_elim, ℕ, List, Some, refl, sym, ◌∙◌, ap, subst, arith}
-use Rattle.lfs_model.specs.Content.{Content}
+use Rattle.std.proofs.Common.{◌≡◌, ◌≤◌, ℕ, Some, refl, sym, ◌∙◌, ap, arith}
 use Rattle.lfs_model.specs.Device.{DeviceState, IsLawful}
-use Rattle.lfs_model.specs.Entry.{Entry, Data, Leaf, Double, Inode, Map, Usage, word}
-use Rattle.lfs_model.specs.Memory.{parent, pointer, file_of, IsOfFile}
+use Rattle.lfs_model.specs.Entry.{Entry, Data, Leaf, Double, Inode, Map, Usage}
+use Rattle.lfs_model.specs.Memory.{parent, file_of}
 use Rattle.lfs_model.specs.Staging.{IsAtAddress}
 use Rattle.lfs_model.proofs.Entries.{data_below, leaf_below, double_below}
 use Rattle.lfs_model.proofs.Reading.{reading}
 use Rattle.lfs_model.proofs.Replacing.{address_at}
 use Rattle.lfs_memory.specs.inodes.Blocks.{blocks_of}
-use Rattle.lfs_memory.specs.inodes.Code.{IsCode, entry_at}
 use Rattle.lfs_memory.specs.inodes.MapValue.{address_in}
-use Rattle.lfs_memory.specs.inodes.Present.{present}
 use Rattle.lfs_memory.specs.declared.memory.LogMemory.{LogMemory}
 use Rattle.lfs_memory.specs.Lifting.{Gathers, IsInMemory, Prepares}
 use Rattle.lfs_memory.specs.Memory.{IsMemory, tables_of, segment_in, chunk_in}
-use Rattle.lfs_memory.specs.Present.{AnswersAddress, FailsFromDevice, IsMissing, Looks}
+use Rattle.lfs_memory.specs.Present.{AnswersAddress, FailsFromDevice, Looks}
 use Rattle.lfs_memory.proofs.Gathered.{gathers_looks, gathers_then}
-use Rattle.lfs_memory.proofs.Presents.{excused_then, inode_at, is_there, looks_then, not_missing}
-use Rattle.lfs_memory.proofs.of_inodes.Moving.{differ}
+use Rattle.lfs_memory.proofs.Presents.{inode_at, looks_then}
 use Rattle.lfs_log.specs.Relocating.{HasLeft, IsNoBlock, Relocates}
 
 -- ---- one call after the other
@@ -74,42 +70,6 @@ top_inode (Double n) f file top = absurd (double_below n top)
 top_inode (Inode n) f file top = let same : n ≡ f = cc in ap Inode same
 top_inode (Map j) f file top = absurd (cc)
 top_inode (Usage j) f file top = absurd (cc)
-
-pub below_above : (c up : ℕ) → IsCode c → IsCode up → c < up → entry_at up ≡ parent (entry_at c) → parent (entry_at c) ≡ entry_at c → ⊥
-below_above c up formed formed_up less named top = differ c up formed formed_up less (sym top ∙ sym named)
-
-pub located_top : (d : DeviceState) (v : LogMemory) (x : Entry) (f a : ℕ) → file_of x ≡ Some f → parent x ≡ x → a ≡ address_in v.map f
-    → AnswersAddress d d v x a
-located_top d v x f a file top found k m0 m keeps is = ap is.running.memory.at (top_inode x f file top) ∙ inode_at d v k m0 m is f
-    ∙ sym found
-
-pub located_none : (a b : DeviceState) (v : LogMemory) (x up : Entry) (address : ℕ) → up ≡ parent x → address ≡ 0
-    → AnswersAddress a b v up address → AnswersAddress a b v x 0
-located_none a b v x up address named none answer k m0 m keeps is =
-    (reading a.content m is.running.memory (segment_in v.chunk) is.running.laid).no_pointer x
-    (ap is.running.memory.at (sym named) ∙ answer k m0 m keeps is ∙ none)
-
-module _ (a b c : DeviceState) (v : LogMemory) (up : Entry) (address : ℕ) (one : Looks a b) (two : Looks b c) (file : IsOfFile up)
-    (answer : AnswersAddress a b v up address) (some : 0 < address) where
-  pub located_found : (x : Entry) (out : List ℕ) (r : ℕ) → up ≡ parent x → (parent x ≡ x → ⊥) → ((n q : ℕ) → x ≡ Leaf n q → q ≤ 128)
-      → (c.keeps_model → out ≡ present b.content (blocks_of v.dirty) up address) → word out (pointer x) ≡ r → AnswersAddress a c v x r
-  located_found x out r named below low read found k m0 m keeps is =
-      let there = answer k m0 m (two.carries.kept_before keeps) is in
-      let bytes : out ≡ is.running.memory.bytes (parent x) =
-      read keeps ∙ ap (λ (e : Content). present e (blocks_of v.dirty) up address) one.untouched.content
-      ∙ is_there a v k m0 m is up address file there some ∙ ap is.running.memory.bytes named in
-      let above = ap is.running.memory.at (sym named) ∙ there in
-      sym ((reading a.content m is.running.memory (segment_in v.chunk) is.running.laid).pointer x below low (omega (arith, above, some)))
-      ∙ ap (λ (b : List ℕ). word b (pointer x)) (sym bytes) ∙ found
-
-  pub located_failed : (c.keeps_model → (b.failures < c.failures) ⊎ IsMissing b.content (blocks_of v.dirty) up address)
-      → FailsFromDevice a c v
-  located_failed unread k m0 m keeps is = ⊎_elim
-      (λ (failed : b.failures < c.failures). excused_then a b c v one two failed k m0 m keeps is)
-      (λ (missing : IsMissing b.content (blocks_of v.dirty) up address).
-      absurd (not_missing a v k m0 m is up address file (answer k m0 m (two.carries.kept_before keeps) is) some
-      (subst (λ (e : Content). IsMissing e (blocks_of v.dirty) up address) one.untouched.content missing)))
-      (unread keeps)
 
 -- ---- a block that isn't stored
 pub no_inode_there : (d : DeviceState) (v : LogMemory) (x : Entry) (f : ℕ) → file_of x ≡ Some f → parent x ≡ x → address_in v.map f ≡ 0

@@ -27,7 +27,7 @@ use Rattle.lfs_memory.proofs.Gathered.{loose_traced, map_of_gathers, taken_trace
 use Rattle.lfs_memory.proofs.Lifted.{map_of_prepares}
 use Rattle.lfs_memory.proofs.Presents.{looks_none}
 use Rattle.lfs_memory.proofs.Stales.{stays_stale}
-use Rattle.lfs_log.specs.Relocating.{HasLeft, IsUsageLost, Relocates, UsageLeavesIn}
+use Rattle.lfs_log.specs.Relocating.{IsUsageLost, Relocates, UsageLeavesIn}
 use Rattle.lfs_log.proofs.Relocated.{relocates_looks, relocates_of}
 
 pub map_relocates : (d : DeviceState) (v v' : LogMemory) (j : ℕ) → IsLawful d → IsMemory v → (v' ≡ v) ⊎ MapLifts v v' j → Relocates d d v v'

@@ -1,20 +1,13 @@
--- How much waits for a checkpoint, where all is saved.
-use Rattle.std.proofs.Common.{◌≡◌, ◌≤◌, cond, ℕ, Bool, List, [], ◌∷◌, length, refl, ◌∙◌, ap, arith}
+-- What is saved stays so, where a call changes no more than memory.
+use Rattle.std.proofs.Common.{◌≡◌, ◌≤◌, false, List, [], ◌∷◌, length, refl, ◌∙◌, ap, arith}
+use Rattle.lfs_model.specs.Device.{DeviceState}
 use Rattle.lfs_memory.specs.segments.Early.{AreUntaken}
-use Rattle.lfs_memory.proofs.of_segments.Early.{taken_of_untaken}
-use Rattle.lfs_log.specs.Held.{AreAllSaved, Held, waiting_in}
+use Rattle.lfs_log.specs.Held.{Alters, AreAllSaved, Held, IsAtRest}
 
 -- a list without length is empty
 pub none_left : {T : Type 0} (xs : List T) → length xs ≤ 0 → xs ≡ []
 none_left [] le = refl
 none_left (x ∷ xs) le = absurd (omega (arith, le))
-
-pub all_saved : {D : Type 0} (h : Held D) → AreAllSaved h → waiting_in h ≡ 0
-all_saved h is =
-    let blocks : length h.memory.dirty.blocks ≡ 0 = ap length is.blocks in
-    let sectors = taken_of_untaken h.memory.usage is.sectors in
-    let version = ap (λ (raised : Bool). cond {A = ℕ} raised 1 0) is.version in
-    omega (arith, blocks, sectors, version)
 
 -- where no block came into memory, no sector was taken, and the version stayed
 pub kept_saved : {D : Type 0} (h h' : Held D) → AreAllSaved h → length h'.memory.dirty.blocks ≤ length h.memory.dirty.blocks
@@ -24,3 +17,17 @@ kept_saved h h' is few same sectors = record {
   version = same ∙ is.version;
   sectors = sectors;
 }
+
+-- a log at rest stays so where no block came into memory, and no sector was taken
+pub rest_altered : {D : Type 0} (state : D → DeviceState) (h h' : Held D) → Alters state h h' 0 false
+    → (AreUntaken h.memory.usage → AreUntaken h'.memory.usage) → IsAtRest h → IsAtRest h'
+rest_altered state h h' alters untaken rest =
+    let few = alters.few in
+    let many = rest.many in
+    let segments = alters.segments in
+    let clean = alters.clean in
+    record {
+      nothing = kept_saved h h' rest.nothing (omega (arith, few)) alters.upgraded (untaken rest.untaken);
+      untaken = untaken rest.untaken;
+      many = omega (arith, many, segments, clean);
+    }

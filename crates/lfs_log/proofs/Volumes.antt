@@ -1,8 +1,12 @@
 -- The log over its device: what its calls do, from what is done to device and memory.
-use Rattle.std.proofs.Common.{◌≡◌, ◌<◌, ◌≤◌, ◌+◌, ◌||◌, cond, ℕ, Bool, true, false, List, Option, length, refl, sym, ◌∙◌, ap, subst, arith}
+use Rattle.std.specs.Prelude.{Result, Ok, Err}
+use Rattle.std.proofs.lemmas.Bool.{and_parts}
+use Rattle.std.proofs.Common.{◌≡◌, ◌<◌, ◌≤◌, ◌+◌, ◌*◌, ◌&&◌, ◌||◌, cond, ℕ, Bool, true, false, List, Option, length, refl, sym, ◌∙◌, ap}
+use Rattle.std.proofs.Common.{subst, arith}
 use Rattle.lfs_model.specs.Checkpoint.{CheckpointValue}
 use Rattle.lfs_model.specs.Crash.{StandsOn}
-use Rattle.lfs_model.specs.Device.{DeviceState, AllLeft}
+use Rattle.lfs_model.specs.declared.limits.TheConstants.{FILE_NUMBERS}
+use Rattle.lfs_model.specs.Device.{DeviceState, IsLawful, AllLeft}
 use Rattle.lfs_model.specs.Encodes.{IsLogMap}
 use Rattle.lfs_model.specs.Stands.{LogMap, StandsLog}
 use Rattle.lfs_model.proofs.Crash.{single_log}
@@ -10,14 +14,18 @@ use Rattle.lfs_model.specs.TreeOf.{dropped}
 use Rattle.lfs_model.proofs.Settled.{settled_stands}
 use Rattle.lfs_memory.specs.files.declared.header.Header.{Header}
 use Rattle.lfs_log.specs.Opening.{Opens}
-use Rattle.lfs_memory.specs.Present.{AnswersHeader, AnswersBlock, FailsFromDevice}
+use Rattle.lfs_model.proofs.Decodes.{are_sized}
+use Rattle.lfs_memory.specs.files.declared.fault.LogFault.{LogFault}
+use Rattle.lfs_memory.specs.files.declared.fault.LogFault.TheVariants.{Device}
+use Rattle.lfs_memory.specs.Present.{AnswersHeader, AnswersBlock, FailsFromDevice, Looks}
 use Rattle.lfs_log.specs.Publishing.{IsAcknowledged}
 use Rattle.lfs_log.specs.Saving.{CommitsAll, CommitFails}
 use Rattle.lfs_memory.proofs.Looses.{loose}
 use Rattle.lfs_memory.specs.declared.changes.Changes.{Changes}
 use Rattle.lfs_memory.specs.declared.memory.LogMemory.{LogMemory}
-use Rattle.lfs_memory.specs.inodes.MapValue.{IsUnusedNumber, address_in}
-use Rattle.lfs_memory.specs.segments.Table.{UsageTable, used_of, kept_of}
+use Rattle.lfs_memory.specs.inodes.MapValue.{IsUnusedNumber, address_in, is_hidden_in}
+use Rattle.lfs_memory.specs.segments.Early.{AreUntaken}
+use Rattle.lfs_memory.specs.segments.Table.{UsageTable, used_of, kept_of, clean_in}
 use Rattle.lfs_model.specs.Encodes.{HasInode}
 use Rattle.lfs_memory.specs.Memory.{IsLoose}
 use Rattle.lfs_memory.specs.Lifting.{Prepares}
@@ -27,10 +35,19 @@ use Rattle.lfs_memory.specs.Batch.{raises, room_for, version_after}
 use Rattle.lfs_memory.specs.Staging.{StandsWithBatch, TakesBatch, RefusesBatch, IsBatchExcused}
 use Rattle.lfs_memory.proofs.Applied.{has_inode}
 use Rattle.lfs_memory.proofs.BlockSteps.{tightened_log}
-use Rattle.lfs_memory.proofs.Presents.{looks_none, no_inode, same_map}
+use Rattle.lfs_memory.proofs.Presents.{no_inode, same_map}
 use Rattle.lfs_memory.proofs.Versions.{staged_version}
 use Rattle.lfs_log.specs.Held.{Held, Holds, Mounts, Saves, Halts, ReadsHeader, ReadsBlock, IsReadFault, Alters, IsStaged, IsRefused}
-use Rattle.lfs_log.specs.Held.{IsStageFault, IsRemoved, IsKept, IsVacant, HasAll, HoldsOne}
+use Rattle.lfs_log.specs.Held.{IsStageFault, IsRemoved, IsKept, IsVacant, HasAll, HoldsOne, AreAllSaved, IsAtRest, Reads, ReadsLog}
+use Rattle.lfs_log.proofs.Linked.{all_linked, same_dropped}
+use Rattle.lfs_log.proofs.Unsaved.{rest_altered}
+
+abbrev pub device_fails : (T : Type 0) → Result T LogFault
+device_fails T = Err Device
+
+and_true : (b : Bool) → (b && true) ≡ b
+and_true true = refl
+and_true false = refl
 
 module _ {D : Type 0} (state : D → DeviceState) where
   acknowledged : (h : Held D) (k : CheckpointValue) (m0 m : LogMap) → Holds state h k m0 m → IsLogMap (dropped m)
@@ -44,8 +61,9 @@ module _ {D : Type 0} (state : D → DeviceState) where
   same_segments h h' k next m0 m m0' m' same is is' = sym is'.log.segments ∙ same ∙ is.log.segments
 
   pub saves : (h h' : Held D) → length h.memory.dirty.blocks ≤ 456 → CommitsAll (state h.device) (state h'.device) h.memory h'.memory
-      h.version h.number → h'.number ≡ h.number + 1 → h'.version ≡ h.version → h'.upgraded ≡ false → h'.halted ≡ false → Saves state h h'
-  saves h h' few c number version upgraded running = record {
+      h.version h.number → h'.number ≡ h.number + 1 → h'.version ≡ h.version → h'.upgraded ≡ false → h'.saved ≡ true → h'.halted ≡ false
+      → Saves state h h'
+  saves h h' few c number version upgraded saved running = record {
     carries = c.carries;
     running = running;
     number = number;
@@ -54,7 +72,8 @@ module _ {D : Type 0} (state : D → DeviceState) where
     taken = c.gains;
     clean = let more = c.gains in omega (arith, more, few);
     many = c.many;
-    empty = record { blocks = c.dirty; version = upgraded; sectors = c.untaken };
+    saved = saved;
+    empty = nothing;
     untaken = c.untaken;
     no_failure = c.no_failure;
     holds = holds;
@@ -66,25 +85,68 @@ module _ {D : Type 0} (state : D → DeviceState) where
     moment = λ k m0 m keeps is map. c.moment k m0 m keeps (acknowledged h k m0 m is map);
   }
     where
+      nothing : AreAllSaved h'
+      nothing = record { blocks = c.dirty; version = upgraded; sectors = c.untaken }
+
       holds : (k : CheckpointValue) (m0 m : LogMap) → (state h'.device).keeps_model → Holds state h k m0 m → IsLogMap (dropped m)
           → (next : CheckpointValue) × Holds state h' next (dropped m) m
       holds k m0 m keeps is map =
-          let n = c.log k m0 m keeps (acknowledged h k m0 m is map) in
-          (n.0, record { log = n.2; number = n.1 ∙ sym number; version = is.version ∙ sym version; running = running })
+          let n = c.log k m0 m keeps (acknowledged h k m0 m is map) in (
+            n.0,
+            record {
+              log = n.2;
+              number = n.1 ∙ sym number;
+              version = is.version ∙ sym version;
+              running = running;
+              nothing_new = λ all. refl;
+              rest = λ all. record { nothing = nothing; untaken = c.untaken; many = c.many };
+            },
+          )
 
   pub halts : (h h' : Held D) → CommitFails (state h.device) (state h'.device) h.memory h.version h.number → h'.halted ≡ true
-      → h'.number ≡ h.number → Halts state h h'
-  halts h h' c halted number = record {
+      → h'.saved ≡ false → h'.number ≡ h.number → Halts state h h'
+  halts h h' c halted unsaved number = record {
     carries = c.carries;
     halted = halted;
+    unsaved = unsaved;
     number = number;
     cause = λ k m0 m keeps is. c.cause k m0 m keeps is.log;
     left = λ k m0 m keeps is map. c.left k m0 m keeps (acknowledged h k m0 m is map);
     moment = λ k m0 m keeps is map. c.moment k m0 m keeps (acknowledged h k m0 m is map);
   }
 
-  pub mounts : (d : D) (h : Held D) → Opens (state d) (state h.device) h.memory h.version h.number → h.halted ≡ false → Mounts state d h
-  mounts d h opens running m keeps is = let o = opens m keeps is in record { log = o.0; number = o.1; version = o.2; running = running }
+  -- a mounted log map has no file of no links
+  pub mounts : (d : D) (h : Held D) → IsLawful (state d) → Opens (state d) (state h.device) h.memory h.version h.number → h.halted ≡ false
+      → AreAllSaved h → ((state h.device).keeps_model → AreUntaken h.memory.usage)
+      → ((state h.device).keeps_model → length h.memory.usage.segments ≤ 8 * clean_in h.memory.usage.segments) → Mounts state d h
+  mounts d h lawful opens running nothing untaken many m keeps is =
+      let o = opens m keeps is in
+      record {
+        log = o.0;
+        number = o.1;
+        version = o.2;
+        running = running;
+        nothing_new = λ all. all_linked (state d).content is.checkpoint m (are_sized (state d).content lawful.now) is.stands;
+        rest = λ all. record { nothing = nothing; untaken = untaken keeps; many = many keeps };
+      }
+
+  -- ---- a call that only looks
+  module _ (h : Held D) (device : D) (looks : Looks (state h.device) (state device)) where
+    still : Reads state h (record h { device = device })
+    still =
+        record { looks = looks; memory = refl; number = refl; version = refl; upgraded = refl; saved = refl; halted = refl; totals = refl }
+
+    pub looked_done : {T : Type 0} (x : T) → ReadsLog state h (record h { device = device }) (Ok x)
+    looked_done x = record { reads = still; halted = λ e. absurd (cc); other = λ e. absurd (cc); failed = tt }
+
+    pub looked_fails : (T : Type 0) → FailsFromDevice (state h.device) (state device) h.memory
+        → ReadsLog state h (record h { device = device }) (device_fails T)
+    looked_fails T failed = record {
+      reads = still;
+      halted = λ e. absurd (cc);
+      other = λ e. absurd (cc);
+      failed = λ k m0 m keeps is. failed k m0 m keeps (loose (state h.device) h.memory k m0 m is.log);
+    }
 
   pub reads_header : (h h' : Held D) (n : ℕ) (found : Option Header) → AnswersHeader (state h.device) (state h'.device) h.memory n found
       → ReadsHeader state h h' n found
@@ -101,13 +163,15 @@ module _ {D : Type 0} (state : D → DeviceState) where
   held_tight : (h h' : Held D) (v : LogMemory) (k : CheckpointValue) (m0 m w : LogMap) → Holds state h k m0 m → h'.number ≡ h.number
       → (raised : Bool) → h'.version ≡ cond raised 2 h.version → w.version ≡ cond raised 2 m.version → h'.halted ≡ h.halted
       → Tightens v h'.memory
-      → IsLoose (state h'.device) v k m0 w → Holds state h' k m0 w
-  held_tight h h' v k m0 m w is number raised version same halted tight loose =
+      → IsLoose (state h'.device) v k m0 w → (h'.saved ≡ true → m0 ≡ dropped w) → (h'.saved ≡ true → IsAtRest h') → Holds state h' k m0 w
+  held_tight h h' v k m0 m w is number raised version same halted tight loose nothing_new rest =
       record {
         log = tightened_log (state h'.device) v h'.memory k m0 w tight loose;
         number = is.number ∙ sym number;
         version = same ∙ ap (λ (n : ℕ). cond raised 2 n) is.version ∙ sym version;
         running = halted ∙ is.running;
+        nothing_new = nothing_new;
+        rest = rest;
       }
 
   module _ (h h' : Held D) (v : LogMemory) (number : h'.number ≡ h.number) (halted : h'.halted ≡ h.halted)
@@ -128,63 +192,89 @@ module _ {D : Type 0} (state : D → DeviceState) where
         few = let x = s.few in let y = tight.stays.blocks in omega (arith, x, y);
       }
 
-      pub is_staged : h'.version ≡ version_after c.loss h.version → h'.upgraded ≡ (raises c.loss || h.upgraded)
+      pub is_staged : h'.version ≡ version_after c.loss h.version → h'.upgraded ≡ (raises c.loss || h.upgraded) → h'.saved ≡ false
           → TakesBatch (state h.device) (state h'.device) h.memory v c.loss c.headers.items c.blocks.items
           → IsStaged state h h' c
-      is_staged version upgraded s = record {
+      is_staged version upgraded unsaved s = record {
         alters = stood (raises c.loss) version upgraded s.stands;
+        unsaved = unsaved;
         holds = λ k m0 m keeps is fits. held_tight h h' v k m0 m _ is number (raises c.loss) version (staged_version c m) halted tight
-            (s.log k m0 m keeps (loose (state h.device) h.memory k m0 m is.log) fits);
+            (s.log k m0 m keeps (loose (state h.device) h.memory k m0 m is.log) fits) (λ all. absurd (cc)) (λ all. absurd (cc));
       }
 
-      pub is_refused : h'.version ≡ h.version → h'.upgraded ≡ h.upgraded
+      pub is_refused : h'.version ≡ h.version → h'.upgraded ≡ h.upgraded → h'.saved ≡ false
           → RefusesBatch (state h.device) (state h'.device) h.memory v c.loss c.headers.items c.blocks.items → IsRefused state h h' c
-      is_refused version upgraded s =
+      is_refused version upgraded unsaved s =
           record {
             alters = stood false version upgraded s.stands;
+            unsaved = λ on. unsaved;
             holds = λ k m0 m keeps is fits. held_tight h h' v k m0 m m is number
-                false version refl halted tight (s.log k m0 m keeps (loose (state h.device) h.memory k m0 m is.log) fits);
+                false version refl halted tight (s.log k m0 m keeps (loose (state h.device) h.memory k m0 m is.log) fits)
+                (λ all. absurd (cc)) (λ all. absurd (cc));
           }
 
-    pub is_removed : h'.version ≡ h.version → h'.upgraded ≡ h.upgraded → (n : ℕ)
+    -- where it had a name, the log isn't saved any more
+    pub is_removed : h'.version ≡ h.version → h'.upgraded ≡ h.upgraded → (n : ℕ) → n < FILE_NUMBERS
+        → h'.saved ≡ (h.saved && is_hidden_in h.memory.map n)
         → RemovesFile (state h.device) (state h'.device) h.memory v n → IsRemoved state h h' n
-    is_removed version upgraded n s = record {
-      alters = record {
-        looks = s.looks;
-        number = number;
-        version = version;
-        upgraded = upgraded;
-        halted = halted;
-        segments = tight.stays.segments ∙ s.segments;
-        clean = tight.stays.clean ∙ s.clean;
-        capacity = tight.stays.capacity ∙ s.capacity;
-        few = let x = s.few in let y = tight.stays.blocks in omega (arith, x, y);
-      };
-      untaken = λ before segment. subst (λ (u : UsageTable). kept_of u segment ≡ used_of u segment) (sym tight.usage)
-          (s.kept segment ∙ before segment ∙ sym (s.used segment));
+    is_removed version upgraded n low saved s = record {
+      alters = alters;
+      unsaved = λ off. saved ∙ ap (λ (all : Bool). all && is_hidden_in h.memory.map n) off;
+      nameless = λ k m0 m keeps is off.
+          saved ∙ ap (λ (hidden : Bool). h.saved && hidden) (sym (is.log.hidden n low) ∙ off) ∙ and_true h.saved;
+      untaken = untaken;
       holds = λ k m0 m keeps is. held_tight h h' v k m0 m _ is number false version refl halted tight
-          (s.log k m0 m keeps (loose (state h.device) h.memory k m0 m is.log));
+          (s.log k m0 m keeps (loose (state h.device) h.memory k m0 m is.log))
+          (λ all. (let both = and_parts h.saved (is_hidden_in h.memory.map n) (sym saved ∙ all) in
+          is.nothing_new both.0 ∙ sym (same_dropped m n (is.log.hidden n low ∙ both.1))))
+          (λ all. (let both = and_parts h.saved (is_hidden_in h.memory.map n) (sym saved ∙ all) in
+          rest_altered state h h' alters untaken (is.rest both.0)));
     }
+      where
+        alters : Alters state h h' 0 false
+        alters = record {
+          looks = s.looks;
+          number = number;
+          version = version;
+          upgraded = upgraded;
+          halted = halted;
+          segments = tight.stays.segments ∙ s.segments;
+          clean = tight.stays.clean ∙ s.clean;
+          capacity = tight.stays.capacity ∙ s.capacity;
+          few = let x = s.few in let y = tight.stays.blocks in omega (arith, x, y);
+        }
 
-    pub is_kept : h'.version ≡ h.version → h'.upgraded ≡ h.upgraded → Prepares (state h.device) (state h'.device) h.memory v 0
-        → IsKept state h h'
-    is_kept version upgraded s = record {
-      alters = record {
-        looks = s.looks;
-        number = number;
-        version = version;
-        upgraded = upgraded;
-        halted = halted;
-        segments = tight.stays.segments ∙ s.segments;
-        clean = tight.stays.clean ∙ s.clean;
-        capacity = tight.stays.capacity ∙ s.capacity;
-        few = let x = s.few in let y = tight.stays.blocks in omega (arith, x, y);
-      };
-      untaken = λ before segment. subst (λ (u : UsageTable). kept_of u segment ≡ used_of u segment) (sym tight.usage)
-          (s.kept segment ∙ before segment ∙ sym (s.used segment));
+        untaken : AreUntaken h.memory.usage → AreUntaken h'.memory.usage
+        untaken before segment = subst (λ (u : UsageTable). kept_of u segment ≡ used_of u segment) (sym tight.usage)
+            (s.kept segment ∙ before segment ∙ sym (s.used segment))
+
+    pub is_kept : h'.version ≡ h.version → h'.upgraded ≡ h.upgraded → h'.saved ≡ h.saved
+        → Prepares (state h.device) (state h'.device) h.memory v 0 → IsKept state h h'
+    is_kept version upgraded saved s = record {
+      alters = alters;
+      saved = saved;
+      untaken = untaken;
       holds = λ k m0 m keeps is. held_tight h h' v k m0 m m is number false version refl halted tight
-          (s.log k m0 m keeps (loose (state h.device) h.memory k m0 m is.log));
+          (s.log k m0 m keeps (loose (state h.device) h.memory k m0 m is.log))
+          (λ all. is.nothing_new (sym saved ∙ all)) (λ all. rest_altered state h h' alters untaken (is.rest (sym saved ∙ all)));
     }
+      where
+        alters : Alters state h h' 0 false
+        alters = record {
+          looks = s.looks;
+          number = number;
+          version = version;
+          upgraded = upgraded;
+          halted = halted;
+          segments = tight.stays.segments ∙ s.segments;
+          clean = tight.stays.clean ∙ s.clean;
+          capacity = tight.stays.capacity ∙ s.capacity;
+          few = let x = s.few in let y = tight.stays.blocks in omega (arith, x, y);
+        }
+
+        untaken : AreUntaken h.memory.usage → AreUntaken h'.memory.usage
+        untaken before segment = subst (λ (u : UsageTable). kept_of u segment ≡ used_of u segment) (sym tight.usage)
+            (s.kept segment ∙ before segment ∙ sym (s.used segment))
 
   pub is_stage_fault : (h h' : Held D) (c : Changes)
       → IsBatchExcused (state h.device) (state h'.device) h.memory c.loss c.headers.items c.blocks.items → IsStageFault state h h' c

@@ -1,5 +1,5 @@
 -- What a pass of the cleaner does: all that lives in some segments goes elsewhere, and they are clean.
-use Rattle.std.specs.Prelude.{◌≡◌, ◌<◌, ◌≤◌, ◌+◌, ◌*◌, ◌-◌, ◌/◌, ℕ, false, List, [], length, get_or, Some}
+use Rattle.std.specs.Prelude.{◌≡◌, ◌<◌, ◌≤◌, ◌+◌, ◌*◌, ◌-◌, ◌/◌, ℕ, true, false, List, [], length, get_or, Some}
 use Rattle.lfs_model.specs.Checkpoint.{CheckpointValue}
 use Rattle.lfs_model.specs.Crash.{StandsOn}
 use Rattle.lfs_model.specs.declared.limits.TheConstants.{CHUNK_BLOCKS, TABLE_BLOCKS}
@@ -81,6 +81,7 @@ module _ {D : Type 0} (state : D → DeviceState) where
     pub cleaned : (s : ℕ) → IsIn vs s → used_of h'.memory.usage s ≡ 0
     pub gains : clean_in h.memory.usage.segments < clean_in h'.memory.usage.segments
     pub many : length h'.memory.usage.segments ≤ 8 * clean_in h'.memory.usage.segments
+    pub saved : h'.saved ≡ true
     pub empty : AreAllSaved h'
     pub untaken : AreUntaken h'.memory.usage
     pub no_failure : (state h'.device).failures ≡ (state h.device).failures

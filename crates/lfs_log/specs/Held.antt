@@ -1,7 +1,8 @@
 -- What contracts see of a log: its device, what memory holds, the number of the acknowledged checkpoint, the
--- version of the layout, whether it was raised since, whether a commit failed, and the blocks of all files.
-use Rattle.std.specs.Prelude.{◌≡◌, ◌⊎◌, ◌<◌, ◌≤◌, ◌+◌, ◌-◌, ◌*◌, ◌/◌, ◌^◌, ◌||◌, cond, ℕ, zero, suc, Bool, true, false, List, [], length}
-use Rattle.std.specs.Prelude.{refl, Option, None}
+-- version of the layout, whether it was raised since, whether all of it is saved, whether a commit failed, and the blocks of all files.
+use Rattle.std.specs.Prelude.{◌≡◌, ◌⊎◌, ◌<◌, ◌≤◌, ◌+◌, ◌-◌, ◌*◌, ◌/◌, ◌^◌, ◌||◌, cond, max, ℕ, zero, suc, Bool, true, false, List, []}
+use Rattle.std.specs.Prelude.{length}
+use Rattle.std.specs.Prelude.{refl, Option, None, Result, OnErr, IsErrOf}
 use Rattle.std.specs.Coded.{Coded, code_by, coded×, coded_ℕ, coded_bool, coded_list, coded_option}
 use Rattle.lfs_model.specs.declared.BlockKind.{BlockKind}
 use Rattle.lfs_model.specs.declared.BlockKind.TheVariants as kind
@@ -11,9 +12,12 @@ use Rattle.lfs_model.specs.Content.{Content}
 use Rattle.lfs_model.specs.Crash.{StandsOn, StandsForOn}
 use Rattle.lfs_model.specs.Device.{DeviceState, Carries, LeavesOnly, AllLeft}
 use Rattle.lfs_model.specs.Encodes.{IsLogMap, HasInode}
+use Rattle.lfs_model.specs.Memory.{is_nameless}
 use Rattle.lfs_model.specs.Objects.{is_stored, has_leaf, has_double}
 use Rattle.lfs_model.specs.Totals.{stored_in}
 use Rattle.lfs_memory.specs.declared.changes.Changes.{Changes}
+use Rattle.lfs_memory.specs.files.declared.fault.LogFault.{LogFault}
+use Rattle.lfs_memory.specs.files.declared.fault.LogFault.TheVariants.{Full, Halted}
 use Rattle.lfs_memory.specs.files.declared.header.Header.{Header}
 use Rattle.lfs_model.specs.TreeOf.{dropped}
 use Rattle.lfs_model.specs.Stands.{LogMap, StandsLog}
@@ -30,7 +34,7 @@ use Rattle.lfs_memory.specs.Present.{Looks, HeaderAnswer, BlockAnswer}
 use Rattle.lfs_memory.specs.Removing.{without_file}
 use Rattle.lfs_memory.specs.Batch.{room_for, staged, raises, FitsBatch}
 use Rattle.lfs_verify.specs.declared.totals.BlockTotals.{BlockTotals}
-use Rattle.lfs_memory.specs.segments.Early.{AreUntaken, early_in, taken_in}
+use Rattle.lfs_memory.specs.segments.Early.{AreUntaken, early_in}
 use Rattle.lfs_log.specs.Early.{full_chunk}
 use Rattle.lfs_log.specs.Thresholds.{reserve_of}
 use Rattle.lfs_log.specs.Saving.{orders_for, segments_for}
@@ -41,6 +45,7 @@ pub record Held (D : Type 0) : Type 0 where
   pub number : ℕ
   pub version : ℕ
   pub upgraded : Bool
+  pub saved : Bool
   pub halted : Bool
   pub totals : BlockTotals
 
@@ -123,17 +128,19 @@ totals_code = code_by (ℕ × ℕ) (coded× coded_ℕ coded_ℕ) (λ t. (t.data_
 
 abbrev pub held_code : {D : Type 0} → Coded D → Coded (Held D)
 held_code {D} device =
-    code_by (D × (LogMemory × (ℕ × (ℕ × (Bool × (Bool × BlockTotals))))))
-    (coded× device (coded× memory_code (coded× coded_ℕ (coded× coded_ℕ (coded× coded_bool (coded× coded_bool totals_code))))))
-    (λ h. (h.device, (h.memory, (h.number, (h.version, (h.upgraded, (h.halted, h.totals)))))))
+    code_by (D × (LogMemory × (ℕ × (ℕ × (Bool × (Bool × (Bool × BlockTotals)))))))
+    (coded× device
+    (coded× memory_code (coded× coded_ℕ (coded× coded_ℕ (coded× coded_bool (coded× coded_bool (coded× coded_bool totals_code)))))))
+    (λ h. (h.device, (h.memory, (h.number, (h.version, (h.upgraded, (h.saved, (h.halted, h.totals))))))))
     (λ p. record {
       device = p.0;
       memory = p.1.0;
       number = p.1.1.0;
       version = p.1.1.1.0;
       upgraded = p.1.1.1.1.0;
-      halted = p.1.1.1.1.1.0;
-      totals = p.1.1.1.1.1.1;
+      saved = p.1.1.1.1.1.0;
+      halted = p.1.1.1.1.1.1.0;
+      totals = p.1.1.1.1.1.1.1;
     })
     (λ _. refl)
 
@@ -155,31 +162,47 @@ pub record IsReadyToPass (d : DeviceState) (v : LogMemory) (before : UsageTable)
 abbrev pub HoldsUnlessHalted : DeviceState → LogMemory → UsageTable → Bool → Type 0
 HoldsUnlessHalted d v before halted = halted ≡ false → IsReadyToPass d v before
 
--- How many blocks no checkpoint leads to yet: those of files in memory, those that were written between commits, and one for a version that
--- was raised, the checkpoint's.
+-- nothing waits for a checkpoint: no block in memory, no version that was raised, and no sector that was taken
+pub record NothingWaits (v : LogMemory) (upgraded : Bool) : Type 0 where
+  pub blocks : v.dirty.blocks ≡ []
+  pub version : upgraded ≡ false
+  pub sectors : AreUntaken v.usage
+
+abbrev pub AreAllSaved : {D : Type 0} → Held D → Type 0
+AreAllSaved h = NothingWaits h.memory h.upgraded
+
+-- so it is where all of the log is saved
+abbrev pub WaitsUnlessSaved : LogMemory → Bool → Bool → Type 0
+WaitsUnlessSaved v upgraded saved = saved ≡ true → NothingWaits v upgraded
+
+-- What holds where all is saved, after a mount, a commit or a pass. No sector was taken since, and an
+-- eighth of the segments is clean at least.
+pub record IsAtRest {D : Type 0} (h : Held D) : Type 0 where
+  pub nothing : AreAllSaved h
+  pub untaken : AreUntaken h.memory.usage
+  pub many : length h.memory.usage.segments ≤ 8 * clean_in h.memory.usage.segments
+
+-- How much is unsaved: nothing where all of the log is saved. Else the blocks that no checkpoint leads to yet, and one at least, as a file
+-- that is gone has none: blocks of files in memory, those that were written between commits, and one for a version that was raised, the
+-- checkpoint's.
 abbrev pub unsaved_in : {D : Type 0} → Held D → ℕ
 unsaved_in h =
-    length h.memory.dirty.blocks + early_in h.memory.usage.segments + cond h.upgraded 1 0
+    cond h.saved 0 (max 1 (length h.memory.dirty.blocks + early_in h.memory.usage.segments + cond h.upgraded 1 0))
 
--- How much waits for a checkpoint: blocks in memory, sectors that were taken, and a version that was raised. Something may wait where no
--- block is unsaved: the sectors of blocks that were written between commits, and lost before the next.
-abbrev pub waiting_in : {D : Type 0} → Held D → ℕ
-waiting_in h =
-    length h.memory.dirty.blocks + taken_in h.memory.usage.segments + cond h.upgraded 1 0
-
--- nothing waits for a checkpoint: no block, no version, and no sector
-pub record AreAllSaved {D : Type 0} (h : Held D) : Type 0 where
-  pub blocks : h.memory.dirty.blocks ≡ []
-  pub version : h.upgraded ≡ false
-  pub sectors : AreUntaken h.memory.usage
+-- how many checkpoints are to be written before all is saved
+abbrev pub commits_due : {D : Type 0} → Held D → ℕ
+commits_due h = cond h.saved 0 1
 
 module _ {D : Type 0} (state : D → DeviceState) where
-  -- The log holds log map m, and the acknowledged checkpoint k, whose number it knows, stands for m0.
+  -- The log holds log map m, and the acknowledged checkpoint k, whose number it knows, stands for m0. Where all of it is saved, m0 is m
+  -- without its files of no links, and the log is at rest.
   pub record Holds (h : Held D) (k : CheckpointValue) (m0 m : LogMap) : Type 0 where
     pub log : IsLog (state h.device) h.memory k m0 m
     pub number : k.number ≡ h.number
     pub version : m.version ≡ h.version
     pub running : h.halted ≡ false
+    pub nothing_new : h.saved ≡ true → m0 ≡ dropped m
+    pub rest : h.saved ≡ true → IsAtRest h
 
   -- a mount gives the log map that the device stands for, all of it durable
   abbrev pub Mounts : D → Held D → Type 0
@@ -207,6 +230,7 @@ module _ {D : Type 0} (state : D → DeviceState) where
         ≤ clean_in h'.memory.usage.segments + segments_for (length h.memory.dirty.blocks)
     pub clean : clean_in h.memory.usage.segments ≤ clean_in h'.memory.usage.segments + 8
     pub many : length h'.memory.usage.segments ≤ 8 * clean_in h'.memory.usage.segments
+    pub saved : h'.saved ≡ true
     pub empty : AreAllSaved h'
     pub untaken : AreUntaken h'.memory.usage
     pub no_failure : (state h'.device).failures ≡ (state h.device).failures
@@ -220,6 +244,7 @@ module _ {D : Type 0} (state : D → DeviceState) where
   pub record Halts (h h' : Held D) : Type 0 where
     pub carries : Carries (state h.device) (state h'.device)
     pub halted : h'.halted ≡ true
+    pub unsaved : h'.saved ≡ false
     pub number : h'.number ≡ h.number
     pub cause : (k : CheckpointValue) (m0 m : LogMap) → (state h'.device).keeps_model → Holds h k m0 m
         → (state h.device).failures < (state h'.device).failures
@@ -234,6 +259,7 @@ module _ {D : Type 0} (state : D → DeviceState) where
     pub running : h'.halted ≡ false
     pub number : h'.number ≡ h.number
     pub upgraded : h'.upgraded ≡ h.upgraded
+    pub saved : h'.saved ≡ h.saved
     pub segments : length h'.memory.usage.segments ≡ length h.memory.usage.segments
     pub capacity : h'.memory.dirty.capacity ≡ h.memory.dirty.capacity
     pub fewer : length h'.memory.dirty.blocks ≤ length h.memory.dirty.blocks
@@ -261,6 +287,7 @@ module _ {D : Type 0} (state : D → DeviceState) where
     pub number : h'.number ≡ h.number
     pub version : h'.version ≡ h.version
     pub upgraded : h'.upgraded ≡ h.upgraded
+    pub saved : h'.saved ≡ h.saved
     pub halted : h'.halted ≡ h.halted
     pub totals : h'.totals ≡ h.totals
 
@@ -268,6 +295,13 @@ module _ {D : Type 0} (state : D → DeviceState) where
   abbrev pub IsReadFault : Held D → Held D → Type 0
   IsReadFault h h' = (k : CheckpointValue) (m0 m : LogMap) → (state h'.device).keeps_model → Holds h k m0 m
       → (state h.device).failures < (state h'.device).failures
+
+  -- One that ends so. It fails where the device does, or as the log was halted before.
+  pub record ReadsLog {T : Type 0} (h h' : Held D) (result : Result T LogFault) : Type 0 where
+    pub reads : Reads h h'
+    pub halted : IsErrOf result Halted → h.halted ≡ true
+    pub other : IsErrOf result Full → ⊥
+    pub failed : OnErr result (IsReadFault h h')
 
   -- what is read is the log map's
   abbrev pub ReadsHeader : Held D → Held D → ℕ → Option Header → Type 0
@@ -306,15 +340,17 @@ module _ {D : Type 0} (state : D → DeviceState) where
     pub capacity : h'.memory.dirty.capacity ≡ h.memory.dirty.capacity
     pub few : length h'.memory.dirty.blocks ≤ length h.memory.dirty.blocks + more
 
-  -- A batch of changes is staged: the present log map is the one with all of them.
+  -- A batch of changes is staged: the present log map is the one with all of them, and isn't saved.
   pub record IsStaged (h h' : Held D) (c : Changes) : Type 0 where
     pub alters : Alters h h' (room_for c) (raises c.loss)
+    pub unsaved : h'.saved ≡ false
     pub holds : (k : CheckpointValue) (m0 m : LogMap) → (state h'.device).keeps_model → Holds h k m0 m → FitsBatch m c
         → Holds h' k m0 (staged c m)
 
-  -- Or none is made.
+  -- Or none is made. Blocks may have come into memory, so that the log counts as unsaved.
   pub record IsRefused (h h' : Held D) (c : Changes) : Type 0 where
     pub alters : Alters h h' (room_for c) false
+    pub unsaved : h.halted ≡ false → h'.saved ≡ false
     pub holds : (k : CheckpointValue) (m0 m : LogMap) → (state h'.device).keeps_model → Holds h k m0 m → FitsBatch m c → Holds h' k m0 m
 
   -- a call of the device failed, where the log holds a map that the batch fits
@@ -322,15 +358,19 @@ module _ {D : Type 0} (state : D → DeviceState) where
   IsStageFault h h' c = (k : CheckpointValue) (m0 m : LogMap) → (state h'.device).keeps_model → Holds h k m0 m → FitsBatch m c
       → (state h.device).failures < (state h'.device).failures
 
-  -- A file is gone.
+  -- A file is gone. What is saved stays so where it had no links.
   pub record IsRemoved (h h' : Held D) (n : ℕ) : Type 0 where
     pub alters : Alters h h' 0 false
+    pub unsaved : h.saved ≡ false → h'.saved ≡ false
+    pub nameless : (k : CheckpointValue) (m0 m : LogMap) → (state h'.device).keeps_model → Holds h k m0 m → is_nameless m n ≡ true
+        → h'.saved ≡ h.saved
     pub untaken : AreUntaken h.memory.usage → AreUntaken h'.memory.usage
     pub holds : (k : CheckpointValue) (m0 m : LogMap) → (state h'.device).keeps_model → Holds h k m0 m → Holds h' k m0 (without_file n m)
 
   -- Or nothing is.
   pub record IsKept (h h' : Held D) : Type 0 where
     pub alters : Alters h h' 0 false
+    pub saved : h'.saved ≡ h.saved
     pub untaken : AreUntaken h.memory.usage → AreUntaken h'.memory.usage
     pub holds : (k : CheckpointValue) (m0 m : LogMap) → (state h'.device).keeps_model → Holds h k m0 m → Holds h' k m0 m
 

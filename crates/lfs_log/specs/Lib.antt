@@ -3,6 +3,7 @@ pub mod Publishing
 pub mod Saving
 pub mod Opening
 pub mod Held
+pub mod Mounting
 pub mod Relocating
 pub mod Cleaning
 pub mod Telling

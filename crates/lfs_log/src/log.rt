@@ -47,6 +47,8 @@ pub struct Log<D: SectorDevice> {
     version: LayoutVersion,
     /// The version was raised, and the acknowledged checkpoint has the first one.
     upgraded: bool,
+    /// Nothing changed since the acknowledged checkpoint, but for files without a name that went.
+    saved: bool,
     halted: bool,
     /// The blocks of all files, as they are staged.
     totals: BlockTotals,
@@ -60,7 +62,7 @@ pub struct Log<D: SectorDevice> {
 
 impl<D: SectorDevice> Model for Log<D> {
     ghost use Rattle.lfs_memory.specs.Pointers.{KeepsRun};
-    ghost use Rattle.lfs_log.specs.Held.{Held, held_code, HoldsUnlessHalted};
+    ghost use Rattle.lfs_log.specs.Held.{Held, held_code, HoldsUnlessHalted, WaitsUnlessSaved};
     ghost use Rattle.lfs_log.specs.Versions.{number_of};
 
     ghost Value = { Held D };
@@ -73,13 +75,15 @@ impl<D: SectorDevice> Model for Log<D> {
       number = l.number;
       version = number_of l.version;
       upgraded = l.upgraded;
+      saved = l.saved;
       halted = l.halted;
       totals = l.totals;
     } };
 
     ghost invariant = { λ l.
         HoldsUnlessHalted (D.SectorDevice.state l.device) l.memory l.before.usage l.halted
-        × KeepsRun (D.SectorDevice.state l.device) l.memory l.pointers };
+        × KeepsRun (D.SectorDevice.state l.device) l.memory l.pointers
+        × WaitsUnlessSaved l.memory l.upgraded l.saved };
 }
 
 impl<D: SectorDevice> Log<D> {
@@ -87,7 +91,8 @@ impl<D: SectorDevice> Log<D> {
     ghost use Rattle.lfs_log.specs.Saving.{commit_orders, orders_for, pass_orders};
     ghost use Rattle.lfs_log.specs.Early.{full_chunk};
     ghost use Rattle.lfs_log.specs.Thresholds.{HasReserve, LacksReserve, reserve_of};
-    ghost use Rattle.lfs_log.specs.Held.{Mounts, Saves, Halts, Reads, ReadsHeader, ReadsBlock, TellsBlock, TellsLeaf, TellsDouble, CountsBlocks, IsReadFault, IsFull, IsVacant, HasAll, IsStaged, IsRefused, IsStageFault, IsRemoved, IsKept, HoldsOne, AreAllSaved, WritesEarly, unsaved_in, waiting_in};
+    ghost use Rattle.lfs_log.specs.Mounting.{OpenedLog, OpensLog};
+    ghost use Rattle.lfs_log.specs.Held.{Saves, Halts, Reads, ReadsHeader, ReadsBlock, TellsBlock, TellsLeaf, TellsDouble, CountsBlocks, IsReadFault, IsFull, IsVacant, HasAll, IsStaged, IsRefused, IsStageFault, IsRemoved, IsKept, HoldsOne, AreAllSaved, WritesEarly, ReadsLog, unsaved_in};
 
     /// The volume that the newest checkpoint of the device leads to, with the totals of its files;
     /// else why there is none, and the device. All that the checkpoint leads to is walked over
@@ -100,28 +105,7 @@ impl<D: SectorDevice> Log<D> {
     /// device holds no log map: it is too small, holds no checkpoint, or the first stage that fails
     /// is named, one of the stages 1 to 9, or 15 where too few segments are clean.
     pub fn open(alloc: Global, device: D) -> Result<Log<D>, (MountFault, D)>
-        ensures holds { IfOk result (λ log. Mounts D.SectorDevice.state device log) }
-        ensures counts { IfOk result (λ log. CountsOpened (D.state device) (D.state log.device)
-            log.totals) }
-        ensures found { IfOk result (λ log. HasLogMap (D.state device) (D.state log.device)) }
-        ensures empty { IfOk result AreAllSaved }
-        ensures untaken { IfOk result (λ log. (D.state log.device).keeps_model
-            → AreUntaken log.memory.usage) }
-        ensures many { IfOk result (λ log. (D.state log.device).keeps_model
-            → length log.memory.usage.segments ≤ 8 * clean_in log.memory.usage.segments) }
-        ensures durable { IfOk result (λ log. (D.state log.device).keeps_model
-            → Only (D.state device).content (D.state log.device)) }
-        ensures cause { IfErr result (λ e. (e.0 ≡ MountFault.NoMemory → ⊥)
-            → IsOpenFault (D.state device) (D.state e.1) e.0) }
-        ensures reason { IfErr result (λ e. IsRefusedLog (D.state device) (D.state e.1) e.0) }
-        ensures untouched { MatchResult result
-            (λ log. IsUntouched (D.state device) (D.state log.device))
-            (λ e. IsUntouched (D.state device) (D.state e.1)) }
-        ensures carries { MatchResult result (λ log. Carries (D.state device) (D.state log.device))
-            (λ e. Carries (D.state device) (D.state e.1)) }
-        ensures any_moment { MatchResult result
-            (λ log. LeavesOnly (D.state device) (D.state log.device) (D.state device).may_leave)
-            (λ e. LeavesOnly (D.state device) (D.state e.1) (D.state device).may_leave) }
+        ensures { OpensLog D.SectorDevice.state device result }
     {
         match Log::open_with(alloc, device, DEFAULT_SECTORS) {
             Ok(log) => Ok(log),
@@ -137,28 +121,7 @@ impl<D: SectorDevice> Log<D> {
     pub fn open_with(alloc: Global, device: D, capacity: u32) -> Result<Log<D>, (MountFault, D)>
         requires some { 1 ≤ capacity }
         requires most { capacity ≤ MOST_SECTORS }
-        ensures holds { IfOk result (λ log. Mounts D.SectorDevice.state device log) }
-        ensures counts { IfOk result (λ log. CountsOpened (D.state device) (D.state log.device)
-            log.totals) }
-        ensures found { IfOk result (λ log. HasLogMap (D.state device) (D.state log.device)) }
-        ensures empty { IfOk result AreAllSaved }
-        ensures untaken { IfOk result (λ log. (D.state log.device).keeps_model
-            → AreUntaken log.memory.usage) }
-        ensures many { IfOk result (λ log. (D.state log.device).keeps_model
-            → length log.memory.usage.segments ≤ 8 * clean_in log.memory.usage.segments) }
-        ensures durable { IfOk result (λ log. (D.state log.device).keeps_model
-            → Only (D.state device).content (D.state log.device)) }
-        ensures cause { IfErr result (λ e. (e.0 ≡ MountFault.NoMemory → ⊥)
-            → IsOpenFault (D.state device) (D.state e.1) e.0) }
-        ensures reason { IfErr result (λ e. IsRefusedLog (D.state device) (D.state e.1) e.0) }
-        ensures untouched { MatchResult result
-            (λ log. IsUntouched (D.state device) (D.state log.device))
-            (λ e. IsUntouched (D.state device) (D.state e.1)) }
-        ensures carries { MatchResult result (λ log. Carries (D.state device) (D.state log.device))
-            (λ e. Carries (D.state device) (D.state e.1)) }
-        ensures any_moment { MatchResult result
-            (λ log. LeavesOnly (D.state device) (D.state log.device) (D.state device).may_leave)
-            (λ e. LeavesOnly (D.state device) (D.state e.1) (D.state device).may_leave) }
+        ensures { OpensLog D.SectorDevice.state device result }
     {
         let mut device = match CachedDevice::new(alloc, device, capacity) {
             Ok(device) => device,
@@ -190,14 +153,7 @@ impl<D: SectorDevice> Log<D> {
             → HasTables (D.state device).content tables }
         requires durable { (D.state device).keeps_model
             → Only (D.state device).content (D.state device) }
-        ensures holds { IfOk result (λ log. Mounts D.SectorDevice.state device log) }
-        ensures counts { IfOk result (λ log. CountsOpened (D.state device) (D.state log.device)
-            log.totals) }
-        ensures empty { IfOk result AreAllSaved }
-        ensures untaken { IfOk result (λ log. (D.state log.device).keeps_model
-            → AreUntaken log.memory.usage) }
-        ensures many { IfOk result (λ log. (D.state log.device).keeps_model
-            → length log.memory.usage.segments ≤ 8 * clean_in log.memory.usage.segments) }
+        ensures opened { IfOk result (λ log. OpenedLog D.SectorDevice.state device log) }
         ensures refused { IfErr result (λ e. e.0 ≡ MountFault.NoMemory) }
         ensures same { MatchResult result (λ log. log.device ≡ device) (λ e. e.1 ≡ device) }
     {
@@ -212,6 +168,7 @@ impl<D: SectorDevice> Log<D> {
                 number: opened.number,
                 version,
                 upgraded: false,
+                saved: true,
                 halted: false,
                 totals: opened.totals,
                 counts,
@@ -287,25 +244,29 @@ impl<D: SectorDevice> Log<D> {
         self.memory.usage.clean()
     }
 
-    /// How many blocks are unsaved: those of files that changed since the acknowledged checkpoint,
-    /// in memory or written where it doesn't reach, and the checkpoint's own where the version was
-    /// raised.
+    /// How much is unsaved: 0 exactly where the acknowledged log map is the present one without its
+    /// files of no links, as far as the log knows. Else the blocks of files that changed since, in
+    /// memory or written where the acknowledged checkpoint doesn't reach, and its own where the
+    /// version was raised, and 1 at least.
     pub fn unsaved(&self) -> usize
         ensures { result ≡ unsaved_in self.now }
     {
+        if self.saved {
+            return 0;
+        }
         let _most = self.memory.dirty.capacity();
         let version = unsaved_by(self.upgraded);
         let early = self.memory.usage.early() as usize;
-        self.memory.dirty.len() + early + version
+        (self.memory.dirty.len() + early + version).max(1)
     }
 
-    /// Whether nothing waits for a checkpoint: no block is in memory, no version was raised, and no
-    /// sector was taken.
+    /// Whether nothing is unsaved. No block is in memory then, no version was raised, and no sector
+    /// was taken.
     pub fn is_saved(&self) -> bool
-        ensures yes { IsTrue result → AreAllSaved self.now }
-        ensures no { IsFalse result → 0 < waiting_in self.now }
+        ensures value { result ≡ self.now.saved }
+        ensures nothing { IsTrue result → AreAllSaved self.now }
     {
-        self.memory.dirty.len() == 0 && !self.upgraded && self.memory.usage.is_untaken()
+        self.saved
     }
 
     /// The blocks of all files, as they are staged: what the last change said of them, or the mount
@@ -360,11 +321,8 @@ impl<D: SectorDevice> Log<D> {
     /// `Halted` once a write of the log failed, `Device` where a call of the device failed.
     pub fn header(&mut self, number: u16) -> Result<Option<Header>, LogFault>
         requires { number < FILE_NUMBERS }
-        ensures reads { Reads D.SectorDevice.state self.old self.new }
+        ensures keeps { ReadsLog D.SectorDevice.state self.old self.new result }
         ensures answer { IfOk result (ReadsHeader D.SectorDevice.state self.old self.new number) }
-        ensures halted { IsErrOf result LogFault.Halted → self.old.halted ≡ true }
-        ensures other { IsErrOf result LogFault.Full → ⊥ }
-        ensures failed { OnErr result (IsReadFault D.SectorDevice.state self.old self.new) }
     {
         if self.halted {
             return Err(LogFault::Halted);
@@ -382,13 +340,10 @@ impl<D: SectorDevice> Log<D> {
     /// As those of `header`.
     pub fn block(&mut self, number: u16, index: u32, out: &mut [u8; 512]) -> Result<bool, LogFault>
         requires { number < FILE_NUMBERS }
-        ensures reads { Reads D.SectorDevice.state self.old self.new }
+        ensures keeps { ReadsLog D.SectorDevice.state self.old self.new result }
         ensures answer { IfOk result (ReadsBlock D.SectorDevice.state self.old self.new number index
             out.new) }
         ensures zeros { IfOk result (λ found. IsFalse found → out.new ≡ zeros SECTOR_LEN) }
-        ensures halted { IsErrOf result LogFault.Halted → self.old.halted ≡ true }
-        ensures other { IsErrOf result LogFault.Full → ⊥ }
-        ensures failed { OnErr result (IsReadFault D.SectorDevice.state self.old self.new) }
     {
         if self.halted {
             return Err(LogFault::Halted);
@@ -413,12 +368,9 @@ impl<D: SectorDevice> Log<D> {
     /// As those of `header`.
     pub fn has_block(&mut self, number: u16, index: u32) -> Result<bool, LogFault>
         requires { number < FILE_NUMBERS }
-        ensures reads { Reads D.SectorDevice.state self.old self.new }
+        ensures keeps { ReadsLog D.SectorDevice.state self.old self.new result }
         ensures answer { IfOk result (TellsBlock D.SectorDevice.state self.old self.new number
             index) }
-        ensures halted { IsErrOf result LogFault.Halted → self.old.halted ≡ true }
-        ensures other { IsErrOf result LogFault.Full → ⊥ }
-        ensures failed { OnErr result (IsReadFault D.SectorDevice.state self.old self.new) }
     {
         if self.halted {
             return Err(LogFault::Halted);
@@ -444,13 +396,10 @@ impl<D: SectorDevice> Log<D> {
     pub fn count_blocks(&mut self, number: u16, from: u32, to: u32) -> Result<u32, LogFault>
         requires number { number < FILE_NUMBERS }
         requires order { from ≤ to }
-        ensures reads { Reads D.SectorDevice.state self.old self.new }
+        ensures keeps { ReadsLog D.SectorDevice.state self.old self.new result }
         ensures few { IfOk result (λ count. count ≤ to - from) }
         ensures answer { IfOk result (CountsBlocks D.SectorDevice.state self.old self.new number
             from to) }
-        ensures halted { IsErrOf result LogFault.Halted → self.old.halted ≡ true }
-        ensures other { IsErrOf result LogFault.Full → ⊥ }
-        ensures failed { OnErr result (IsReadFault D.SectorDevice.state self.old self.new) }
     {
         if self.halted {
             return Err(LogFault::Halted);
@@ -477,12 +426,9 @@ impl<D: SectorDevice> Log<D> {
     pub fn has_leaf(&mut self, number: u16, leaf: u32) -> Result<bool, LogFault>
         requires number { number < FILE_NUMBERS }
         requires leaf { leaf ≤ LAST_LEAF }
-        ensures reads { Reads D.SectorDevice.state self.old self.new }
+        ensures keeps { ReadsLog D.SectorDevice.state self.old self.new result }
         ensures answer { IfOk result (TellsLeaf D.SectorDevice.state self.old self.new number
             leaf) }
-        ensures halted { IsErrOf result LogFault.Halted → self.old.halted ≡ true }
-        ensures other { IsErrOf result LogFault.Full → ⊥ }
-        ensures failed { OnErr result (IsReadFault D.SectorDevice.state self.old self.new) }
     {
         if self.halted {
             return Err(LogFault::Halted);
@@ -500,11 +446,8 @@ impl<D: SectorDevice> Log<D> {
     /// As those of `header`.
     pub fn has_double(&mut self, number: u16) -> Result<bool, LogFault>
         requires number { number < FILE_NUMBERS }
-        ensures reads { Reads D.SectorDevice.state self.old self.new }
+        ensures keeps { ReadsLog D.SectorDevice.state self.old self.new result }
         ensures answer { IfOk result (TellsDouble D.SectorDevice.state self.old self.new number) }
-        ensures halted { IsErrOf result LogFault.Halted → self.old.halted ≡ true }
-        ensures other { IsErrOf result LogFault.Full → ⊥ }
-        ensures failed { OnErr result (IsReadFault D.SectorDevice.state self.old self.new) }
     {
         if self.halted {
             return Err(LogFault::Halted);
@@ -541,6 +484,8 @@ impl<D: SectorDevice> Log<D> {
             return Err(LogFault::Halted);
         }
         drop_run(&mut self.pointers);
+        // A stage that fails may have brought blocks into memory, which a commit clears.
+        self.saved = false;
         match stage_tight(
             &mut self.device,
             &mut self.memory,
@@ -577,10 +522,12 @@ impl<D: SectorDevice> Log<D> {
             return Err(LogFault::Halted);
         }
         drop_run(&mut self.pointers);
+        let nameless = self.memory.map.is_hidden(number);
         let Ok(()) = remove_tight(&mut self.device, &mut self.memory, number, &mut self.counts)
         else {
             return Err(LogFault::Device);
         };
+        self.saved &= nameless;
         self.totals = totals;
         Ok(())
     }
@@ -627,6 +574,7 @@ impl<D: SectorDevice> Log<D> {
             Ok(()) => Ok(()),
             Err(_) => {
                 self.halted = true;
+                self.saved = false;
                 Err(LogFault::Halted)
             }
         }
@@ -673,10 +621,12 @@ impl<D: SectorDevice> Log<D> {
             Ok(()) => {
                 self.number += 1;
                 self.upgraded = false;
+                self.saved = true;
                 Ok(())
             }
             Err(_) => {
                 self.halted = true;
+                self.saved = false;
                 Err(LogFault::Halted)
             }
         }
@@ -742,11 +692,13 @@ impl<D: SectorDevice> Log<D> {
             self.number,
         ) else {
             self.halted = true;
+            self.saved = false;
             return Err(LogFault::Halted);
         };
         self.memory.dirty.set_limit(MOST_UNSAVED);
         self.number += 1;
         self.upgraded = false;
+        self.saved = true;
         Ok(())
     }
 }

@@ -7,7 +7,7 @@ ghost use Rattle.lfs_model.specs.Memory.{parent};
 ghost use Rattle.lfs_model.specs.Summary.{FitsSummary, IsPlaced};
 ghost use Rattle.lfs_memory.specs.Lifting.{IsCountedAbove, IsInMemory, IsMapLost, MapLifts};
 ghost use Rattle.lfs_memory.specs.Memory.{HasRoom, IsMemory};
-ghost use Rattle.lfs_memory.specs.Present.{AnswersAddress, FailsFromDevice, Looks};
+ghost use Rattle.lfs_memory.specs.Present.{FailsFromDevice, Looks};
 ghost use Rattle.lfs_memory.specs.inodes.Key.{entry_of};
 ghost use Rattle.lfs_memory.specs.inodes.MapValue.{block_in};
 ghost use Rattle.lfs_memory.specs.segments.Table.{address_of};
@@ -15,51 +15,16 @@ ghost use Rattle.lfs_log.specs.Relocating.{BringsOne, BringsWay, CameFrom, HasLe
 
 use lfs_cache::CachedDevice;
 use lfs_device::{DeviceFault, SectorDevice};
-use lfs_layout::{BlockName, SummaryView};
+use lfs_layout::{BlockName, SummaryView, segment_of};
 use lfs_memory::LogMemory;
 use lfs_memory::inodes::{BlockKey, IN_MEMORY};
 use lfs_memory::lifting::{LiftFault, has_block, is_counted, lift_child, lift_inode, lift_map};
-use lfs_memory::present::present_word;
+use lfs_memory::present::locate;
 use lfs_memory::segments::Usage;
 use lfs_model::BlockKind;
 use lfs_model::limits::{
     CHECKPOINT_SLOTS, MAP_BLOCKS, MOST_SEGMENTS, SEGMENT_SECTORS, USAGE_BLOCKS,
 };
-
-/// The address at which a block of a file stands: 0 where it isn't stored, `IN_MEMORY` for one in
-/// memory.
-///
-/// # Errors
-///
-/// Where a block above it can't be read.
-fn locate<D: SectorDevice>(
-    device: &mut CachedDevice<D>,
-    memory: &LogMemory,
-    key: BlockKey,
-) -> Result<u32, DeviceFault>
-    ensures answer { IfOk result (AnswersAddress (D.state device.old) (D.state device.new)
-        memory.now (entry_of key)) }
-    ensures failed { OnErr result (FailsFromDevice (D.state device.old)
-        (D.state device.new) memory.now) }
-    ensures no_failure { OnOk result ((D.state device.new).failures
-        ≡ (D.state device.old).failures) }
-    ensures looks { Looks (D.state device.old) (D.state device.new) }
-{
-    let Some(above) = key.parent() else {
-        return Ok(memory.map.address(key.file()));
-    };
-    let address = match locate(device, memory, above) {
-        Ok(address) => address,
-        Err(fault) => return Err(fault),
-    };
-    if address == 0 {
-        return Ok(0);
-    }
-    match present_word(device, memory, above, address, key.pointer()) {
-        Ok(pointer) => Ok(pointer),
-        Err(fault) => Err(fault),
-    }
-}
 
 /// The blocks in memory stand in the order of their keys: a law of their table.
 pub fn are_in_order(memory: &LogMemory)
@@ -261,7 +226,7 @@ fn leave_usage(usage: &mut Usage, index: u32, address: u32) -> Result<(), Device
     if !is_counted(usage, address, true) {
         return Err(DeviceFault);
     }
-    usage.lift((address - 2) / 64, true);
+    usage.lift(segment_of(address), true);
     usage.set_block(index, IN_MEMORY, true);
     Ok(())
 }

@@ -10,7 +10,7 @@ ghost use Rattle.lfs_log.specs.Settling.{IsNowhere, Leaves, Resettles, IsResettl
 
 use crate::placing::seal_full;
 use lfs_device::{DeviceFault, SectorDevice};
-use lfs_layout::BlockName;
+use lfs_layout::{BlockName, place_in_segment, segment_of};
 use lfs_memory::LogMemory;
 use lfs_memory::inodes::IN_MEMORY;
 use lfs_memory::segments::{Usage, write};
@@ -34,7 +34,7 @@ fn leave(usage: &mut Usage, index: u32) -> Result<(), DeviceFault>
     if address < 2 {
         return Err(DeviceFault);
     }
-    let segment = (address - 2) / 64;
+    let segment = segment_of(address);
     if segment >= usage.segments() {
         return Err(DeviceFault);
     }
@@ -111,11 +111,11 @@ fn is_anew(usage: &Usage, index: u32) -> bool
     if address < 2 {
         return false;
     }
-    let segment = (address - 2) / 64;
+    let segment = segment_of(address);
     if segment >= usage.segments() {
         return false;
     }
-    u32::from(usage.state(segment).kept) <= (address - 2) % 64
+    u32::from(usage.state(segment).kept) <= place_in_segment(address)
 }
 
 /// The first usage block that changed and doesn't stand at such a place.

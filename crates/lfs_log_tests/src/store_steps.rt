@@ -300,7 +300,7 @@ fn measures(store: &mut Store<MemDevice>, from: u32, to: u32, want: (u32, u32)) 
 
 fn is_counted(store: &mut Store<MemDevice>, count: Count) -> bool {
     match count {
-        Count::Saved(saved) => store.saved == saved,
+        Count::Saved(saved) => store.log.is_saved() == saved,
         Count::Drafted(blocks) => store.draft.changes.blocks.len() == blocks,
         Count::Number(number) => store.log.number() == number,
         Count::Clean(segments) => store.log.clean_segments() == segments,

@@ -34,6 +34,12 @@ pub record IsMissing (content : Content) (dirty : Dirty) (x : Entry) (address : 
 abbrev pub FailsToRead : DeviceState → DeviceState → LogMemory → Entry → ℕ → Type 0
 FailsToRead d d' v x address = d'.keeps_model → (d.failures < d'.failures) ⊎ IsMissing d.content (blocks_of v.dirty) x address
 
+-- A call that reads one block: one that is done counts no failure, and one that isn't read has a reason.
+pub record EndsReading {T E : Type 0} (d d' : DeviceState) (v : LogMemory) (x : Entry) (address : ℕ) (result : Result T E) : Type 0 where
+  pub unread : OnErr result (FailsToRead d d' v x address)
+  pub no_failure : OnOk result (d'.failures ≡ d.failures)
+  pub looks : Looks d d'
+
 -- one that is: its bytes, in memory or on the device
 abbrev pub ShowsBlock : DeviceState → DeviceState → LogMemory → Entry → ℕ → List ℕ → Type 0
 ShowsBlock d d' v x address out = d'.keeps_model → out ≡ present d.content (blocks_of v.dirty) x address

@@ -4,7 +4,7 @@ ghost use Rattle.lfs_memory.specs.Changing.{ChangesBlock, Stays};
 ghost use Rattle.lfs_memory.specs.Applying.{Applies, AppliesHeader, AppliesHeaders, AppliesBlocks, FailsToApply, FailsHeaders, FailsBlocks, IsInodeAway, IsBlockAway};
 
 use crate::batch::{BlockEdit, HeaderEdit};
-use crate::changing::{change_block, change_header, create, pointer_to};
+use crate::changing::{change_header, create, pointer_to, put_block};
 use crate::lifting::has_block;
 use crate::memory::LogMemory;
 use lfs_device::DeviceFault;
@@ -62,10 +62,10 @@ pub fn apply_block(memory: &mut LogMemory, edit: &BlockEdit) -> Result<(), Devic
     ensures same { OnErr result (memory.new ≡ memory.old) }
 {
     let key = BlockKey::data(edit.number, edit.index);
-    if pointer_to(&memory.dirty, key).is_none() {
+    let Some(address) = pointer_to(&memory.dirty, key) else {
         return Err(DeviceFault);
-    }
-    change_block(memory, edit.number, edit.index, &edit.bytes)
+    };
+    put_block(memory, edit, address)
 }
 
 /// Files have these headers, one after the other.

@@ -1,20 +1,21 @@
 //! How files change in memory, one block at a time. Nothing here calls the device.
-ghost use Rattle.std.specs.Prelude.{◌≡◌, ◌≢◌, ◌<◌, ◌≤◌, ◌+◌, not, ℕ, List, Bool, Some, None, length, OnOk, OnErr, IfSome, IfNone};
-ghost use Rattle.lfs_model.specs.Entry.{Data, Inode, word};
-ghost use Rattle.lfs_model.specs.Fields.{zeros};
+ghost use Rattle.std.specs.Prelude.{◌≡◌, ◌≢◌, ◌<◌, not, ℕ, List, Some, None, length, OnOk, OnErr, IfSome, IfNone};
 ghost use Rattle.lfs_model.specs.Memory.{parent};
+ghost use Rattle.lfs_model.specs.Entry.{Inode, word};
+ghost use Rattle.lfs_model.specs.Fields.{zeros};
 ghost use Rattle.lfs_inodes.specs.Blocks.{blocks_of};
 ghost use Rattle.lfs_inodes.specs.Key.{entry_of};
 ghost use Rattle.lfs_inodes.specs.MapValue.{is_hidden_in};
+ghost use Rattle.lfs_memory.specs.Changing.{ChangesHeader, Creates, Departs, Drops, Grows, IsMiscounted, IsPointedIn, MakesBlock, Stores, Tightens, file_in};
 ghost use Rattle.lfs_memory.specs.Numbers.{IsFileNumber};
-ghost use Rattle.lfs_memory.specs.Changing.{ChangesBlock, ChangesHeader, Creates, Departs, Drops, Grows, HasAbove, IsBlockMiscounted, IsMiscounted, IsPointedIn, MakesBlock, Stores, Tightens, file_in};
 
+use crate::batch::BlockEdit;
 use crate::memory::LogMemory;
 use lfs_device::DeviceFault;
 use lfs_inodes::{BlockKey, DirtyTable, IN_MEMORY};
 use lfs_layout::{is_zero, segment_of, set_header, word};
 use lfs_model::Kind;
-use lfs_model::limits::{CHECKPOINT_SLOTS, LAST_BLOCK, SECTOR_LEN};
+use lfs_model::limits::{CHECKPOINT_SLOTS, SECTOR_LEN};
 use lfs_segments::Usage;
 
 /// The pointer to a block, by the block above it in memory: 0 for no block, `IN_MEMORY` for one in
@@ -94,53 +95,26 @@ fn drop_block(memory: &mut LogMemory, key: BlockKey, address: u32) -> Result<(),
     Ok(())
 }
 
-/// A data block of a file, whose pointer is this, is these bytes.
-fn put_block(
-    memory: &mut LogMemory,
-    file: u16,
-    index: u32,
-    address: u32,
-    bytes: &[u8; 512],
-) -> Result<(), DeviceFault>
-    requires number { IsFileNumber file }
-    requires index { index ≤ LAST_BLOCK }
-    requires room { length memory.old.dirty.blocks < memory.old.dirty.capacity.limit }
-    ensures done { OnOk result (MakesBlock memory.old memory.new file index address bytes.now) }
-    ensures miscounted { OnErr result (IsMiscounted memory.old.usage address
-        (not (is_hidden_in memory.old.map file))) }
-    ensures same { OnErr result (memory.new ≡ memory.old) }
-{
-    let key = BlockKey::data(file, index);
-    if is_zero(bytes) {
-        drop_block(memory, key, address)
-    } else {
-        store_block(memory, key, address, bytes)
-    }
-}
-
-/// A data block of a file, of which the block above is in memory, is these bytes. One of zeros
-/// alone isn't stored.
+/// A data block of a file, whose pointer is this, is these bytes. One of zeros alone isn't stored.
 ///
 /// # Errors
 ///
 /// Where the block isn't counted at its address, which only a device that broke its word brings
 /// about. Memory stays as it was.
-pub fn change_block(
-    memory: &mut LogMemory,
-    file: u16,
-    index: u32,
-    bytes: &[u8; 512],
-) -> Result<(), DeviceFault>
-    requires number { IsFileNumber file }
-    requires index { index ≤ LAST_BLOCK }
-    requires above { HasAbove (blocks_of memory.old.dirty) (Data file index) }
+pub fn put_block(memory: &mut LogMemory, edit: &BlockEdit, address: u32) -> Result<(), DeviceFault>
     requires room { length memory.old.dirty.blocks < memory.old.dirty.capacity.limit }
-    ensures done { OnOk result (ChangesBlock memory.old memory.new file index bytes.now) }
-    ensures miscounted { OnErr result (IsBlockMiscounted memory.old file index) }
+    ensures done { OnOk result (MakesBlock memory.old memory.new edit.now.number edit.now.index
+        address edit.now.bytes) }
+    ensures miscounted { OnErr result (IsMiscounted memory.old.usage address
+        (not (is_hidden_in memory.old.map edit.now.number))) }
     ensures same { OnErr result (memory.new ≡ memory.old) }
 {
-    let address = pointer_to(&memory.dirty, BlockKey::data(file, index)).unwrap();
-    put_block(memory, file, index, address, bytes)
+    let key = BlockKey::data(edit.number, edit.index);
+    if is_zero(&edit.bytes) {
+        drop_block(memory, key, address)
+    } else {
+        store_block(memory, key, address, &edit.bytes)
+    }
 }
 
 /// The inode of a file, which is in memory, has this kind, form, number of links and size in bytes.

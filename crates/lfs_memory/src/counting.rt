@@ -1,7 +1,7 @@
 //! How many blocks of a file each segment holds.
 ghost use Rattle.std.specs.Prelude.{◌≡◌, ◌<◌, ◌≤◌, ◌+◌, IfOk, OnOk, OnErr, IsTrue, IsFalse, true, get_or, length};
 ghost use Rattle.lfs_memory.specs.Numbers.{IsFileNumber};
-ghost use Rattle.lfs_memory.specs.Present.{Looks, FailsFromDevice};
+ghost use Rattle.lfs_memory.specs.Present.{Looks, OnlyLooks};
 ghost use Rattle.lfs_memory.specs.Counting.{IsBefore, CountsOne, IsOver, CountsWhere, IsNothing, CountsWords, AreNoWords, CountsLeaf, FailsLeaf, CountsLeaves, FailsLeaves, CountsDouble, FailsDouble, CountsInode, FailsInode, CountsPast, CountsFile};
 
 use crate::memory::LogMemory;
@@ -99,6 +99,14 @@ impl SegmentCounts {
     }
 }
 
+/// The blocks of a file from block `first` on.
+#[derive(Clone, Copy)]
+struct Tail {
+    number: u16,
+    first: u32,
+    ghost numbered: { IsFileNumber number },
+}
+
 /// How many of so many pointers, the first of which is to block `lowest` of a file, are to blocks
 /// before block `first`.
 fn pointers_before(first: u32, lowest: u32, pointers: u32) -> u32
@@ -144,24 +152,22 @@ fn count_words(
 fn count_leaf<D: SectorDevice>(
     device: &mut CachedDevice<D>,
     memory: &LogMemory,
-    number: u16,
+    tail: Tail,
     index: u32,
     address: u32,
-    first: u32,
     counts: &mut SegmentCounts,
 ) -> Result<(), DeviceFault>
-    requires number { IsFileNumber number }
     requires index { index ≤ LAST_LEAF }
     ensures done { OnOk result (CountsLeaf (D.state device.old) (D.state device.new) memory.now
-        number index address first counts.old counts.new) }
+        tail.number index address tail.first counts.old counts.new) }
     ensures failed { OnErr result (FailsLeaf (D.state device.old) (D.state device.new) memory.now
-        number index address first counts.old) }
+        tail.number index address tail.first counts.old) }
     ensures no_failure { OnOk result ((D.state device.new).failures
         ≡ (D.state device.old).failures) }
     ensures looks { Looks (D.state device.old) (D.state device.new) }
 {
     let start = pointers_before(
-        first,
+        tail.first,
         DIRECT_BLOCKS + BLOCK_POINTERS * index,
         BLOCK_POINTERS,
     );
@@ -175,7 +181,7 @@ fn count_leaf<D: SectorDevice>(
         return Err(DeviceFault);
     }
     let mut leaf = [0; 512];
-    let key = BlockKey::leaf(number, index);
+    let key = BlockKey::leaf(tail.number, index);
     read_present(device, memory, key, address, false, &mut leaf)?;
     count_words(
         counts,
@@ -190,23 +196,21 @@ fn count_leaf<D: SectorDevice>(
 fn count_leaves<D: SectorDevice>(
     device: &mut CachedDevice<D>,
     memory: &LogMemory,
-    number: u16,
+    tail: Tail,
     root: &[u8; 512],
-    first: u32,
     counts: &mut SegmentCounts,
 ) -> Result<(), DeviceFault>
-    requires number { IsFileNumber number }
     ensures done { OnOk result (CountsLeaves (D.state device.old) (D.state device.new) memory.now
-        number root.now BLOCK_POINTERS first counts.old counts.new) }
+        tail.number root.now BLOCK_POINTERS tail.first counts.old counts.new) }
     ensures failed { OnErr result (FailsLeaves (D.state device.old) (D.state device.new) memory.now
-        number root.now BLOCK_POINTERS first counts.old) }
+        tail.number root.now BLOCK_POINTERS tail.first counts.old) }
     ensures no_failure { OnOk result ((D.state device.new).failures
         ≡ (D.state device.old).failures) }
     ensures looks { Looks (D.state device.old) (D.state device.new) }
 {
     for index in 0..BLOCK_POINTERS {
         let address = word(root, index as usize);
-        count_leaf(device, memory, number, index + 1, address, first, counts)?;
+        count_leaf(device, memory, tail, index + 1, address, counts)?;
     }
     Ok(())
 }
@@ -215,16 +219,14 @@ fn count_leaves<D: SectorDevice>(
 fn count_double<D: SectorDevice>(
     device: &mut CachedDevice<D>,
     memory: &LogMemory,
-    number: u16,
+    tail: Tail,
     address: u32,
-    first: u32,
     counts: &mut SegmentCounts,
 ) -> Result<(), DeviceFault>
-    requires number { IsFileNumber number }
     ensures done { OnOk result (CountsDouble (D.state device.old) (D.state device.new) memory.now
-        number address first counts.old counts.new) }
+        tail.number address tail.first counts.old counts.new) }
     ensures failed { OnErr result (FailsDouble (D.state device.old) (D.state device.new) memory.now
-        number address first counts.old) }
+        tail.number address tail.first counts.old) }
     ensures no_failure { OnOk result ((D.state device.new).failures
         ≡ (D.state device.old).failures) }
     ensures looks { Looks (D.state device.old) (D.state device.new) }
@@ -233,30 +235,28 @@ fn count_double<D: SectorDevice>(
         return Ok(());
     }
     let mut root = [0; 512];
-    let key = BlockKey::double(number);
+    let key = BlockKey::double(tail.number);
     read_present(device, memory, key, address, false, &mut root)?;
-    count_leaves(device, memory, number, &root, first, counts)
+    count_leaves(device, memory, tail, &root, counts)
 }
 
 /// Counts the blocks below an inode, from block `first` of the file on.
 fn count_inode<D: SectorDevice>(
     device: &mut CachedDevice<D>,
     memory: &LogMemory,
-    number: u16,
+    tail: Tail,
     inode: &[u8; 512],
-    first: u32,
     counts: &mut SegmentCounts,
 ) -> Result<(), DeviceFault>
-    requires number { IsFileNumber number }
     ensures done { OnOk result (CountsInode (D.state device.old) (D.state device.new) memory.now
-        number inode.now first counts.old counts.new) }
+        tail.number inode.now tail.first counts.old counts.new) }
     ensures failed { OnErr result (FailsInode (D.state device.old) (D.state device.new) memory.now
-        number inode.now first counts.old) }
+        tail.number inode.now tail.first counts.old) }
     ensures no_failure { OnOk result ((D.state device.new).failures
         ≡ (D.state device.old).failures) }
     ensures looks { Looks (D.state device.old) (D.state device.new) }
 {
-    let direct = pointers_before(first, 0, DIRECT_BLOCKS) as usize;
+    let direct = pointers_before(tail.first, 0, DIRECT_BLOCKS) as usize;
     let double = word(inode, DOUBLE_POINTER);
     count_words(
         counts,
@@ -264,19 +264,12 @@ fn count_inode<D: SectorDevice>(
         FIRST_POINTER + direct,
         DIRECT_BLOCKS as usize - direct,
     )?;
-    if !count_one(counts, double, first <= DIRECT_BLOCKS + BLOCK_POINTERS) {
+    if !count_one(counts, double, tail.first <= DIRECT_BLOCKS + BLOCK_POINTERS) {
         return Err(DeviceFault);
     }
-    count_leaf(
-        device,
-        memory,
-        number,
-        0,
-        word(inode, SINGLE_POINTER),
-        first,
-        counts,
-    )?;
-    count_double(device, memory, number, double, first, counts)
+    let single = word(inode, SINGLE_POINTER);
+    count_leaf(device, memory, tail, 0, single, counts)?;
+    count_double(device, memory, tail, double, counts)
 }
 
 /// Counts the blocks of a file that have an address on the device, from block `first` on: data, and
@@ -295,18 +288,14 @@ pub fn count_past<D: SectorDevice>(
     requires number { number < FILE_NUMBERS }
     ensures counted { OnOk result (CountsPast (D.state device.old) (D.state device.new) memory.now
         number first counts.new) }
-    ensures failed { OnErr result (FailsFromDevice (D.state device.old)
-        (D.state device.new) memory.now) }
-    ensures no_failure { OnOk result ((D.state device.new).failures
-        ≡ (D.state device.old).failures) }
-    ensures looks { Looks (D.state device.old) (D.state device.new) }
+    ensures looks { OnlyLooks (D.state device.old) (D.state device.new) memory.now result }
 {
     counts.clear();
     let mut inode = [0; 512];
     if !read_inode(device, memory, number, &mut inode)? {
         return Ok(());
     }
-    count_inode(device, memory, number, &inode, first, counts)
+    count_inode(device, memory, Tail { number, first }, &inode, counts)
 }
 
 /// Counts all blocks of a file that have an address on the device.
@@ -323,11 +312,7 @@ pub fn count_file<D: SectorDevice>(
     requires number { number < FILE_NUMBERS }
     ensures counted { OnOk result (CountsFile (D.state device.old) (D.state device.new) memory.now
         number counts.new) }
-    ensures failed { OnErr result (FailsFromDevice (D.state device.old)
-        (D.state device.new) memory.now) }
-    ensures no_failure { OnOk result ((D.state device.new).failures
-        ≡ (D.state device.old).failures) }
-    ensures looks { Looks (D.state device.old) (D.state device.new) }
+    ensures looks { OnlyLooks (D.state device.old) (D.state device.new) memory.now result }
 {
     count_past(device, memory, number, 0, counts)?;
     if !counts.add(memory.map.address(number)) {

@@ -1,16 +1,16 @@
 //! A file's blocks from one on go.
-ghost use Rattle.std.specs.Prelude.{◌≡◌, ◌<◌, ◌≤◌, not, ℕ, length, OnOk, OnErr, IsErrOf};
-ghost use Rattle.lfs_model.specs.Entry.{Inode, Leaf};
+ghost use Rattle.std.specs.Prelude.{◌≡◌, ◌<◌, ◌≤◌, not, ℕ, OnOk, OnErr};
 ghost use Rattle.lfs_model.specs.Memory.{parent};
+ghost use Rattle.lfs_model.specs.Entry.{Inode, Leaf};
 ghost use Rattle.lfs_inodes.specs.Blocks.{blocks_of};
 ghost use Rattle.lfs_inodes.specs.MapValue.{is_hidden_in};
+ghost use Rattle.lfs_memory.specs.Lifting.{EndsLifting, IsInMemory, Prepares};
+ghost use Rattle.lfs_memory.specs.Cutting.{IsCutLeaf, IsLiftedIfStored, HasEdge, KeepsOfInode, KeepsOfRoot, KeepsCount, ClearsLeaf, ClearsPointers, DropsPast, Cuts};
+ghost use Rattle.lfs_memory.specs.Present.{OnlyLooks};
+ghost use Rattle.lfs_memory.specs.Counting.{CountsPast};
+ghost use Rattle.lfs_memory.specs.Removing.{AreCovered};
 ghost use Rattle.lfs_memory.specs.Numbers.{IsFileNumber};
 ghost use Rattle.lfs_memory.specs.Memory.{IsMemory};
-ghost use Rattle.lfs_memory.specs.Present.{Looks, FailsFromDevice};
-ghost use Rattle.lfs_memory.specs.Lifting.{EndsLifting, IsInMemory, Prepares};
-ghost use Rattle.lfs_memory.specs.Removing.{AreCovered};
-ghost use Rattle.lfs_memory.specs.Counting.{CountsPast};
-ghost use Rattle.lfs_memory.specs.Cutting.{IsCutLeaf, IsLiftedIfStored, HasEdge, KeepsOfInode, KeepsOfRoot, KeepsCount, ClearsLeaf, ClearsPointers, DropsPast, Cuts};
 
 use crate::counting::{SegmentCounts, count_past};
 use crate::lifting::{LiftFault, lift_child, lift_inode};
@@ -176,16 +176,12 @@ fn drop_counted<D: SectorDevice>(
 ) -> Result<(), DeviceFault>
     requires number { IsFileNumber number }
     requires first { first ≤ FILE_BLOCKS }
-    ensures looks { Looks (D.state device.old) (D.state device.new) }
     ensures counted { OnOk result (CountsPast (D.state device.old) (D.state device.new) memory.old
         number first counts.new) }
     ensures drops { OnOk result (DropsPast memory.old memory.new number first
         (not (is_hidden_in memory.old.map number)) counts.new) }
     ensures same { OnErr result (memory.new ≡ memory.old) }
-    ensures failed { OnErr result (FailsFromDevice (D.state device.old)
-        (D.state device.new) memory.old) }
-    ensures no_failure { OnOk result ((D.state device.new).failures
-        ≡ (D.state device.old).failures) }
+    ensures looks { OnlyLooks (D.state device.old) (D.state device.new) memory.old result }
 {
     count_past(device, memory, number, first, counts)?;
     let lives = !memory.map.is_hidden(number);
@@ -217,12 +213,8 @@ pub fn cut_file<D: SectorDevice>(
         number first) }
     ensures prepares { OnErr result (Prepares (D.state device.old) (D.state device.new) memory.old
         memory.new 3) }
-    ensures full { IsErrOf result LiftFault.Full
-        → memory.new.dirty.capacity.limit ≤ length memory.new.dirty.blocks }
-    ensures failed { IsErrOf result LiftFault.Device
-        → FailsFromDevice (D.state device.old) (D.state device.new) memory.old }
-    ensures no_failure { OnOk result ((D.state device.new).failures
-        ≡ (D.state device.old).failures) }
+    ensures ends { EndsLifting (D.state device.old) (D.state device.new) memory.old memory.new
+        result }
 {
     match lift_inode(device, memory, number) {
         Ok(true) => {}

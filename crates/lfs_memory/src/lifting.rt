@@ -1,5 +1,5 @@
 //! Blocks come into memory so that they may change.
-ghost use Rattle.std.specs.Prelude.{◌≡◌, ◌<◌, ◌≤◌, ◌⊎◌, ◌↔◌, ◌/◌, ℕ, [], false, length, None, IsTrue, IsFalse, OnOk, OnErr, IfOk, IsErrOf};
+ghost use Rattle.std.specs.Prelude.{◌≡◌, ◌<◌, ◌≤◌, ◌⊎◌, ◌↔◌, ◌/◌, ℕ, false, length, None, IsTrue, IsFalse, OnOk, OnErr, IfOk};
 ghost use Rattle.lfs_model.specs.Entry.{Inode};
 ghost use Rattle.lfs_model.specs.Memory.{parent};
 ghost use Rattle.lfs_model.specs.Running.{IsSet};
@@ -7,10 +7,8 @@ ghost use Rattle.lfs_model.specs.Staging.{IsAtAddress};
 ghost use Rattle.lfs_inodes.specs.Key.{entry_of};
 ghost use Rattle.lfs_inodes.specs.Blocks.{blocks_of};
 ghost use Rattle.lfs_inodes.specs.MapValue.{address_in, is_hidden_in, block_in};
-ghost use Rattle.lfs_memory.specs.Numbers.{IsFileNumber};
 ghost use Rattle.lfs_memory.specs.Memory.{IsMemory, tables_of};
-ghost use Rattle.lfs_memory.specs.Present.{FailsFromDevice};
-ghost use Rattle.lfs_memory.specs.Lifting.{IsInMemory, Prepares, Gathers, IsCountedAbove, Brings, MapLifts, IsMapLost, IsAbsent};
+ghost use Rattle.lfs_memory.specs.Lifting.{EndsLifting, IsInMemory, Prepares, Gathers, IsCountedAbove, Brings, MapLifts, IsMapLost, IsAbsent};
 
 use crate::changing::pointer_to;
 use crate::memory::LogMemory;
@@ -147,12 +145,8 @@ pub fn lift<D: SectorDevice>(
     ensures gathers { Gathers (D.state device.old) (D.state device.new) memory.old memory.new }
     ensures inside { OnOk result (IsInMemory memory.new (entry_of key)) }
     ensures same { OnErr result (memory.new ≡ memory.old) }
-    ensures full { IsErrOf result LiftFault.Full
-        → memory.new.dirty.capacity.limit ≤ length memory.new.dirty.blocks }
-    ensures failed { IsErrOf result LiftFault.Device
-        → FailsFromDevice (D.state device.old) (D.state device.new) memory.old }
-    ensures no_failure { OnOk result ((D.state device.new).failures
-        ≡ (D.state device.old).failures) }
+    ensures ends { EndsLifting (D.state device.old) (D.state device.new) memory.old memory.new
+        result }
 {
     if memory.dirty.len() >= memory.dirty.capacity() {
         return Err(LiftFault::Full);
@@ -203,12 +197,8 @@ pub fn lift_inode<D: SectorDevice>(
     ensures absent { IfOk result (λ found. IsFalse found
         → IsAbsent (D.state device.old) (D.state device.new) memory.old number) }
     ensures kept { OnErr result (memory.new.dirty ≡ memory.old.dirty) }
-    ensures full { IsErrOf result LiftFault.Full
-        → memory.new.dirty.capacity.limit ≤ length memory.new.dirty.blocks }
-    ensures failed { IsErrOf result LiftFault.Device
-        → FailsFromDevice (D.state device.old) (D.state device.new) memory.old }
-    ensures no_failure { OnOk result ((D.state device.new).failures
-        ≡ (D.state device.old).failures) }
+    ensures ends { EndsLifting (D.state device.old) (D.state device.new) memory.old memory.new
+        result }
 {
     let address = inode_pointer(memory, number);
     if address == 0 {
@@ -261,12 +251,8 @@ pub fn lift_child<D: SectorDevice>(
         → IsAtAddress (blocks_of memory.new.dirty) (tables_of memory.new) (entry_of key) 0) }
     ensures same { IfOk result (λ found. IsFalse found → memory.new ≡ memory.old) }
     ensures kept { OnErr result (memory.new ≡ memory.old) }
-    ensures full { IsErrOf result LiftFault.Full
-        → memory.new.dirty.capacity.limit ≤ length memory.new.dirty.blocks }
-    ensures failed { IsErrOf result LiftFault.Device
-        → FailsFromDevice (D.state device.old) (D.state device.new) memory.old }
-    ensures no_failure { OnOk result ((D.state device.new).failures
-        ≡ (D.state device.old).failures) }
+    ensures ends { EndsLifting (D.state device.old) (D.state device.new) memory.old memory.new
+        result }
 {
     let address = known_pointer(memory, key);
     if address == 0 {

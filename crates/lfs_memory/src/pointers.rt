@@ -1,10 +1,10 @@
 //! The pointers to data blocks that one block above them has, read once for all of them.
-ghost use Rattle.std.specs.Prelude.{◌≡◌, ◌<◌, ◌≤◌, ◌+◌, ◌*◌, ◌-◌, ℕ, min, None, OnOk, OnErr, IfOk, IfSome, IfNone, IsTrue, IsFalse};
+ghost use Rattle.std.specs.Prelude.{◌≡◌, ◌<◌, ◌≤◌, ◌+◌, ◌*◌, ◌-◌, ℕ, min, None, IfOk, IfSome, IfNone, IsTrue, IsFalse};
 ghost use Rattle.lfs_model.specs.Entry.{Data};
 ghost use Rattle.lfs_inodes.specs.Blocks.{blocks_of};
 ghost use Rattle.lfs_inodes.specs.Key.{entry_of};
 ghost use Rattle.lfs_model.specs.Fields.{zeros};
-ghost use Rattle.lfs_memory.specs.Present.{Looks, OnlyLooks, FailsFromDevice, AnswersAddress, AnswersBlock};
+ghost use Rattle.lfs_memory.specs.Present.{OnlyLooks, AnswersAddress, AnswersBlock};
 ghost use Rattle.lfs_memory.specs.Pointers.{IsInodeAt, IsInRun, IsRunOf, IsKeptFor, HasNoWay, KeepsRun, CountsRun, AnswersCount, pointer_in, blocks_in};
 
 use crate::memory::LogMemory;
@@ -261,11 +261,7 @@ pub fn find_block<D: SectorDevice>(
     ensures answer { IfOk result (AnswersAddress (D.state device.old) (D.state device.new)
         memory.now (Data number index)) }
     ensures some { IfOk result (λ address. (1 ≤ address) → (1 ≤ number) × (index ≤ LAST_BLOCK)) }
-    ensures failed { OnErr result (FailsFromDevice (D.state device.old)
-        (D.state device.new) memory.now) }
-    ensures no_failure { OnOk result ((D.state device.new).failures
-        ≡ (D.state device.old).failures) }
-    ensures looks { Looks (D.state device.old) (D.state device.new) }
+    ensures looks { OnlyLooks (D.state device.old) (D.state device.new) memory.now result }
 {
     if is_kept_for(kept, number, index) {
         return Ok(kept_pointer(kept, number, index));
@@ -315,11 +311,7 @@ pub fn read_block<D: SectorDevice>(
     ensures answer { IfOk result (AnswersBlock (D.state device.old) (D.state device.new) memory.now
         number index out.new) }
     ensures zeros { IfOk result (λ found. IsFalse found → out.new ≡ zeros SECTOR_LEN) }
-    ensures failed { OnErr result (FailsFromDevice (D.state device.old)
-        (D.state device.new) memory.now) }
-    ensures no_failure { OnOk result ((D.state device.new).failures
-        ≡ (D.state device.old).failures) }
-    ensures looks { Looks (D.state device.old) (D.state device.new) }
+    ensures looks { OnlyLooks (D.state device.old) (D.state device.new) memory.now result }
 {
     let address = find_by_run(device, memory, kept, number, index)?;
     if address == 0 {
@@ -403,11 +395,7 @@ pub fn count_blocks<D: SectorDevice>(
     ensures few { IfOk result (λ count. count ≤ to - from) }
     ensures answer { IfOk result (AnswersCount (D.state device.old) (D.state device.new)
         memory.now number from to) }
-    ensures failed { OnErr result (FailsFromDevice (D.state device.old)
-        (D.state device.new) memory.now) }
-    ensures no_failure { OnOk result ((D.state device.new).failures
-        ≡ (D.state device.old).failures) }
-    ensures looks { Looks (D.state device.old) (D.state device.new) }
+    ensures looks { OnlyLooks (D.state device.old) (D.state device.new) memory.now result }
 {
     let mut at = from;
     let mut count = 0;

@@ -1,14 +1,14 @@
 //! What a batch of changes needs comes into memory, so that the changes themselves call no device.
 ghost use Rattle.std.specs.Prelude.{◌≡◌, ◌<◌, ◌≤◌, ◌⊎◌, ◌+◌, ◌/◌, length, OnOk, OnErr, IsErrOf, IsTrue, IsFalse};
-ghost use Rattle.lfs_model.specs.Entry.{Leaf, Inode};
 ghost use Rattle.lfs_model.specs.Memory.{parent, IsPointers};
-ghost use Rattle.lfs_inodes.specs.Key.{entry_of};
+ghost use Rattle.lfs_model.specs.Entry.{Leaf, Inode};
 ghost use Rattle.lfs_inodes.specs.MapValue.{block_in};
-ghost use Rattle.lfs_memory.specs.Numbers.{IsFileNumber};
-ghost use Rattle.lfs_memory.specs.Memory.{IsMemory};
-ghost use Rattle.lfs_memory.specs.Present.{FailsFromDevice};
+ghost use Rattle.lfs_inodes.specs.Key.{entry_of};
 ghost use Rattle.lfs_memory.specs.Lifting.{EndsLifting, IsInMemory, IsMapLost, MapLifts, Prepares};
 ghost use Rattle.lfs_memory.specs.Preparing.{HasParent, AreBlocksReady, IsHeaderReady, AreHeadersReady, LacksRoom, IsExcusedWithin, AreExcusedWithin, ways};
+ghost use Rattle.lfs_memory.specs.Memory.{IsMemory};
+ghost use Rattle.lfs_memory.specs.Numbers.{IsFileNumber};
+ghost use Rattle.lfs_memory.specs.Present.{FailsFromDevice};
 
 use crate::batch::{BlockEdit, HeaderEdit};
 use crate::changing::{grow, pointer_to};
@@ -17,7 +17,7 @@ use crate::memory::LogMemory;
 use lfs_cache::CachedDevice;
 use lfs_device::{DeviceFault, SectorDevice};
 use lfs_inodes::BlockKey;
-use lfs_model::limits::{BLOCK_POINTERS, DIRECT_BLOCKS, LAST_BLOCK, LAST_LEAF, LAST_NUMBER};
+use lfs_model::limits::{BLOCK_POINTERS, DIRECT_BLOCKS, LAST_LEAF, LAST_NUMBER};
 
 /// A block of pointers of a file is in memory after this, an empty one where it isn't stored. The
 /// block above it is there.
@@ -93,49 +93,41 @@ fn prepare_leaf<D: SectorDevice>(
 fn prepare_way<D: SectorDevice>(
     device: &mut CachedDevice<D>,
     memory: &mut LogMemory,
-    number: u16,
-    index: u32,
+    edit: &BlockEdit,
 ) -> Result<(), LiftFault>
     requires memory { IsMemory memory.old }
-    requires number { IsFileNumber number }
-    requires index { index ≤ LAST_BLOCK }
     ensures prepares { Prepares (D.state device.old) (D.state device.new) memory.old memory.new 3 }
-    ensures ready { OnOk result (HasParent memory.new number index) }
+    ensures ready { OnOk result (HasParent memory.new edit.now.number edit.now.index) }
     ensures full { IsErrOf result LiftFault.Full
         → memory.new.dirty.capacity.limit ≤ length memory.new.dirty.blocks }
     ensures short { IsErrOf result LiftFault.Full → LacksRoom memory.old 3 }
     ensures failed { IsErrOf result LiftFault.Device
-        → IsExcusedWithin (D.state device.old) (D.state device.new) memory.old number index }
+        → IsExcusedWithin (D.state device.old) (D.state device.new) memory.old
+        edit.now.number edit.now.index }
     ensures no_failure { OnOk result ((D.state device.new).failures
         ≡ (D.state device.old).failures) }
 {
-    let found = lift_inode(device, memory, number)?;
-    if index < DIRECT_BLOCKS {
+    let found = lift_inode(device, memory, edit.number)?;
+    if edit.index < DIRECT_BLOCKS {
         return Ok(());
     }
     if !found {
         return Err(LiftFault::Device);
     }
-    prepare_leaf(
-        device,
-        memory,
-        number,
-        (index - DIRECT_BLOCKS) / BLOCK_POINTERS,
-    )
+    let leaf = (edit.index - DIRECT_BLOCKS) / BLOCK_POINTERS;
+    prepare_leaf(device, memory, edit.number, leaf)
 }
 
 /// Whether a data block of a file may change with no call of the device: the block above it is in
 /// memory, or will be the inode of a file that isn't there.
-fn is_ready(memory: &LogMemory, number: u16, index: u32) -> bool
-    requires number { IsFileNumber number }
-    requires index { index ≤ LAST_BLOCK }
-    ensures yes { IsTrue result → HasParent memory.now number index }
-    ensures no { IsFalse result → HasParent memory.now number index → ⊥ }
+fn is_ready(memory: &LogMemory, edit: &BlockEdit) -> bool
+    ensures yes { IsTrue result → HasParent memory.now edit.now.number edit.now.index }
+    ensures no { IsFalse result → HasParent memory.now edit.now.number edit.now.index → ⊥ }
 {
-    if pointer_to(&memory.dirty, BlockKey::data(number, index)).is_some() {
+    if pointer_to(&memory.dirty, BlockKey::data(edit.number, edit.index)).is_some() {
         return true;
     }
-    index < DIRECT_BLOCKS && memory.map.address(number) == 0
+    edit.index < DIRECT_BLOCKS && memory.map.address(edit.number) == 0
 }
 
 /// A data block of a file may change after this with no call of the device. Nothing comes into
@@ -148,28 +140,26 @@ fn is_ready(memory: &LogMemory, number: u16, index: u32) -> bool
 pub fn prepare_block<D: SectorDevice>(
     device: &mut CachedDevice<D>,
     memory: &mut LogMemory,
-    number: u16,
-    index: u32,
+    edit: &BlockEdit,
 ) -> Result<(), LiftFault>
     requires memory { IsMemory memory.old }
-    requires number { IsFileNumber number }
-    requires index { index ≤ LAST_BLOCK }
     ensures prepares { Prepares (D.state device.old) (D.state device.new) memory.old memory.new 3 }
-    ensures ready { OnOk result (HasParent memory.new number index) }
-    ensures same { HasParent memory.old number index → memory.new ≡ memory.old }
-    ensures away { OnErr result (HasParent memory.old number index → ⊥) }
+    ensures ready { OnOk result (HasParent memory.new edit.now.number edit.now.index) }
+    ensures same { HasParent memory.old edit.now.number edit.now.index → memory.new ≡ memory.old }
+    ensures away { OnErr result (HasParent memory.old edit.now.number edit.now.index → ⊥) }
     ensures full { IsErrOf result LiftFault.Full
         → memory.new.dirty.capacity.limit ≤ length memory.new.dirty.blocks }
     ensures short { IsErrOf result LiftFault.Full → LacksRoom memory.old 3 }
     ensures failed { IsErrOf result LiftFault.Device
-        → IsExcusedWithin (D.state device.old) (D.state device.new) memory.old number index }
+        → IsExcusedWithin (D.state device.old) (D.state device.new) memory.old
+        edit.now.number edit.now.index }
     ensures no_failure { OnOk result ((D.state device.new).failures
         ≡ (D.state device.old).failures) }
 {
-    if is_ready(memory, number, index) {
+    if is_ready(memory, edit) {
         return Ok(());
     }
-    prepare_way(device, memory, number, index)
+    prepare_way(device, memory, edit)
 }
 
 /// The block of the inode map that has the file's inode will be written, if the file is to have
@@ -268,7 +258,7 @@ pub fn prepare_blocks<D: SectorDevice>(
         ≡ (D.state device.old).failures) }
 {
     for edit in edits {
-        prepare_block(device, memory, edit.number, edit.index)?;
+        prepare_block(device, memory, edit)?;
     }
     Ok(())
 }

@@ -1,12 +1,11 @@
 //! What the log answers to reads.
-ghost use Rattle.std.specs.Prelude.{◌≡◌, ◌<◌, ◌≤◌, ◌⊎◌, OnOk, OnErr, IfOk, IsTrue, IsFalse};
+ghost use Rattle.std.specs.Prelude.{◌≡◌, ◌<◌, ◌≤◌, ◌⊎◌, OnOk, IfOk, IsTrue, IsFalse};
 ghost use Rattle.lfs_model.specs.Entry.{Inode, Data, Leaf, Double};
 ghost use Rattle.lfs_inodes.specs.Key.{entry_of};
 ghost use Rattle.lfs_inodes.specs.Blocks.{blocks_of};
 ghost use Rattle.lfs_inodes.specs.MapValue.{address_in};
 ghost use Rattle.lfs_inodes.specs.Present.{present};
-ghost use Rattle.lfs_memory.specs.Memory.{IsMemory};
-ghost use Rattle.lfs_memory.specs.Present.{Looks, FailsFromDevice, FailsToRead, AnswersInode, AnswersHeader, AnswersAddress, ShowsBlock, ShowsHeader, ShowsWord};
+ghost use Rattle.lfs_memory.specs.Present.{OnlyLooks, EndsReading, AnswersInode, AnswersHeader, AnswersAddress, ShowsBlock, ShowsHeader, ShowsWord};
 
 use crate::memory::LogMemory;
 use lfs_cache::CachedDevice;
@@ -33,11 +32,8 @@ pub(crate) fn read_present<D: SectorDevice>(
     requires stored { 1 ≤ address }
     ensures read { OnOk result (ShowsBlock (D.state device.old) (D.state device.new) memory.now
         (entry_of key) address out.new) }
-    ensures unread { OnErr result (FailsToRead (D.state device.old) (D.state device.new) memory.now
-        (entry_of key) address) }
-    ensures no_failure { OnOk result ((D.state device.new).failures
-        ≡ (D.state device.old).failures) }
-    ensures looks { Looks (D.state device.old) (D.state device.new) }
+    ensures ends { EndsReading (D.state device.old) (D.state device.new) memory.now (entry_of key)
+        address result }
 {
     if address == IN_MEMORY {
         let Some(block) = memory.dirty.block(key) else {
@@ -82,11 +78,8 @@ pub fn present_word<D: SectorDevice>(
     requires place { place < BLOCK_POINTERS }
     ensures read { IfOk result (ShowsWord (D.state device.old) (D.state device.new) memory.now
         (entry_of key) address place) }
-    ensures unread { OnErr result (FailsToRead (D.state device.old) (D.state device.new) memory.now
-        (entry_of key) address) }
-    ensures no_failure { OnOk result ((D.state device.new).failures
-        ≡ (D.state device.old).failures) }
-    ensures looks { Looks (D.state device.old) (D.state device.new) }
+    ensures ends { EndsReading (D.state device.old) (D.state device.new) memory.now (entry_of key)
+        address result }
 {
     if address == IN_MEMORY {
         return match memory.dirty.block(key) {
@@ -117,11 +110,8 @@ fn present_header<D: SectorDevice>(
     requires stored { 1 ≤ address }
     ensures read { IfOk result (ShowsHeader (D.state device.old) (D.state device.new) memory.now
         (entry_of key) address) }
-    ensures unread { OnErr result (FailsToRead (D.state device.old) (D.state device.new) memory.now
-        (entry_of key) address) }
-    ensures no_failure { OnOk result ((D.state device.new).failures
-        ≡ (D.state device.old).failures) }
-    ensures looks { Looks (D.state device.old) (D.state device.new) }
+    ensures ends { EndsReading (D.state device.old) (D.state device.new) memory.now (entry_of key)
+        address result }
 {
     if address == IN_MEMORY {
         return match memory.dirty.block(key) {
@@ -159,11 +149,7 @@ pub fn read_inode<D: SectorDevice>(
     ensures bytes { IfOk result (λ found. IsTrue found → (D.state device.new).keeps_model
         → out.new ≡ present (D.state device.old).content (blocks_of memory.now.dirty) (Inode number)
         (address_in memory.now.map number)) }
-    ensures failed { OnErr result (FailsFromDevice (D.state device.old)
-        (D.state device.new) memory.now) }
-    ensures no_failure { OnOk result ((D.state device.new).failures
-        ≡ (D.state device.old).failures) }
-    ensures looks { Looks (D.state device.old) (D.state device.new) }
+    ensures looks { OnlyLooks (D.state device.old) (D.state device.new) memory.now result }
 {
     let address = inode_pointer(memory, number);
     if address == 0 {
@@ -186,11 +172,7 @@ pub fn read_header<D: SectorDevice>(
     requires number { number < FILE_NUMBERS }
     ensures answer { IfOk result (AnswersHeader (D.state device.old) (D.state device.new) memory.now
         number) }
-    ensures failed { OnErr result (FailsFromDevice (D.state device.old)
-        (D.state device.new) memory.now) }
-    ensures no_failure { OnOk result ((D.state device.new).failures
-        ≡ (D.state device.old).failures) }
-    ensures looks { Looks (D.state device.old) (D.state device.new) }
+    ensures looks { OnlyLooks (D.state device.old) (D.state device.new) memory.now result }
 {
     let address = inode_pointer(memory, number);
     if address == 0 {
@@ -225,11 +207,7 @@ pub fn locate<D: SectorDevice>(
 ) -> Result<u32, DeviceFault>
     ensures answer { IfOk result (AnswersAddress (D.state device.old) (D.state device.new)
         memory.now (entry_of key)) }
-    ensures failed { OnErr result (FailsFromDevice (D.state device.old)
-        (D.state device.new) memory.now) }
-    ensures no_failure { OnOk result ((D.state device.new).failures
-        ≡ (D.state device.old).failures) }
-    ensures looks { Looks (D.state device.old) (D.state device.new) }
+    ensures looks { OnlyLooks (D.state device.old) (D.state device.new) memory.now result }
 {
     let Some(above) = key.parent() else {
         return Ok(memory.map.address(key.file()));
@@ -256,11 +234,7 @@ pub(crate) fn locate_block<D: SectorDevice>(
     ensures answer { IfOk result (AnswersAddress (D.state device.old) (D.state device.new)
         memory.now (Data number index)) }
     ensures some { IfOk result (λ address. (1 ≤ address) → (1 ≤ number) × (index ≤ LAST_BLOCK)) }
-    ensures failed { OnErr result (FailsFromDevice (D.state device.old)
-        (D.state device.new) memory.now) }
-    ensures no_failure { OnOk result ((D.state device.new).failures
-        ≡ (D.state device.old).failures) }
-    ensures looks { Looks (D.state device.old) (D.state device.new) }
+    ensures looks { OnlyLooks (D.state device.old) (D.state device.new) memory.now result }
 {
     if index > LAST_BLOCK {
         return Ok(0);
@@ -285,11 +259,7 @@ pub fn locate_double<D: SectorDevice>(
     requires number { number < FILE_NUMBERS }
     ensures answer { IfOk result (AnswersAddress (D.state device.old) (D.state device.new)
         memory.now (Double number)) }
-    ensures failed { OnErr result (FailsFromDevice (D.state device.old)
-        (D.state device.new) memory.now) }
-    ensures no_failure { OnOk result ((D.state device.new).failures
-        ≡ (D.state device.old).failures) }
-    ensures looks { Looks (D.state device.old) (D.state device.new) }
+    ensures looks { OnlyLooks (D.state device.old) (D.state device.new) memory.now result }
 {
     if number == 0 {
         return Ok(0);
@@ -313,11 +283,7 @@ pub fn locate_leaf<D: SectorDevice>(
     requires leaf { leaf ≤ LAST_LEAF }
     ensures answer { IfOk result (AnswersAddress (D.state device.old) (D.state device.new)
         memory.now (Leaf number leaf)) }
-    ensures failed { OnErr result (FailsFromDevice (D.state device.old)
-        (D.state device.new) memory.now) }
-    ensures no_failure { OnOk result ((D.state device.new).failures
-        ≡ (D.state device.old).failures) }
-    ensures looks { Looks (D.state device.old) (D.state device.new) }
+    ensures looks { OnlyLooks (D.state device.old) (D.state device.new) memory.now result }
 {
     if number == 0 {
         return Ok(0);

@@ -7,6 +7,7 @@ use Rattle.std.specs.Ordering.{nat_cmp, eq_by_cmp}
 use Rattle.std.specs.declared.cmp.Ordering.{Ordering}
 use Rattle.std.specs.Cmp.Lexicographic.{slice_cmp}
 use Rattle.std.specs.FinMap.{find, put}
+use Rattle.lfs_model.specs.declared.limits.TheConstants.{NARROW_SLOT, WIDE_SLOT}
 
 -- a directory's names with the numbers that they give, in the order of the names' bytes (POSIX.1-2017, Definitions: Directory Entry)
 abbrev pub Names : Type 0
@@ -63,8 +64,8 @@ is_dir _ = false
 
 -- the bytes of an entry's slot in a directory of this form: own choice
 abbrev pub slot_len : ℕ → ℕ
-slot_len zero = 64
-slot_len (suc form) = 128
+slot_len zero = NARROW_SLOT
+slot_len (suc form) = WIDE_SLOT
 
 -- the longest name in a directory of this form: what the number and the length leave of a slot (POSIX.1-2017, NAME_MAX)
 abbrev pub name_len : ℕ → ℕ

@@ -8,11 +8,17 @@ pub const SECTOR_LEN: usize = 512;
 /// The sectors that hold a checkpoint each, in front of all segments.
 pub const CHECKPOINT_SLOTS: u32 = 2;
 
+/// The number of the checkpoint from which on nothing is changed.
+pub const LAST_CHECKPOINT: u64 = 1 << 62;
+
 /// The sectors of a segment.
 pub const SEGMENT_SECTORS: u32 = 64;
 
 /// The blocks that a chunk has at most, behind its summary.
 pub const CHUNK_BLOCKS: usize = 63;
+
+/// The blocks that a chunk has at most while it takes further ones: with one more it is written.
+pub const OPEN_CHUNK_BLOCKS: usize = 62;
 
 /// The segments that a volume has at least.
 pub const LEAST_SEGMENTS: u32 = 64;
@@ -61,6 +67,9 @@ pub const LAST_LEAF: u32 = 128;
 /// The blocks of the inode map.
 pub const MAP_BLOCKS: u32 = 32;
 
+/// The files in a block of the inode map.
+pub const BLOCK_FILES: u32 = 128;
+
 /// The blocks that the usage table has at most.
 pub const USAGE_BLOCKS: u32 = 16;
 
@@ -74,6 +83,18 @@ pub const BLOCK_SEGMENTS: u32 = 64;
 
 /// The bytes that a path has at most, and the text of a link.
 pub const LONGEST_PATH: usize = 1_023;
+
+/// The bytes of an entry in a directory of the first form.
+pub const NARROW_SLOT: u32 = 64;
+
+/// The bytes of an entry in a directory of the second form.
+pub const WIDE_SLOT: u32 = 128;
+
+/// The bytes that a name has at most in a directory of the first form.
+pub const LONGEST_NARROW_NAME: usize = 59;
+
+/// The bytes that a name has at most in a directory of the second form.
+pub const LONGEST_WIDE_NAME: usize = 123;
 
 /// The entries that a directory has at most.
 pub const MOST_ENTRIES: u32 = 1_024;
@@ -106,3 +127,12 @@ pub const LEAST_NEED: u64 = 720;
 
 /// The blocks that wait in memory for a commit at most.
 pub const MOST_UNSAVED: u32 = 456;
+
+/// The blocks that a change of one header asks for at most.
+pub const ASKED_BY_HEADER: u32 = 6;
+
+/// The blocks that one transfer to a file asks for at most.
+pub const ASKED_BY_TRANSFER: u32 = 144;
+
+/// The blocks that a rewrite of a full directory asks for at most.
+pub const ASKED_BY_DIRECTORY: u32 = 274;

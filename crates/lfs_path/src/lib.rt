@@ -16,5 +16,6 @@ mod walking;
 pub use chain::Chain;
 pub use last::Last;
 pub use lfs_dirs as dirs;
+pub use seen::header_of;
 pub use tree::{Place, parent, resolve};
 pub use walk_fault::WalkFault;

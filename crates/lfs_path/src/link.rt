@@ -1,13 +1,13 @@
 //! The texts of symbolic links.
-ghost use Rattle.std.specs.Prelude.{◌≡◌, ◌<◌, ◌≤◌, true, IfOk, IfErr, OnOk, IsErrOf};
+ghost use Rattle.std.specs.Prelude.{◌≡◌, ◌<◌, ◌≤◌, IfOk, IfErr, OnOk};
 ghost use Rattle.lfs_model.specs.PathText.{from_root};
-ghost use Rattle.lfs_files.specs.Files.{Reads};
 ghost use Rattle.lfs_path.specs.Following.{Follows, IsReadFault, ReadsText, TakesBytes};
+ghost use Rattle.lfs_path.specs.Telling.{WalksOnly};
 
 use crate::chain::Chain;
 use crate::seen::Link;
 use crate::walk_fault::WalkFault;
-use lfs_files::{Files, LogFault};
+use lfs_files::Files;
 use lfs_model::FileNumber;
 use lfs_model::limits::SECTOR_LEN;
 use std::alloc::Global;
@@ -24,13 +24,10 @@ pub fn follow_link<F: Files>(
     link: Link,
     rest: &[u8],
 ) -> Result<Vec<u8>, WalkFault>
-    ensures reads { Reads (F.state files.old) (F.state files.new) }
+    ensures walks { WalksOnly (F.state files.old) (F.state files.new) result }
     ensures answer { IfOk result (λ text. Follows (F.state files.old) (F.state files.new) link
         rest.now chain.old chain.new text.items) }
     ensures failed { IfErr result (IsReadFault (F.state files.old) (F.state files.new)) }
-    ensures halted { IsErrOf result (WalkFault.Log LogFault.Halted)
-        → (F.state files.old).halted ≡ true }
-    ensures other { IsErrOf result (WalkFault.Log LogFault.Full) → ⊥ }
 {
     let mut text = read_text(alloc, files, link)?;
     if begins_with_slash(text.as_slice()) {
@@ -54,13 +51,10 @@ fn begins_with_slash(text: &[u8]) -> bool
 
 /// The text of a link.
 fn read_text<F: Files>(alloc: Global, files: &mut F, link: Link) -> Result<Vec<u8>, WalkFault>
-    ensures reads { Reads (F.state files.old) (F.state files.new) }
+    ensures walks { WalksOnly (F.state files.old) (F.state files.new) result }
     ensures answer { IfOk result (λ text. ReadsText (F.state files.old) (F.state files.new) link
         text.items) }
     ensures failed { IfErr result (IsReadFault (F.state files.old) (F.state files.new)) }
-    ensures halted { IsErrOf result (WalkFault.Log LogFault.Halted)
-        → (F.state files.old).halted ≡ true }
-    ensures other { IsErrOf result (WalkFault.Log LogFault.Full) → ⊥ }
 {
     let size = link.header.size;
     let mut text = Vec::new(alloc);
@@ -80,13 +74,10 @@ fn read_block<F: Files>(
     text: &mut Vec<u8>,
 ) -> Result<(), WalkFault>
     requires few { count ≤ SECTOR_LEN }
-    ensures reads { Reads (F.state files.old) (F.state files.new) }
+    ensures walks { WalksOnly (F.state files.old) (F.state files.new) result }
     ensures done { OnOk result (TakesBytes (F.state files.old) (F.state files.new) number.value
         index count text.old.items text.new.items) }
     ensures failed { IfErr result (IsReadFault (F.state files.old) (F.state files.new)) }
-    ensures halted { IsErrOf result (WalkFault.Log LogFault.Halted)
-        → (F.state files.old).halted ≡ true }
-    ensures other { IsErrOf result (WalkFault.Log LogFault.Full) → ⊥ }
 {
     let mut block = [0; 512];
     match files.block(number, index, &mut block) {

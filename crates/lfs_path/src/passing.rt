@@ -1,16 +1,15 @@
 //! The pieces of a text, walked one after the other.
-ghost use Rattle.std.specs.Prelude.{◌≡◌, ◌<◌, true, IfOk, IfErr, IsErrOf};
-ghost use Rattle.lfs_files.specs.Files.{Reads};
+ghost use Rattle.std.specs.Prelude.{◌≡◌, ◌<◌, IfOk, IfErr};
 ghost use Rattle.lfs_path.specs.Passing.{EndsText, FitsStop, IsStop, PassesText, StopsAtLink};
 ghost use Rattle.lfs_path.specs.Seeing.{EndsAtPiece};
-ghost use Rattle.lfs_path.specs.Telling.{TellsRefusal, Tells};
+ghost use Rattle.lfs_path.specs.Telling.{Tells, TellsRefusal, WalksOnly};
 ghost use Rattle.lfs_path.specs.Trees.{InChain, here};
 
 use crate::chain::Chain;
 use crate::seen::{Link, Seen, look};
 use crate::text::next_piece;
 use crate::walk_fault::WalkFault;
-use lfs_files::{Files, LogFault};
+use lfs_files::Files;
 use lfs_model::FileNumber;
 
 /// An object that is no directory.
@@ -44,15 +43,12 @@ pub fn walk_text<'a, F: Files>(
     slash_end: bool,
     follow: bool,
 ) -> Result<Stop<'a>, WalkFault>
-    ensures reads { Reads (F.state files.old) (F.state files.new) }
+    ensures walks { WalksOnly (F.state files.old) (F.state files.new) result }
     ensures fits { IfOk result (FitsStop slash_end) }
     ensures answer { IfOk result (λ stop. Tells (F.state files.old) (F.state files.new)
         (InChain chain.old) (StopsAtLink slash_end follow chain.old text.now chain.new stop)) }
     ensures refused { IfErr result (TellsRefusal (F.state files.old) (F.state files.new)
         (InChain chain.old) (EndsText slash_end follow (here chain.old) text.now)) }
-    ensures halted { IsErrOf result (WalkFault.Log LogFault.Halted)
-        → (F.state files.old).halted ≡ true }
-    ensures other { IsErrOf result (WalkFault.Log LogFault.Full) → ⊥ }
 {
     let mut rest = text;
     while let Some((piece, after)) = next_piece(rest) {
@@ -67,14 +63,11 @@ pub fn walk_text<'a, F: Files>(
 
 /// Walks one piece: to the directory that it leads to, or an object that is none.
 fn pass<F: Files>(files: &mut F, chain: &mut Chain, piece: &[u8]) -> Result<Option<Met>, WalkFault>
-    ensures reads { Reads (F.state files.old) (F.state files.new) }
+    ensures walks { WalksOnly (F.state files.old) (F.state files.new) result }
     ensures answer { IfOk result (λ met. Tells (F.state files.old) (F.state files.new)
         (InChain chain.old) (PassesText piece.now chain.old chain.new met)) }
     ensures refused { IfErr result (TellsRefusal (F.state files.old) (F.state files.new)
         (InChain chain.old) (EndsAtPiece (here chain.old) piece.now)) }
-    ensures halted { IsErrOf result (WalkFault.Log LogFault.Halted)
-        → (F.state files.old).halted ≡ true }
-    ensures other { IsErrOf result (WalkFault.Log LogFault.Full) → ⊥ }
 {
     let seen = look(files, chain.directory(), piece)?;
     match seen {

@@ -3,7 +3,7 @@ ghost use Rattle.std.specs.Prelude.{◌≡◌, ◌≢◌, ◌<◌, true, IfOk, I
 ghost use Rattle.lfs_model.specs.Walk.{dot, dot_dot};
 ghost use Rattle.lfs_files.specs.Files.{Reads};
 ghost use Rattle.lfs_path.specs.Seeing.{EndsAtPiece, HasHeader, HasObject, IsSeen, NamesObject};
-ghost use Rattle.lfs_path.specs.Telling.{TellsFault, TellsRefusal, Tells};
+ghost use Rattle.lfs_path.specs.Telling.{Tells, TellsFault, TellsRefusal, WalksOnly};
 ghost use Rattle.lfs_path.specs.Trees.{InDirectory};
 
 use crate::walk_fault::WalkFault;
@@ -40,14 +40,11 @@ pub enum Seen {
 /// `NameTooLong`, or `NoEntry` where the directory doesn't have the name. `Log` where the log gives
 /// no answer.
 pub fn look<F: Files>(files: &mut F, directory: FileNumber, piece: &[u8]) -> Result<Seen, WalkFault>
-    ensures reads { Reads (F.state files.old) (F.state files.new) }
+    ensures walks { WalksOnly (F.state files.old) (F.state files.new) result }
     ensures answer { IfOk result (λ seen. Tells (F.state files.old) (F.state files.new)
         (InDirectory directory.value) (IsSeen directory.value piece.now seen)) }
     ensures refused { IfErr result (TellsRefusal (F.state files.old) (F.state files.new)
         (InDirectory directory.value) (EndsAtPiece directory.value piece.now)) }
-    ensures halted { IsErrOf result (WalkFault.Log LogFault.Halted)
-        → (F.state files.old).halted ≡ true }
-    ensures other { IsErrOf result (WalkFault.Log LogFault.Full) → ⊥ }
 {
     if piece == b".".as_slice() {
         return Ok(Seen::Here);
@@ -68,7 +65,11 @@ pub fn look<F: Files>(files: &mut F, directory: FileNumber, piece: &[u8]) -> Res
 }
 
 /// What the inode of an object says of it.
-fn header_of<F: Files>(files: &mut F, number: FileNumber) -> Result<Header, LogFault>
+///
+/// # Errors
+///
+/// As those of `Files::header`; `Device` also where no object has the number.
+pub fn header_of<F: Files>(files: &mut F, number: FileNumber) -> Result<Header, LogFault>
     ensures reads { Reads (F.state files.old) (F.state files.new) }
     ensures answer { IfOk result (λ header. Tells (F.state files.old) (F.state files.new)
         (λ m. Unit {0}) (HasHeader number.value header)) }
@@ -91,14 +92,11 @@ fn entry_in<F: Files>(
     name: &[u8],
 ) -> Result<FileNumber, WalkFault>
     requires dots { (name.now ≢ dot) × (name.now ≢ dot_dot) }
-    ensures reads { Reads (F.state files.old) (F.state files.new) }
+    ensures walks { WalksOnly (F.state files.old) (F.state files.new) result }
     ensures answer { IfOk result (λ n. Tells (F.state files.old) (F.state files.new)
         (InDirectory directory.value) (NamesObject directory.value name.now n.value)) }
     ensures refused { IfErr result (TellsRefusal (F.state files.old) (F.state files.new)
         (InDirectory directory.value) (EndsAtPiece directory.value name.now)) }
-    ensures halted { IsErrOf result (WalkFault.Log LogFault.Halted)
-        → (F.state files.old).halted ≡ true }
-    ensures other { IsErrOf result (WalkFault.Log LogFault.Full) → ⊥ }
 {
     let header = match header_of(files, directory) {
         Ok(header) => header,

@@ -1,15 +1,14 @@
 //! The pieces of a path, walked from the root, with symbolic links followed.
-ghost use Rattle.std.specs.Prelude.{◌≡◌, [], ◌∷◌, true, IfOk, IfErr, IsErrOf};
-ghost use Rattle.lfs_files.specs.Files.{Reads};
+ghost use Rattle.std.specs.Prelude.{◌≡◌, [], ◌∷◌, true, IfOk, IfErr};
 ghost use Rattle.lfs_path.specs.Reaching.{EndsPath, Reaches};
-ghost use Rattle.lfs_path.specs.Telling.{TellsRefusal, Tells};
+ghost use Rattle.lfs_path.specs.Telling.{Tells, TellsRefusal, WalksOnly};
 ghost use Rattle.lfs_path.specs.Trees.{HasTree, here};
 
 use crate::chain::Chain;
 use crate::link::follow_link;
 use crate::passing::{Stop, walk_text};
 use crate::walk_fault::WalkFault;
-use lfs_files::{Files, LogFault};
+use lfs_files::Files;
 use lfs_model::FileNumber;
 use lfs_model::limits::MOST_FOLLOWED;
 use std::alloc::Global;
@@ -29,15 +28,12 @@ pub fn walk<F: Files>(
     follow: bool,
 ) -> Result<FileNumber, WalkFault>
     requires { chain.old ≡ 1 ∷ [] }
-    ensures reads { Reads (F.state files.old) (F.state files.new) }
+    ensures walks { WalksOnly (F.state files.old) (F.state files.new) result }
     ensures last { IfOk result (λ n. slash_end ≡ true → n.value ≡ here chain.new) }
     ensures answer { IfOk result (λ n. Tells (F.state files.old) (F.state files.new) HasTree
         (Reaches slash_end follow path.now chain.new n.value)) }
     ensures refused { IfErr result (TellsRefusal (F.state files.old) (F.state files.new) HasTree
         (EndsPath slash_end follow path.now)) }
-    ensures halted { IsErrOf result (WalkFault.Log LogFault.Halted)
-        → (F.state files.old).halted ≡ true }
-    ensures other { IsErrOf result (WalkFault.Log LogFault.Full) → ⊥ }
 {
     let mut text = Vec::new(alloc);
     match text.extend_from_slice(path) {

@@ -17,6 +17,13 @@ enum Table {
     Map,
 }
 
+/// A block of a table: its place there, and its sector, 0 where there is none.
+#[derive(Clone, Copy)]
+struct TableBlock {
+    index: u32,
+    sector: u32,
+}
+
 // The name of a block of the inode map or of usage.
 fn name_of(kind: BlockKind, index: u32) -> BlockName {
     BlockName {
@@ -35,24 +42,20 @@ fn take_entries(survey: &mut Survey, view: &UsageView<'_>, count: usize) -> Chec
 }
 
 // Looks at a usage block.
-fn take_usage<D: SectorDevice>(
-    device: &mut D,
-    survey: &mut Survey,
-    block: u32,
-    sector: u32,
-) -> Checked
+fn take_usage<D: SectorDevice>(device: &mut D, survey: &mut Survey, block: TableBlock) -> Checked
     ensures { TellsNothing (D.state device.old) (D.state device.new) }
 {
-    let part = Part::UsageBlock(block);
+    let TableBlock { index, sector } = block;
+    let part = Part::UsageBlock(index);
     let segments = survey.checkpoint.segments;
-    let before = BLOCK_SEGMENTS.saturating_mul(block);
+    let before = BLOCK_SEGMENTS.saturating_mul(index);
     if (sector != 0) != (before < segments) {
         return Err(Stage(1).fails(part, sector));
     }
     if sector == 0 {
         return Ok(());
     }
-    let name = name_of(BlockKind::Usage, block);
+    let name = name_of(BlockKind::Usage, index);
     let Some(bytes) = survey.take(device, sector, name) else {
         return Err(Stage(1).fails(part, sector));
     };
@@ -64,25 +67,21 @@ fn take_usage<D: SectorDevice>(
 }
 
 // Looks at a block of the inode map.
-fn take_map<D: SectorDevice>(
-    device: &mut D,
-    survey: &mut Survey,
-    block: u32,
-    sector: u32,
-) -> Checked
+fn take_map<D: SectorDevice>(device: &mut D, survey: &mut Survey, block: TableBlock) -> Checked
     ensures { TellsNothing (D.state device.old) (D.state device.new) }
 {
+    let TableBlock { index, sector } = block;
     if sector == 0 {
         survey.addresses.extend_from_slice(&[0; 128])?;
         return Ok(());
     }
-    let part = Part::MapBlock(block);
-    let name = name_of(BlockKind::Map, block);
+    let part = Part::MapBlock(index);
+    let name = name_of(BlockKind::Map, index);
     let Some(bytes) = survey.take(device, sector, name) else {
         return Err(Stage(3).fails(part, sector));
     };
     let addresses = PointerView::new(&bytes).to_array();
-    if is_zero(&bytes) || block == 0 && addresses[0] != 0 {
+    if is_zero(&bytes) || index == 0 && addresses[0] != 0 {
         return Err(Stage(3).fails(part, sector));
     }
     survey.addresses.extend_from_slice(&addresses)?;
@@ -98,13 +97,17 @@ fn take_table<D: SectorDevice>(
 ) -> Checked
     ensures { TellsNothing (D.state device.old) (D.state device.new) }
 {
-    let mut block: u32 = 0;
+    let mut index: u32 = 0;
     for sector in sectors {
+        let block = TableBlock {
+            index,
+            sector: *sector,
+        };
         match table {
-            Table::Usage => take_usage(device, survey, block, *sector)?,
-            Table::Map => take_map(device, survey, block, *sector)?,
+            Table::Usage => take_usage(device, survey, block)?,
+            Table::Map => take_map(device, survey, block)?,
         }
-        block = block.saturating_add(1);
+        index = index.saturating_add(1);
     }
     Ok(())
 }

@@ -1,5 +1,5 @@
 -- What a store holds as it commits, makes room and stages its draft.
-use Rattle.std.specs.Prelude.{Result, Ok, Err, OnErr, OnOk, min}
+use Rattle.std.specs.Prelude.{Result, Ok, Err, OnErr, OnOk}
 use Rattle.std.proofs.Common.{◌≡◌, ◌<◌, ◌≤◌, ◌+◌, ◌-◌, ◌*◌, ◌/◌, ◌^◌, inl, inr, ⊎_elim, Bool, true, false, ℕ, length, refl, sym, ◌∙◌, ap}
 use Rattle.std.proofs.Common.{subst, arith}
 use Rattle.lfs_model.specs.Checkpoint.{CheckpointValue}
@@ -19,24 +19,24 @@ use Rattle.lfs_cleaner.proofs.of_log.of_memory.Looses.{loose}
 use Rattle.lfs_cleaner.proofs.of_log.of_memory.Presents.{looks_quiet}
 use Rattle.lfs_cleaner.proofs.of_log.Volumes.{same_segments}
 use Rattle.lfs_cleaner.specs.log.verify.declared.totals.BlockTotals.{BlockTotals}
-use Rattle.lfs_cleaner.specs.log.Held.{Held, Halts, Holds, IsFull, IsSaved, Saves, Alters, IsStaged, IsRefused, IsStageFault, waiting_in}
-use Rattle.lfs_cleaner.proofs.of_log.Unsaved.{all_saved}
-use Rattle.lfs_cleaner.specs.Room.{HaltsLater, HasQuarter, IsAtRest, IsRoomFault, KeepsMap, MayNotMakeRoom, most_checkpoints}
+use Rattle.lfs_cleaner.specs.log.Held.{Held, Halts, Holds, IsFull, IsSaved, Saves, Alters, IsStaged, IsRefused, IsStageFault}
+use Rattle.lfs_cleaner.specs.Room as cleaner
+use Rattle.lfs_cleaner.specs.Room.{Acknowledges, HaltsLater, HasQuarter, IsAtRest, IsRoomFault, KeepsMap, MayNotMakeRoom, StaysUnsaved}
 use Rattle.lfs_cleaner.proofs.RoomBounds.{same_need, segment_count}
 use Rattle.lfs_cleaner.proofs.Rooms.{fault_then, halts_at_once, halts_then, halts_weaker, keeps_none, keeps_saves, keeps_then, keeps_weaker}
 use Rattle.lfs_cleaner.proofs.Rooms.{rest_saves}
-use Rattle.lfs_store.specs.Accepting.{HasClean, Stores, StoresOver, LeavesEither, Commits, Acknowledges, CannotMakeRoom, MakesRoom, Readies}
-use Rattle.lfs_store.specs.Accepting.{SavesFew, StaysUnsaved, Accepts, Declines, IsAcceptFault, most_written}
+use Rattle.lfs_store.specs.Accepting.{HasClean, Stores, StoresOver, LeavesEither, Commits, CannotMakeRoom, MakesRoom, Readies}
+use Rattle.lfs_store.specs.Accepting.{SavesFew, Accepts, Declines, IsAcceptFault, most_written}
 
 -- where anything isn't saved a checkpoint is written
 pub written_most : (D : Type 0) (h : Held D) (saved : Bool) → most_written h saved ≤ length h.memory.usage.segments / 8 + 1
 written_most D h true =
-    let le : length h.memory.usage.segments / 8 + min 1 (waiting_in h) ≤ length h.memory.usage.segments / 8 + 1 = omega arith in le
+    let le : length h.memory.usage.segments / 8 + 0 ≤ length h.memory.usage.segments / 8 + 1 = omega arith in le
 written_most D h false = let le : length h.memory.usage.segments / 8 + 1 ≤ length h.memory.usage.segments / 8 + 1 = omega arith in le
 
 written_least : (D : Type 0) (h : Held D) (saved : Bool) → length h.memory.usage.segments / 8 ≤ most_written h saved
 written_least D h true =
-    let le : length h.memory.usage.segments / 8 ≤ length h.memory.usage.segments / 8 + min 1 (waiting_in h) = omega arith in le
+    let le : length h.memory.usage.segments / 8 ≤ length h.memory.usage.segments / 8 + 0 = omega arith in le
 written_least D h false = let le : length h.memory.usage.segments / 8 ≤ length h.memory.usage.segments / 8 + 1 = omega arith in le
 
 -- what isn't saved stays so
@@ -115,7 +115,6 @@ module _ {D : Type 0} (state : D → DeviceState) where
 
   pub readies_saves : (h h' : Held D) → Saves state h h' → h'.totals ≡ h.totals → Readies state h false h' true
   readies_saves h h' s totals =
-      let none = all_saved h' s.empty in
       let size = s.segments in
       let rose = s.number in
       record {
@@ -125,8 +124,8 @@ module _ {D : Type 0} (state : D → DeviceState) where
           all = λ e. inr s.holds;
           rest = λ e rest. rest_saves state h h' s;
         };
-        spent = (let spent : h'.number + (length h'.memory.usage.segments / 8 + min 1 (waiting_in h'))
-            ≤ h.number + (length h.memory.usage.segments / 8 + 1) = omega (arith, none, size, rose) in spent);
+        spent = (let spent : h'.number + (length h'.memory.usage.segments / 8 + 0)
+            ≤ h.number + (length h.memory.usage.segments / 8 + 1) = omega (arith, size, rose) in spent);
         able = λ k m0 m keeps can.
             let next = s.holds k m0 m keeps can.stores.holds can.shown in
             let most : h.number + (length h.memory.usage.segments / 8 + 1) ≤ 2 ^ 64 - 1 = can.number in (
@@ -139,8 +138,8 @@ module _ {D : Type 0} (state : D → DeviceState) where
                 counted = subst (λ (t : BlockTotals). IsCounted m t.data_blocks t.meta_blocks) (sym totals) can.counted;
                 need = same_need state h h' totals size can.need;
                 enough = λ never. absurd (cc);
-                number = (let fits : h'.number + (length h'.memory.usage.segments / 8 + min 1 (waiting_in h')) ≤ 2 ^ 64 - 1 =
-                    omega (arith, none, size, rose, most) in fits);
+                number = (let fits : h'.number + (length h'.memory.usage.segments / 8 + 0) ≤ 2 ^ 64 - 1 =
+                    omega (arith, size, rose, most) in fits);
               },
             );
       }
@@ -168,6 +167,7 @@ module _ {D : Type 0} (state : D → DeviceState) where
     number = few;
     segments = one.segments;
     totals = one.totals;
+    saved = one.saved;
     rest = one.rest;
     holds = one.holds;
     moment = one.moment;
@@ -216,41 +216,20 @@ module _ {D : Type 0} (state : D → DeviceState) where
     pub fault_after : Carries (state b.device) (state c.device) → IsRoomFault state b c → IsRoomFault state a c
     fault_after after failed = fault_then state a b c _ ready.room.keeps after failed
 
-  -- passes where all is saved
-  pub room_cleaned : (b c : Held D) → KeepsMap state b c (most_checkpoints b) → MakesRoom state b true c true
-  room_cleaned b c keeps =
-      record { keeps = keeps; unsaved = λ never. absurd (cc); all = λ e. inl refl; rest = λ e rest. keeps.rest (rest refl) }
+  -- ---- the cleaner's room is the store's
+  pub room_cleaned : (h h' : Held D) → cleaner.MakesRoom state h h' → MakesRoom state h h.saved h' h'.saved
+  room_cleaned h h' made = record { keeps = made.keeps; unsaved = made.unsaved; all = made.all; rest = made.rest }
 
-  pub cannot_pass : (b c : Held D) → MayNotMakeRoom state b c → CannotMakeRoom state b true c
-  cannot_pass b c lacks k m0 m keeps can =
-      let rest = can.stores.rest refl in
-      let none = all_saved b rest.nothing in
-      lacks k m0 m keeps (record {
-        holds = can.stores.holds;
-        map = can.map;
-        shown = can.shown;
-        counted = can.counted;
-        need = can.need;
-        many = rest.many;
-        enough = λ (lt : 0 < waiting_in b). absurd (omega (arith, lt, none));
-        untaken = λ e. rest.untaken;
-        number = can.number;
-      })
-
-  -- they come behind a commit
-  module _ (a b c : Held D) (saved kept : Bool) (all : kept ≡ true) (ready : Readies state a saved b kept) where
-    ready_all : Readies state a saved b true
-    ready_all = subst (λ (flag : Bool). Readies state a saved b flag) all ready
-
-    pub clean_room : KeepsMap state b c (most_checkpoints b) → MakesRoom state a saved c kept
-    clean_room keeps = subst (λ (flag : Bool). MakesRoom state a saved c flag) (sym all)
-        (room_then a b c saved true ready_all true (room_cleaned b c keeps))
-
-    pub clean_cannot : Carries (state b.device) (state c.device) → MayNotMakeRoom state b c → CannotMakeRoom state a saved c
-    clean_cannot after lacks = cannot_after a b c saved true ready_all after (cannot_pass b c lacks)
-
-    pub clean_halts : HaltsLater state b c (most_checkpoints b) → HaltsLater state a c (most_written a saved)
-    clean_halts halts = halts_after a b c saved true ready_all halts
+  pub cannot_clean : (h h' : Held D) → MayNotMakeRoom state h h' → CannotMakeRoom state h h.saved h'
+  cannot_clean h h' never k m0 m keeps can = never k m0 m keeps (record {
+    holds = can.stores.holds;
+    map = can.map;
+    shown = can.shown;
+    counted = can.counted;
+    need = can.need;
+    enough = can.enough;
+    number = can.number;
+  })
 
   -- nothing happened
   pub room_same : (a b : Held D) (saved kept : Bool) → IsLawful (state a.device) → a.halted ≡ false → b ≡ a → kept ≡ saved

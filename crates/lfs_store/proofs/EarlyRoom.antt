@@ -1,6 +1,5 @@
 -- Room in memory that early writes make.
-use Rattle.std.specs.Prelude.{min}
-use Rattle.std.proofs.Common.{◌≡◌, ◌<◌, ◌≤◌, ◌⊎◌, ◌+◌, ◌-◌, ◌*◌, ◌/◌, ◌^◌, inl, inr, ⊎_elim, Bool, true, false, ℕ, [], length, refl, sym}
+use Rattle.std.proofs.Common.{◌≡◌, ◌<◌, ◌≤◌, ◌⊎◌, ◌+◌, ◌-◌, ◌/◌, ◌^◌, inl, inr, ⊎_elim, Bool, true, false, ℕ, length, refl, sym}
 use Rattle.std.proofs.Common.{◌∙◌, subst, arith}
 use Rattle.lfs_model.specs.Content.{Content}
 use Rattle.lfs_model.specs.Crash.{StandsOn}
@@ -18,7 +17,7 @@ use Rattle.lfs_cleaner.specs.Room.{IsAtRest, KeepsMap, passes_orders, room_order
 use Rattle.lfs_cleaner.proofs.of_log.of_memory.of_inodes.Data.{no_data}
 use Rattle.lfs_cleaner.proofs.RoomBounds.{same_need}
 use Rattle.lfs_cleaner.proofs.Rooms.{keeps_weaker}
-use Rattle.lfs_store.specs.Accepting.{HasClean, MakesRoom, Readies, StaysUnsaved, most_written}
+use Rattle.lfs_store.specs.Accepting.{HasClean, MakesRoom, Readies, most_written}
 use Rattle.lfs_store.proofs.Acceptings.{room_then}
 
 -- what the next commit asks for is clean still, where anything was written
@@ -35,6 +34,7 @@ module _ {D : Type 0} (state : D → DeviceState) where
     running = running;
     number = refl;
     upgraded = refl;
+    saved = refl;
     segments = refl;
     capacity = refl;
     fewer = omega arith;
@@ -69,6 +69,7 @@ module _ {D : Type 0} (state : D → DeviceState) where
           number = omega (arith, same);
           segments = w.segments;
           totals = totals;
+          saved = λ all. w.saved ∙ all;
           rest = rest_early;
           holds = λ k m0 m keeps is map.
               record { checkpoint = k; acknowledged = m0; either = inl refl; same = refl; holds = w.holds k m0 m keeps is };
@@ -169,8 +170,7 @@ module _ {D : Type 0} (state : D → DeviceState) where
       → clean_in b.memory.usage.segments < length b.memory.usage.segments / 8 + 8
       → length (state b.device).told ≤ length (state a.device).told + commit_orders
       → length (state c.device).told ≤ length (state b.device).told + room_orders (length b.memory.usage.segments)
-      → (kept ≡ true → AreAllSaved b
-      → length (state c.device).told ≤ length (state b.device).told + passes_orders (length b.memory.usage.segments))
+      → (kept ≡ true → length (state c.device).told ≤ length (state b.device).told + passes_orders (length b.memory.usage.segments))
       → length b.memory.usage.segments ≡ length a.memory.usage.segments
       → length (state c.device).told ≤ length (state a.device).told + room_orders (length a.memory.usage.segments)
   told_cleaned a b c kept once few first rest passes same = ⊎_elim
@@ -179,7 +179,7 @@ module _ {D : Type 0} (state : D → DeviceState) where
       (λ (more : HasClean b ⊎ ((kept ≡ true) × AreAllSaved b)). ⊎_elim
       (λ (clean : HasClean b). absurd (omega (arith, clean, few)))
       (λ (all : (kept ≡ true) × AreAllSaved b). behind (length (state a.device).told) (length (state b.device).told)
-      (length (state c.device).told) (length a.memory.usage.segments) (length b.memory.usage.segments) same first (passes all.0 all.1))
+      (length (state c.device).told) (length a.memory.usage.segments) (length b.memory.usage.segments) same first (passes all.0))
       more)
       once
     where

@@ -1,29 +1,26 @@
 -- How a store's calls on its log end, each as what its steps say.
-use Rattle.std.specs.Prelude.{Result, Ok, Err, OnErr, OnOk, IsErr, IsErrAnd, IsErrOf}
-use Rattle.std.proofs.Common.{◌≡◌, ◌≢◌, ◌<◌, ◌≤◌, ◌+◌, ◌*◌, true, false, ℕ, length, refl, sym, ◌∙◌, ap, subst, arith}
+use Rattle.std.specs.Prelude.{Result, Ok, Err, OnOk, IsErr, IsErrAnd, IsErrOf}
+use Rattle.std.proofs.Common.{◌≡◌, ◌≢◌, ◌<◌, ◌≤◌, ◌+◌, Bool, true, false, ℕ, length, refl, sym, ◌∙◌, ap, subst, arith}
 use Rattle.std.proofs.lemmas.Result.{err_from_is_err_and}
-use Rattle.lfs_model.specs.Device.{DeviceState, IsLawful, Carries}
-use Rattle.lfs_model.proofs.Moments.{carries_none}
+use Rattle.lfs_model.specs.Device.{DeviceState, IsLawful}
 use Rattle.lfs_files.specs.declared.fault.LogFault.{LogFault}
 use Rattle.lfs_files.specs.declared.fault.LogFault.TheVariants.{Full, Device, Halted}
 use Rattle.lfs_files.specs.declared.fault.StoreFault.{StoreFault}
 use Rattle.lfs_files.specs.declared.fault.StoreFault.TheVariants.{NoMemory, Log}
 use Rattle.lfs_cleaner.specs.log.memory.Batch.{room_for}
-use Rattle.lfs_cleaner.specs.log.memory.Preparing.{LacksRoom}
-use Rattle.lfs_cleaner.specs.log.Held.{Held, Halts, IsFull, IsStaged, IsRefused, IsStageFault}
+use Rattle.lfs_cleaner.specs.log.Held.{Held, IsFull, IsStaged, IsRefused, IsStageFault}
 use Rattle.lfs_cleaner.specs.log.Saving.{commit_orders}
-use Rattle.lfs_cleaner.specs.Room.{HaltsLater, HasQuarter, IsAtRest, IsRoomFault, KeepsMap, MayNotMakeRoom, most_checkpoints, room_orders}
+use Rattle.lfs_cleaner.specs.Room as cleaner
+use Rattle.lfs_cleaner.specs.Room.{FailsRoom, HaltsLater, HasQuarter, IsAtRest, IsRoomFault, most_checkpoints, room_orders}
 use Rattle.lfs_cleaner.proofs.of_log.of_memory.Going.{ok_then}
 use Rattle.lfs_store.specs.declared.draft.Draft.{Draft}
 use Rattle.lfs_store.specs.declared.store.Store.{Store}
-use Rattle.lfs_store.specs.Accepting.{Accepts, Declines, HasClean, HasCleanForTwo, HasRoomFor, IsAcceptFault, Readies}
+use Rattle.lfs_store.specs.Accepting.{Accepts, Commits, Declines, HasClean, HasCleanForTwo, HasRoomFor, IsAcceptFault, Readies}
 use Rattle.lfs_store.specs.Keeping.{KeepsDraft}
 use Rattle.lfs_store.specs.Outcomes.{Accepted, Cleaned, Committed, RoomMade}
-use Rattle.lfs_store.proofs.Acceptings.{accepts, accept_fault, asks_much, cannot_after, cannot_commit, clean_cannot, clean_halts}
-use Rattle.lfs_store.proofs.Acceptings.{clean_room}
+use Rattle.lfs_store.proofs.Acceptings.{accepts, accept_fault, cannot_after, cannot_clean, cannot_commit, room_cleaned}
 use Rattle.lfs_store.proofs.Acceptings.{commits_none, declines, declines_room, fault_after, halts_after, halts_first, readies_none}
-use Rattle.lfs_store.proofs.Acceptings.{room_fault, room_none, room_same, room_then, where_err}
-use Rattle.lfs_store.proofs.EarlyRoom.{readies_then}
+use Rattle.lfs_store.proofs.Acceptings.{room_fault, room_none, room_same, room_then}
 
 -- what holds at an error holds at the exit of a `?`
 pub same_exit : {T E : Type 0} (r : Result T E) (e : E) (P : Result T E → Type 0) → IsErr r × IsErrAnd r (λ y. y ≡ e) → P (Err e) → P r
@@ -34,6 +31,14 @@ log_error fault = Err fault
 
 abbrev store_error : StoreFault → Result Unit StoreFault
 store_error fault = Err fault
+
+-- a commit that fails leaves what isn't saved so
+pub still_unsaved : (D : Type 0) (h h' : Held D) (X : Type 0) (fault : LogFault) → h.saved ≡ false
+    → (log_error fault ≡ log_error Full → (h' ≡ h) × X) → (log_error fault ≡ log_error Device → ⊥)
+    → (log_error fault ≡ log_error Halted → h'.saved ≡ false) → h'.saved ≡ h.saved
+still_unsaved D h h' X Full off full device halted = ap (λ (x : Held D). x.saved) (full refl).0
+still_unsaved D h h' X Device off full device halted = absurd (device refl)
+still_unsaved D h h' X Halted off full device halted = halted refl ∙ sym off
 
 pub keeps_none : {D : Type 0} (a : Store D) → KeepsDraft a a
 keeps_none a = record { draft = refl; totals = refl; drafted = refl }
@@ -68,11 +73,12 @@ module _ {D : Type 0} (state : D → DeviceState) where
     tells = omega arith;
   }
 
-  pub committed_saved : (a : Store D) → IsLawful (state a.log.device) → a.log.halted ≡ false → a.saved ≡ true → Committed state a a (Ok tt)
+  pub committed_saved : (a : Store D) → IsLawful (state a.log.device) → a.log.halted ≡ false → a.log.saved ≡ true
+      → Committed state a a (Ok tt)
   committed_saved a lawful running all = record {
     keeps = keeps_none a;
-    done = rw all (commits_none state a.log lawful running);
-    ready = readies_none state a.log a.saved lawful running;
+    done = subst (λ (saved : Bool). Commits state a.log saved a.log) (sym all) (commits_none state a.log lawful running);
+    ready = readies_none state a.log a.log.saved lawful running;
     saved = all;
     saves = λ never. absurd (cc);
     same = tt;
@@ -90,7 +96,7 @@ module _ {D : Type 0} (state : D → DeviceState) where
   pub made_none : (a : Store D) → IsLawful (state a.log.device) → a.log.halted ≡ false → RoomMade state a a (Ok tt)
   made_none a lawful running = record {
     keeps = keeps_none a;
-    done = room_none state a.log a.saved lawful running;
+    done = room_none state a.log a.log.saved lawful running;
     full = λ e. absurd (cc);
     never = λ e. absurd (cc);
     kept = λ e. absurd (cc);
@@ -98,7 +104,7 @@ module _ {D : Type 0} (state : D → DeviceState) where
     halted = λ e. absurd (cc);
   }
 
-  pub made_ready : (a b : Store D) → KeepsDraft a b → Readies state a.log a.saved b.log b.saved → RoomMade state a b (Ok tt)
+  pub made_ready : (a b : Store D) → KeepsDraft a b → Readies state a.log a.log.saved b.log b.log.saved → RoomMade state a b (Ok tt)
   made_ready a b keeps ready = record {
     keeps = keeps;
     done = ready.room;
@@ -115,26 +121,26 @@ module _ {D : Type 0} (state : D → DeviceState) where
   made_uncommitted a b fault lawful running commit = record {
     keeps = commit.keeps;
     done = tt;
-    full = λ e. room_same state a.log b.log a.saved b.saved lawful running (commit.full e).0 commit.same;
-    never = λ e. cannot_commit state a.log b.log a.saved lawful (commit.unsaved e) (commit.full e).1;
+    full = λ e. room_same state a.log b.log a.log.saved b.log.saved lawful running (commit.full e).0 commit.same;
+    never = λ e. cannot_commit state a.log b.log a.log.saved lawful (commit.unsaved e) (commit.full e).1;
     kept = λ e. absurd (commit.other e);
     failed = λ e. absurd (commit.other e);
-    halted = λ e ne. halts_first state a.log b.log a.saved (commit.halted e ne);
+    halted = λ e ne. halts_first state a.log b.log a.log.saved (commit.halted e ne);
   }
 
   -- room that is made behind steps that leave the log ready
-  pub made_then : (a b c : Store D) (r : Result Unit LogFault) → KeepsDraft a b → Readies state a.log a.saved b.log b.saved
+  pub made_then : (a b c : Store D) (r : Result Unit LogFault) → KeepsDraft a b → Readies state a.log a.log.saved b.log b.log.saved
       → RoomMade state b c r → RoomMade state a c r
   made_then a b c r keeps ready made =
       let running = ready.room.keeps.running in
       record {
         keeps = keeps_then a b c keeps made.keeps;
-        done = ok_then r _ _ (λ room. room_then state a.log b.log c.log a.saved b.saved ready c.saved room) made.done;
-        full = λ e. room_then state a.log b.log c.log a.saved b.saved ready c.saved (made.full e);
-        never = λ e. cannot_after state a.log b.log c.log a.saved b.saved ready (made.full e).keeps.carries (made.never e);
-        kept = λ e. room_then state a.log b.log c.log a.saved b.saved ready c.saved (made.kept e);
-        failed = λ e. fault_after state a.log b.log c.log a.saved b.saved ready (made.kept e).keeps.carries (made.failed e);
-        halted = λ e ne. halts_after state a.log b.log c.log a.saved b.saved ready
+        done = ok_then r _ _ (λ room. room_then state a.log b.log c.log a.log.saved b.log.saved ready c.log.saved room) made.done;
+        full = λ e. room_then state a.log b.log c.log a.log.saved b.log.saved ready c.log.saved (made.full e);
+        never = λ e. cannot_after state a.log b.log c.log a.log.saved b.log.saved ready (made.full e).keeps.carries (made.never e);
+        kept = λ e. room_then state a.log b.log c.log a.log.saved b.log.saved ready c.log.saved (made.kept e);
+        failed = λ e. fault_after state a.log b.log c.log a.log.saved b.log.saved ready (made.kept e).keeps.carries (made.failed e);
+        halted = λ e ne. halts_after state a.log b.log c.log a.log.saved b.log.saved ready
             (made.halted e (λ (t : b.log.halted ≡ true). absurd (cc)));
       }
 
@@ -145,67 +151,26 @@ module _ {D : Type 0} (state : D → DeviceState) where
   made_committed a b (Err fault) lawful running commit = made_uncommitted a b fault lawful running commit
 
   -- ---- the cleaner makes room
-  pub cleaned_halted : (a : Store D) → a.log.halted ≡ true → Cleaned state a a (Err Halted)
-  cleaned_halted a is = record {
+  pub cleaned : (a : Store D) (h : Held D) (r : Result Unit LogFault) → h.totals ≡ a.log.totals → OnOk r (cleaner.MakesRoom state a.log h)
+      → (IsErrOf r Full → cleaner.LacksRoom state a.log h) → (IsErrOf r Device → FailsRoom state a.log h)
+      → (IsErrOf r Halted → a.log.halted ≢ true → HaltsLater state a.log h (most_checkpoints a.log))
+      → (a.log.halted ≡ true → (h ≡ a.log) × IsErrOf r Halted) → (HasQuarter a.log → h ≡ a.log) → Cleaned state a (record a { log = h }) r
+  cleaned a h r totals done full device halted still quiet = record {
     room = record {
-      keeps = keeps_none a;
-      done = tt;
-      full = λ e. absurd (cc);
-      never = λ e. absurd (cc);
-      kept = λ e. absurd (cc);
-      failed = λ e. absurd (cc);
-      halted = λ e ne. absurd (ne is);
+      keeps = record { draft = refl; totals = totals; drafted = refl };
+      done = ok_then r _ _ (room_cleaned state a.log h) done;
+      full = λ e. room_cleaned state a.log h (full e).makes;
+      never = λ e. cannot_clean state a.log h (full e).never;
+      kept = λ e. room_cleaned state a.log h (device e).makes;
+      failed = λ e. (device e).fault;
+      halted = halted;
     };
-    still = λ t. (refl, refl, refl);
-    quiet = λ t. (refl, refl);
+    still = λ t. (let s = still t in (s.0, ap (λ (x : Held D). x.saved) s.0, s.1));
+    quiet = λ quarter. (let same = quiet quarter in (same, ap (λ (x : Held D). x.saved) same));
   }
-
-  pub cleaned_none : (a : Store D) → IsLawful (state a.log.device) → a.log.halted ≡ false → Cleaned state a a (Ok tt)
-  cleaned_none a lawful running = record {
-    room = made_none a lawful running;
-    still = λ t. absurd (cc);
-    quiet = λ t. (refl, refl);
-  }
-
-  module _ (a b : Store D) (running : a.log.halted ≡ false)
-      (due : HasQuarter a.log → ⊥) where
-    pub cleaned_uncommitted : (fault : LogFault) → IsLawful (state a.log.device) → Committed state a b (Err fault)
-        → Cleaned state a b (Err fault)
-    cleaned_uncommitted fault lawful commit = record {
-      room = made_uncommitted a b fault lawful running commit;
-      still = λ t. absurd (cc);
-      quiet = λ quarter. absurd (due quarter);
-    }
-
-    pub cleaned_behind : (h : Held D) (r : Result Unit LogFault) → Committed state a b (Ok tt) → h.totals ≡ b.log.totals
-        → OnOk r (KeepsMap state b.log h (most_checkpoints b.log))
-        → (IsErrOf r Full → KeepsMap state b.log h (most_checkpoints b.log)) → (IsErrOf r Full → MayNotMakeRoom state b.log h)
-        → (IsErrOf r Device → KeepsMap state b.log h (most_checkpoints b.log)) → (IsErrOf r Device → IsRoomFault state b.log h)
-        → (IsErrOf r Halted → b.log.halted ≢ true → HaltsLater state b.log h (most_checkpoints b.log))
-        → Cleaned state a (record b { log = h }) r
-    cleaned_behind h r commit totals done full lacks kept failed halted =
-        let again = commit.ready.room.keeps.running in
-        record {
-          room = record {
-            keeps = record {
-              draft = commit.keeps.draft;
-              totals = totals ∙ commit.keeps.totals;
-              drafted = commit.keeps.drafted;
-            };
-            done = ok_then r _ _ (λ keeps. clean_room state a.log b.log h a.saved b.saved commit.saved commit.ready keeps) done;
-            full = λ e. clean_room state a.log b.log h a.saved b.saved commit.saved commit.ready (full e);
-            never = λ e. clean_cannot state a.log b.log h a.saved b.saved commit.saved commit.ready (full e).carries (lacks e);
-            kept = λ e. clean_room state a.log b.log h a.saved b.saved commit.saved commit.ready (kept e);
-            failed = λ e. fault_after state a.log b.log h a.saved b.saved commit.ready (kept e).carries (failed e);
-            halted = λ e ne. clean_halts state a.log b.log h a.saved b.saved commit.saved commit.ready
-                (halted e (λ (t : b.log.halted ≡ true). absurd (cc)));
-          };
-          still = λ t. absurd (cc);
-          quiet = λ quarter. absurd (due quarter);
-        }
 
   -- ---- a draft of a halted log
-  pub accepted_halted : (a : Store D) → a.log.halted ≡ true → Accepted state a a.log a.saved (Err (Log Halted))
+  pub accepted_halted : (a : Store D) → a.log.halted ≡ true → Accepted state a a.log a.log.saved (Err (Log Halted))
   accepted_halted a is = record {
     counted = tt;
     kept = refl;
@@ -236,18 +201,18 @@ module _ {D : Type 0} (state : D → DeviceState) where
       (one_commit : HasCleanForTwo a.log → length (state b.log.device).told ≤ length (state a.log.device).told + commit_orders) where
     -- no room was made
     pub accepted_unready : (fault : LogFault) → RoomMade state a b (Err fault) → (log_error fault ≡ log_error Full → IsFull b.log)
-        → Accepted state a b.log b.saved (Err (Log fault))
+        → Accepted state a b.log b.log.saved (Err (Log fault))
     accepted_unready fault made lacks = record {
       counted = tt;
       kept = made.keeps.totals;
       done = tt;
-      full = λ e. declines_room state a.log b.log a.saved b.saved a.draft.changes running (made.full (as_log fault Full e));
+      full = λ e. declines_room state a.log b.log a.log.saved b.log.saved a.draft.changes running (made.full (as_log fault Full e));
       lacks = λ e. lacks (as_log fault Full e);
       never = λ e. made.never (as_log fault Full e);
       memory = λ e. absurd (cc);
       fits = λ e. absurd (cc);
-      device = λ e. declines_room state a.log b.log a.saved b.saved a.draft.changes running (made.kept (as_log fault Device e));
-      failed = λ e. room_fault state a.log b.log a.saved a.draft.changes (made.failed (as_log fault Device e));
+      device = λ e. declines_room state a.log b.log a.log.saved b.log.saved a.draft.changes running (made.kept (as_log fault Device e));
+      failed = λ e. room_fault state a.log b.log a.log.saved a.draft.changes (made.failed (as_log fault Device e));
       halted = λ e. made.halted (as_log fault Halted e);
       still = λ t. absurd (cc);
       quiet = λ room clean. ap (λ (h : Held D). h.number) (quiet room clean);
@@ -257,13 +222,14 @@ module _ {D : Type 0} (state : D → DeviceState) where
 
     module _ (h : Held D) (lawful : IsLawful (state b.log.device)) (made : RoomMade state a b (Ok tt)) (enough : HasClean b.log) where
       -- it is staged
-      pub accepted_staged : IsStaged state b.log h b.draft.changes → h.totals ≡ b.drafted → Accepted state a h false (Ok tt)
+      pub accepted_staged : IsStaged state b.log h b.draft.changes → h.totals ≡ b.drafted → Accepted state a h h.saved (Ok tt)
       accepted_staged s totals =
-          record {
+          subst (λ (saved : Bool). Accepted state a h saved (Ok tt)) (sym s.unsaved)
+          (record {
             counted = totals ∙ made.keeps.drafted;
             kept = tt;
-            done = subst (λ (d : Draft). Accepts state a.log a.saved h false d.changes) made.keeps.draft
-                (accepts state a.log b.log h a.saved b.saved b.draft.changes lawful running made.done s.alters enough s);
+            done = subst (λ (d : Draft). Accepts state a.log a.log.saved h false d.changes) made.keeps.draft
+                (accepts state a.log b.log h a.log.saved b.log.saved b.draft.changes lawful running made.done s.alters enough s);
             full = λ e. absurd (cc);
             lacks = λ e. absurd (cc);
             never = λ e. absurd (cc);
@@ -276,19 +242,20 @@ module _ {D : Type 0} (state : D → DeviceState) where
             quiet = λ room clean. s.alters.number ∙ ap (λ (x : Held D). x.number) (quiet room clean);
             told = no_more _ _ _ (ap length s.alters.looks.told) told;
             one_commit = λ two. no_more _ _ _ (ap length s.alters.looks.told) (one_commit two);
-          }
+          })
 
       -- it is refused
       pub accepted_refused : (fault : StoreFault) → IsRefused state b.log h b.draft.changes → h.totals ≡ b.log.totals
           → (fault ≡ Log Full → ⊥) → (fault ≡ Log Halted → ⊥)
-          → (fault ≡ NoMemory → (a.saved ≡ true → IsAtRest a.log) → 456 < room_for b.draft.changes)
+          → (fault ≡ NoMemory → (a.log.saved ≡ true → IsAtRest a.log) → 456 < room_for b.draft.changes)
           → (fault ≡ Log Device → IsStageFault state b.log h b.draft.changes)
-          → Accepted state a h false (Err fault)
+          → Accepted state a h h.saved (Err fault)
       accepted_refused fault r totals some running' asks failed =
-          let declined : Declines state a.log a.saved h false a.draft.changes =
-          subst (λ (d : Draft). Declines state a.log a.saved h false d.changes) made.keeps.draft
-          (declines state a.log b.log h a.saved b.saved b.draft.changes lawful running made.done r.alters enough r) in
-          record {
+          let declined : Declines state a.log a.log.saved h false a.draft.changes =
+          subst (λ (d : Draft). Declines state a.log a.log.saved h false d.changes) made.keeps.draft
+          (declines state a.log b.log h a.log.saved b.log.saved b.draft.changes lawful running made.done r.alters enough r) in
+          subst (λ (saved : Bool). Accepted state a h saved (store_error fault)) (sym (r.unsaved made.done.keeps.running))
+          (record {
             counted = tt;
             kept = totals ∙ made.keeps.totals;
             done = tt;
@@ -298,11 +265,11 @@ module _ {D : Type 0} (state : D → DeviceState) where
             memory = λ e. declined;
             fits = λ e rest. subst (λ (d : Draft). 456 < room_for d.changes) made.keeps.draft (asks (cc) rest);
             device = λ e. declined;
-            failed = λ e. subst (λ (d : Draft). IsAcceptFault state a.log a.saved h d.changes) made.keeps.draft
-                (accept_fault state a.log b.log h a.saved b.saved b.draft.changes lawful running made.done r.alters (failed (cc)));
+            failed = λ e. subst (λ (d : Draft). IsAcceptFault state a.log a.log.saved h d.changes) made.keeps.draft
+                (accept_fault state a.log b.log h a.log.saved b.log.saved b.draft.changes lawful running made.done r.alters (failed (cc)));
             halted = λ e. absurd (running' (cc));
             still = λ t. absurd (cc);
             quiet = λ room clean. r.alters.number ∙ ap (λ (x : Held D). x.number) (quiet room clean);
             told = no_more _ _ _ (ap length r.alters.looks.told) told;
             one_commit = λ two. no_more _ _ _ (ap length r.alters.looks.told) (one_commit two);
-          }
+          })

@@ -1,10 +1,10 @@
 -- What calls keep of a store, one after the other.
-use Rattle.std.specs.Prelude.{Result, Ok, Err, OnErr, IsErrOf}
-use Rattle.std.proofs.Common.{◌≡◌, true, refl, sym, ◌∙◌, ap, subst}
+use Rattle.std.specs.Prelude.{Result, Ok, Err}
+use Rattle.std.proofs.Common.{◌≡◌, refl, sym, ◌∙◌, ap, subst}
 use Rattle.lfs_model.specs.Device.{DeviceState, IsLawful}
 use Rattle.lfs_files.specs.declared.fault.LogFault.{LogFault}
 use Rattle.lfs_files.specs.declared.fault.LogFault.TheVariants.{Full, Halted}
-use Rattle.lfs_cleaner.specs.log.Held.{Held, Reads, IsReadFault}
+use Rattle.lfs_cleaner.specs.log.Held.{Held, Reads}
 use Rattle.lfs_store.specs.declared.draft.Draft.{Draft}
 use Rattle.lfs_store.specs.declared.store.Store.{Store}
 use Rattle.lfs_store.specs.Keeping.{DraftsUncounted, OnlyCounts, ReadsLog, RedraftsStore, RedraftsUncounted}
@@ -57,10 +57,6 @@ module _ {D : Type 0} (state : D → DeviceState) where
       record { reads = reads_more state a.log c.log d.log lawful change.reads three.reads; saved = three.saved ∙ change.saved }
 
   -- ---- a log that is only read
-  pub looked_at : {T : Type 0} (h h' : Held D) (r : Result T LogFault) → Reads state h h' → OnErr r (IsReadFault state h h')
-      → (IsErrOf r Halted → h.halted ≡ true) → (IsErrOf r Full → ⊥) → ReadsLog state h h' r
-  looked_at h h' r reads failed halted other = record { reads = reads; failed = failed; halted = halted; other = other }
-
   pub looked_done : {T : Type 0} (h h' : Held D) (x : T) → Reads state h h' → ReadsLog state h h' (Ok x)
   looked_done h h' x reads = record { reads = reads; failed = tt; halted = λ e. absurd (cc); other = λ e. absurd (cc) }
 

@@ -1,6 +1,6 @@
 -- The leaves of pointers of a file that have a block at some indices, and those that have none there.
 use Rattle.std.specs.Prelude.{min}
-use Rattle.std.proofs.Common.{◌≡◌, ◌<◌, ◌≤◌, ◌⊎◌, ⊎_elim, ◌+◌, ◌-◌, ◌*◌, ℕ, true, false, length, sym, ◌∙◌, ap, arith, inl, inr}
+use Rattle.std.proofs.Common.{◌≡◌, ◌<◌, ◌≤◌, ◌⊎◌, ⊎_elim, ◌+◌, ◌*◌, ℕ, true, false, length, sym, ◌∙◌, ap, arith, inl, inr}
 use Rattle.std.proofs.lemmas.Bool.{cases_lt, false_from_ne_true, lt-ltb}
 use Rattle.lfs_model.specs.Objects.{has_leaf, is_stored}
 use Rattle.lfs_model.specs.Stands.{LogMap}

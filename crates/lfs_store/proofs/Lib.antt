@@ -6,7 +6,6 @@ pub mod Acceptings
 pub mod EarlyRoom
 pub mod Endings
 pub mod Keepings
-pub mod Onces
 pub mod PiecesLaid
 pub mod PiecesRead
 pub mod PiecesStored
@@ -33,6 +32,7 @@ pub mod TreeTotals
 pub mod Shrunken
 pub mod Upgrades
 pub mod StoreSeen
+pub mod StoreMade
 pub use Rattle.lfs_cleaner.proofs.of_log as of_log
 pub use Rattle.lfs_cleaner.proofs as of_cleaner
 pub use Rattle.lfs_cleaner.proofs.of_log.of_memory

@@ -1,26 +1,16 @@
 -- Calls that only read a log, one after the other.
-use Rattle.std.proofs.Common.{Bool, refl, sym, ◌∙◌, subst, arith}
+use Rattle.std.proofs.Common.{Bool, refl, ◌∙◌, arith}
 use Rattle.lfs_model.specs.Checkpoint.{CheckpointValue}
 use Rattle.lfs_model.specs.Device.{DeviceState, IsLawful}
 use Rattle.lfs_model.specs.Stands.{LogMap}
-use Rattle.lfs_cleaner.specs.log.memory.declared.memory.LogMemory.{LogMemory}
-use Rattle.lfs_cleaner.specs.log.memory.Memory.{IsLog}
-use Rattle.lfs_cleaner.proofs.of_log.of_memory.Looses.{loose, tight_again}
-use Rattle.lfs_cleaner.proofs.of_log.of_memory.Presents.{looks_none, looks_then, still_log}
+use Rattle.lfs_cleaner.proofs.of_log.of_memory.Presents.{looks_none, looks_then}
 use Rattle.lfs_cleaner.specs.log.Held.{Held, Holds, Reads, IsReadFault}
-use Rattle.lfs_cleaner.proofs.Rooms.{rest_reads}
+use Rattle.lfs_cleaner.proofs.Rooms as rooms
 use Rattle.lfs_store.specs.Accepting.{Stores}
 
 module _ {D : Type 0} (state : D → DeviceState) where
   pub held_still : (a b : Held D) (k : CheckpointValue) (m0 m : LogMap) → Reads state a b → Holds state a k m0 m → Holds state b k m0 m
-  held_still a b k m0 m reads is = record {
-    log = subst (λ (v : LogMemory). IsLog (state b.device) v k m0 m) (sym reads.memory)
-        (let s = still_log (state a.device) (state b.device) a.memory k m0 m reads.looks (loose (state a.device) a.memory k m0 m is.log) in
-        tight_again (state b.device) a.memory k m0 m s is.log.tight);
-    number = is.number ∙ sym reads.number;
-    version = is.version ∙ sym reads.version;
-    running = reads.halted ∙ is.running;
-  }
+  held_still = rooms.held_still state
 
   -- a store over a log that was only read
   pub stores_still : (a b : Held D) (saved : Bool) (k : CheckpointValue) (m0 m : LogMap) → Reads state a b → Stores state a saved k m0 m
@@ -28,7 +18,7 @@ module _ {D : Type 0} (state : D → DeviceState) where
   stores_still a b saved k m0 m reads is = record {
     holds = held_still a b k m0 m reads is.holds;
     nothing_new = is.nothing_new;
-    rest = λ on. rest_reads state a b reads (is.rest on);
+    rest = λ on. rooms.rest_reads state a b reads (is.rest on);
   }
 
   pub reads_none : (a : Held D) → Reads state a a
@@ -38,6 +28,7 @@ module _ {D : Type 0} (state : D → DeviceState) where
     number = refl;
     version = refl;
     upgraded = refl;
+    saved = refl;
     halted = refl;
     totals = refl;
   }
@@ -49,6 +40,7 @@ module _ {D : Type 0} (state : D → DeviceState) where
     number = two.number ∙ one.number;
     version = two.version ∙ one.version;
     upgraded = two.upgraded ∙ one.upgraded;
+    saved = two.saved ∙ one.saved;
     halted = two.halted ∙ one.halted;
     totals = two.totals ∙ one.totals;
   }

@@ -1,18 +1,15 @@
 -- The bytes between two places of a file, block by block.
-use Rattle.std.proofs.Common.{◌≡◌, ⊎_elim, ℕ, ◌+◌, ◌-◌, ◌*◌, ◌/◌, ◌%◌, ◌<◌, ◌≤◌, Bool, true, false, List, [], ◌++◌, length, drop, refl, sym}
-use Rattle.std.proofs.Common.{ap, subst, ◌∙◌, arith, slice_index, length-append}
+use Rattle.std.proofs.Common.{◌≡◌, ⊎_elim, ℕ, ◌+◌, ◌-◌, ◌*◌, ◌/◌, ◌%◌, ◌<◌, ◌≤◌, List, ◌++◌, length, drop, refl, sym}
+use Rattle.std.proofs.Common.{ap, ◌∙◌, arith, slice_index, length-append}
 use Rattle.std.specs.Int.{div_ceil}
 use Rattle.std.proofs.lemmas.Bool.{cases_lt}
 use Rattle.std.proofs.lemmas.Grind.{same_number_lists}
 use Rattle.std.proofs.lemmas.List.{length-take, length-drop, get_or-take, get_or-drop, get_or_append_left, get_or-append_right}
 use Rattle.lfs_model.specs.Bytes.{part}
-use Rattle.lfs_model.specs.Fields.{zeros}
 use Rattle.lfs_model.specs.Objects.{byte_in}
 use Rattle.lfs_model.specs.Stands.{LogMap}
 use Rattle.lfs_model.specs.TreeOf.{object}
-use Rattle.lfs_model.proofs.ObjectBytes.{object_part, get_or-zeros}
-use Rattle.lfs_cleaner.specs.log.memory.Present.{BlockAnswer}
-use Rattle.lfs_cleaner.proofs.of_log.of_memory.LogMaps.{length_zeros}
+use Rattle.lfs_model.proofs.ObjectBytes.{object_part}
 use Rattle.lfs_store.specs.Pieces.{place_in_block, part_of_block, HoldsBlock, PartSoFar, PartBegins, PartGoesOn, PartEnds, PartRead}
 
 -- ---- one block

@@ -1,7 +1,7 @@
 -- Bytes of a file, read block by block.
 use Rattle.std.specs.Prelude.{slice_index, IsFalse}
-use Rattle.std.proofs.Common.{◌≡◌, ◌<◌, ◌≤◌, ⊎_elim, ◌+◌, ◌-◌, ◌/◌, ◌%◌, ℕ, Bool, true, false, List, [], ◌++◌, length, take, drop, refl}
-use Rattle.std.proofs.Common.{sym, ◌∙◌, ap, ap₂, subst, arith}
+use Rattle.std.proofs.Common.{◌≡◌, ◌<◌, ◌≤◌, ⊎_elim, ◌+◌, ◌-◌, ◌/◌, ◌%◌, ℕ, Bool, true, false, List, ◌++◌, length, take, drop, refl}
+use Rattle.std.proofs.Common.{sym, ◌∙◌, ap, ap₂, arith}
 use Rattle.std.proofs.lemmas.Bool.{cases_lt}
 use Rattle.std.proofs.lemmas.Grind.{same_number_lists}
 use Rattle.std.proofs.lemmas.List.{length-append, length-take, length-drop, get_or-take, get_or-drop, get_or_append_left, get_or-append-add}
@@ -15,12 +15,9 @@ use Rattle.lfs_model.specs.TreeOf.{object}
 use Rattle.lfs_model.proofs.ObjectBytes.{get_or-zeros, object_part}
 use Rattle.lfs_cleaner.specs.log.memory.declared.changes.Changes.{Changes}
 use Rattle.lfs_cleaner.specs.log.memory.Batch.{staged}
-use Rattle.lfs_cleaner.specs.log.memory.Memory.{IsLog}
-use Rattle.lfs_cleaner.specs.log.memory.declared.memory.LogMemory.{LogMemory}
 use Rattle.lfs_cleaner.specs.log.memory.Present.{BlockAnswer}
-use Rattle.lfs_cleaner.proofs.of_log.of_memory.Looses.{loose, tight_again}
-use Rattle.lfs_cleaner.proofs.of_log.of_memory.Presents.{looks_then, still_log}
-use Rattle.lfs_cleaner.specs.log.Held.{Held, Holds, Reads, IsReadFault}
+use Rattle.lfs_cleaner.specs.log.Held.{Held, Holds, Reads}
+use Rattle.lfs_store.proofs.LogReads.{held_still, reads_more}
 use Rattle.lfs_store.specs.Reading.{ReadsBlock, ReadsPart, Appends}
 
 -- ---- a byte of a block
@@ -42,33 +39,6 @@ at_place m n at j low =
 
 -- ---- calls that only read, one after the other
 module _ {D : Type 0} (state : D → DeviceState) where
-  pub still_held : (a b : Held D) (k : CheckpointValue) (m0 m : LogMap) → Reads state a b → Holds state a k m0 m → Holds state b k m0 m
-  still_held a b k m0 m reads is = record {
-    log = subst (λ (v : LogMemory). IsLog (state b.device) v k m0 m) (sym reads.memory)
-        (let s = still_log (state a.device) (state b.device) a.memory k m0 m reads.looks (loose (state a.device) a.memory k m0 m is.log) in
-        tight_again (state b.device) a.memory k m0 m s is.log.tight);
-    number = is.number ∙ sym reads.number;
-    version = is.version ∙ sym reads.version;
-    running = reads.halted ∙ is.running;
-  }
-
-  pub reads_then : (a b c : Held D) → IsLawful (state a.device) → Reads state a b → Reads state b c → Reads state a c
-  reads_then a b c lawful one two = record {
-    looks = looks_then (state a.device) (state b.device) (state c.device) lawful one.looks two.looks;
-    memory = two.memory ∙ one.memory;
-    number = two.number ∙ one.number;
-    version = two.version ∙ one.version;
-    upgraded = two.upgraded ∙ one.upgraded;
-    halted = two.halted ∙ one.halted;
-    totals = two.totals ∙ one.totals;
-  }
-
-  pub fault_then : (a b c : Held D) → Reads state a b → IsReadFault state b c → IsReadFault state a c
-  fault_then a b c one failed k m0 m keeps is =
-      let rose = failed k m0 m keeps (still_held a b k m0 m one is) in
-      let before = one.looks.carries.failures in
-      omega (arith, rose, before)
-
   -- ---- one piece
   pub appends : (h h' : Held D) (c : Changes) (n at len : ℕ) (old new sector : List ℕ) (found : Bool) → at % 512 + len ≤ 512
       → length sector ≡ 512 → new ≡ old ++ take (at % 512 + len - at % 512) (drop (at % 512) sector)
@@ -106,7 +76,7 @@ module _ {D : Type 0} (state : D → DeviceState) where
       → ReadUpTo h a c n from at old → Reads state a b → Appends state a b c n at len old new
       → ReadUpTo h b c n from (at + len) new
   read_more h a b c n from at len old new lawful was reads more = record {
-    reads = reads_then h a b lawful was.reads reads;
+    reads = reads_more state h a b lawful was.reads reads;
     long = let l = was.long in let m = more.long in omega (arith, l, m);
     bytes_are = each;
   }
@@ -120,7 +90,7 @@ module _ {D : Type 0} (state : D → DeviceState) where
           let w = was.long in
           let i : length old + (j - length old) ≡ j = omega (arith, behind) in
           let p : at + (j - length old) ≡ from + j = omega (arith, behind, w) in
-          ap (slice_index new) (sym i) ∙ more.more k m0 m keeps (still_held h a k m0 m was.reads is) (j - length old)
+          ap (slice_index new) (sym i) ∙ more.more k m0 m keeps (held_still state h a k m0 m was.reads is) (j - length old)
           (omega (arith, behind, low, l)) ∙ ap (byte_in (staged c m) n) p)
           (cases_lt j (length old))
 

@@ -212,6 +212,7 @@ module _ {D : Type 0} (state : D → DeviceState) where
   pub kept_read : (h a : Held D) → Reads state h a → IsKept state h a
   kept_read h a reads = record {
     alters = alters_read h a reads;
+    saved = reads.saved;
     untaken = untaken_read h a reads;
     holds = λ k m0 m keeps is. held_still state h a k m0 m reads is;
   }
@@ -220,6 +221,7 @@ module _ {D : Type 0} (state : D → DeviceState) where
   kept_more h a h' lawful reads kept =
       record {
         alters = alters_more h a h' lawful reads kept.alters;
+        saved = kept.saved ∙ reads.saved;
         untaken = λ before. kept.untaken (untaken_read h a reads before);
         holds = λ k m0 m keeps is. kept.holds k m0 m keeps (held_still state h a k m0 m reads is);
       }
@@ -229,6 +231,8 @@ module _ {D : Type 0} (state : D → DeviceState) where
   removed_more h a h' n lawful reads gone =
       record {
         alters = alters_more h a h' lawful reads gone.alters;
+        unsaved = λ off. gone.unsaved (reads.saved ∙ off);
+        nameless = λ k m0 m keeps is off. gone.nameless k m0 m keeps (held_still state h a k m0 m reads is) off ∙ reads.saved;
         untaken = λ before. gone.untaken (untaken_read h a reads before);
         holds = λ k m0 m keeps is. gone.holds k m0 m keeps (held_still state h a k m0 m reads is);
       }

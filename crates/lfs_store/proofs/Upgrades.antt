@@ -1,5 +1,5 @@
 -- A draft that raises the version of the layout, and the totals behind it.
-use Rattle.std.proofs.Common.{◌≡◌, ◌+◌, ℕ, true, List, [], length, Option, Some, None, refl, sym, ◌∙◌, ap, subst}
+use Rattle.std.proofs.Common.{◌≡◌, ◌+◌, ℕ, true, List, length, Some, None, refl, sym, ◌∙◌, ap, subst}
 use Rattle.std.proofs.Math.Path.{fun_ext}
 use Rattle.lfs_model.specs.Need.{pointers}
 use Rattle.lfs_model.specs.Objects.{stored_below}
@@ -8,8 +8,7 @@ use Rattle.lfs_model.specs.Stands.{LogMap}
 use Rattle.lfs_model.specs.Totals.{data_in, meta_in, sum_upto}
 use Rattle.lfs_cleaner.specs.log.memory.declared.changes.Changes.{Changes}
 use Rattle.lfs_cleaner.specs.log.memory.declared.batch.Loss.TheVariants.{FirstVersion}
-use Rattle.lfs_cleaner.specs.log.memory.Batch.{IsNoChange, staged}
-use Rattle.lfs_cleaner.specs.log.verify.declared.totals.BlockTotals.{BlockTotals}
+use Rattle.lfs_cleaner.specs.log.memory.Batch.{IsNoChange}
 use Rattle.lfs_store.specs.Drafting.{LosesOnly}
 use Rattle.lfs_store.specs.Making.{DraftsUpgrade}
 use Rattle.lfs_store.specs.Recounting.{AreTotals, CountsUpgraded}

@@ -1,5 +1,5 @@
 -- A store over its log: what it holds from a mount on, as drafts are staged and commits save them.
-use Rattle.std.specs.Prelude.{◌≡◌, ◌⊎◌, ◌<◌, ◌≤◌, ◌+◌, ◌-◌, ◌/◌, ◌^◌, ℕ, Bool, true, false, cond, min, length}
+use Rattle.std.specs.Prelude.{◌≡◌, ◌⊎◌, ◌<◌, ◌≤◌, ◌+◌, ◌-◌, ◌/◌, ◌^◌, ℕ, Bool, true, false, cond, length}
 use Rattle.lfs_model.specs.declared.limits.TheConstants.{MOST_UNSAVED}
 use Rattle.lfs_model.specs.Checkpoint.{CheckpointValue}
 use Rattle.lfs_model.specs.Crash.{StandsOn}
@@ -14,9 +14,10 @@ use Rattle.lfs_cleaner.specs.log.memory.declared.changes.Changes.{Changes}
 use Rattle.lfs_cleaner.specs.log.memory.Batch.{room_for, staged, FitsBatch}
 use Rattle.lfs_cleaner.specs.log.memory.Removing.{without_file}
 use Rattle.lfs_cleaner.specs.log.segments.Table.{clean_in}
-use Rattle.lfs_cleaner.specs.log.Held.{Held, Holds, IsSaved, waiting_in}
+use Rattle.lfs_cleaner.specs.log.Held.{Held, Holds, IsSaved}
 use Rattle.lfs_model.specs.Totals.{IsCounted}
-use Rattle.lfs_cleaner.specs.Room.{IsAtRest, IsWithin, KeepsMap}
+use Rattle.lfs_cleaner.specs.log.Thresholds.{HasReserve}
+use Rattle.lfs_cleaner.specs.Room.{Acknowledges, IsAtRest, IsWithin, KeepsMap, StaysUnsaved}
 
 -- A mount's refusal that isn't of memory. Where the content stands for a log map it is Device, and a call of the device failed.
 abbrev pub IsMountRefusal : DeviceState → DeviceState → MountFault → Type 0
@@ -25,7 +26,7 @@ IsMountRefusal d d' =
 
 -- enough segments are clean for a commit
 abbrev pub HasClean : {D : Type 0} → Held D → Type 0
-HasClean h = length h.memory.usage.segments / 8 + 8 ≤ clean_in h.memory.usage.segments
+HasClean h = HasReserve h.memory.usage
 
 -- enough are clean for two: one leaves what the next asks for
 abbrev pub HasCleanForTwo : {D : Type 0} → Held D → Type 0
@@ -38,15 +39,7 @@ HasRoomFor h c = (h.halted ≡ false) × (length h.memory.dirty.blocks + room_fo
 -- how many checkpoints are written at most as room is made: one where anything isn't saved, and one for each pass of the cleaner
 abbrev pub most_written : {D : Type 0} → Held D → Bool → ℕ
 most_written h saved =
-    length h.memory.usage.segments / 8 + cond saved (min 1 (waiting_in h)) 1
-
--- What isn't saved stays so: no checkpoint was written, memory has no more blocks and takes as many, and enough segments are clean where
--- enough were.
-pub record StaysUnsaved {D : Type 0} (h h' : Held D) : Type 0 where
-  pub number : h'.number ≡ h.number
-  pub fewer : length h'.memory.dirty.blocks ≤ length h.memory.dirty.blocks
-  pub capacity : h'.memory.dirty.capacity ≡ h.memory.dirty.capacity
-  pub clean : HasClean h → HasClean h'
+    length h.memory.usage.segments / 8 + cond saved 0 1
 
 -- At most so many checkpoints are written, and where there was room for what isn't saved there still is.
 pub record SavesFew {D : Type 0} (h : Held D) (saved : Bool) (h' : Held D) (saved' : Bool) : Type 0 where
@@ -97,17 +90,11 @@ module _ {D : Type 0} (state : D → DeviceState) where
     pub same : checkpoint.segments ≡ segments
     pub stores : Stores h saved checkpoint acknowledged m'
 
-  -- the log map, without its files of no links, is acknowledged then
-  abbrev pub Acknowledges : Held D → Held D → Type 0
-  Acknowledges h h' = (k : CheckpointValue) (m0 m : LogMap) → (state h'.device).keeps_model
-      → Holds state h k m0 m → IsLogMap (dropped m)
-      → (next : CheckpointValue) × Holds state h' next (dropped m) m
-
   -- Room is made by early writes, by a commit and by passes of the cleaner, or nothing is done. What isn't saved after it wasn't before.
   pub record MakesRoom (h : Held D) (saved : Bool) (h' : Held D) (saved' : Bool) : Type 0 where
     pub keeps : KeepsMap state h h' (most_written h saved)
     pub unsaved : saved' ≡ false → (saved ≡ false) × StaysUnsaved h h'
-    pub all : saved' ≡ true → (saved ≡ true) ⊎ Acknowledges h h'
+    pub all : saved' ≡ true → (saved ≡ true) ⊎ Acknowledges state h h'
     pub rest : saved' ≡ true → (saved ≡ true → IsAtRest h) → IsAtRest h'
 
   -- Where room can be made: the need of log map m is within the volume, enough segments are clean for a commit where anything isn't

@@ -47,7 +47,7 @@ module _ {D : Type 0} (state : D → DeviceState) where
   pub record ReadsStore (old new : Store D) : Type 0 where
     pub log : Reads state old.log new.log
     pub draft : new.draft ≡ old.draft
-    pub saved : new.saved ≡ old.saved
+    pub saved : new.log.saved ≡ old.log.saved
     pub drafted : new.drafted ≡ old.drafted
 
   abbrev pub ReadsHeader : Held D → Held D → Changes → ℕ → Option Header → Type 0

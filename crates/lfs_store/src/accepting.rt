@@ -27,6 +27,7 @@ const MOST_BLOCKS: usize = 256;
 impl<D: SectorDevice> Store<D> {
     ghost use Rattle.lfs_cleaner.specs.log.Held.{AreAllSaved, Halts, IsFull, WritesEarly};
     ghost use Rattle.lfs_cleaner.specs.log.Saving.{commit_orders, orders_for};
+    ghost use Rattle.lfs_cleaner.specs.log.Thresholds.{LacksReserve};
     ghost use Rattle.lfs_cleaner.specs.Room.{CleansOnce, HasQuarter, once_orders, passes_orders, room_orders};
     ghost use Rattle.lfs_store.specs.Recounting.{MountsTotals};
     ghost use Rattle.lfs_store.specs.Accepting.{MountsStore, Readies, HasClean, HasCleanForTwo, HasRoomFor};
@@ -43,11 +44,11 @@ impl<D: SectorDevice> Store<D> {
     /// device holds no log map: it is too small, holds no checkpoint, or the first stage that fails
     /// is named, one of the stages 1 to 9, or 15 where too few segments are clean.
     pub fn open(alloc: Global, device: D) -> Result<Store<D>, (MountFault, D)>
-        ensures stores { IfOk result (λ s. MountsStore D.SectorDevice.state device s.log s.saved) }
+        ensures stores { IfOk result (λ s. MountsStore D.SectorDevice.state device s.log s.log.saved) }
         ensures counts { IfOk result (λ s. MountsTotals D.SectorDevice.state device s.log
             s.log.totals) }
         ensures drafted { IfOk result (λ s. s.drafted ≡ s.log.totals) }
-        ensures saved { IfOk result (λ s. s.saved ≡ true) }
+        ensures saved { IfOk result (λ s. s.log.saved ≡ true) }
         ensures draft { IfOk result (λ s. IsNoChange s.draft.changes) }
         ensures durable { IfOk result (λ s. (D.state s.log.device).keeps_model
             → Only (D.state device).content (D.state s.log.device)) }
@@ -75,7 +76,6 @@ impl<D: SectorDevice> Store<D> {
         Ok(Store {
             log,
             draft,
-            saved: true,
             drafted,
         })
     }
@@ -96,11 +96,11 @@ impl<D: SectorDevice> Store<D> {
             → HasTables (D.state device).content tables }
         requires durable { (D.state device).keeps_model
             → Only (D.state device).content (D.state device) }
-        ensures stores { IfOk result (λ s. MountsStore D.SectorDevice.state device s.log s.saved) }
+        ensures stores { IfOk result (λ s. MountsStore D.SectorDevice.state device s.log s.log.saved) }
         ensures counts { IfOk result (λ s. MountsTotals D.SectorDevice.state device s.log
             s.log.totals) }
         ensures drafted { IfOk result (λ s. s.drafted ≡ s.log.totals) }
-        ensures saved { IfOk result (λ s. s.saved ≡ true) }
+        ensures saved { IfOk result (λ s. s.log.saved ≡ true) }
         ensures draft { IfOk result (λ s. IsNoChange s.draft.changes) }
         ensures refused { IfErr result (λ e. e.0 ≡ MountFault.NoMemory) }
         ensures same { MatchResult result (λ s. s.log.device ≡ device) (λ e. e.1 ≡ device) }
@@ -116,7 +116,6 @@ impl<D: SectorDevice> Store<D> {
         Ok(Store {
             log,
             draft,
-            saved: true,
             drafted,
         })
     }
@@ -140,11 +139,10 @@ impl<D: SectorDevice> Store<D> {
         if self.log.is_halted() {
             return Err(LogFault::Halted);
         }
-        if self.saved {
+        if self.log.is_saved() {
             return Ok(());
         }
         self.log.commit()?;
-        self.saved = true;
         Ok(())
     }
 
@@ -182,20 +180,13 @@ impl<D: SectorDevice> Store<D> {
         ensures told { length (D.state self.new.log.device).told
             ≤ length (D.state self.old.log.device).told
             + room_orders (length self.old.log.memory.usage.segments) }
-        ensures passes { self.old.saved ≡ true → AreAllSaved self.old.log
+        ensures passes { self.old.log.saved ≡ true
             → length (D.state self.new.log.device).told
             ≤ length (D.state self.old.log.device).told
             + passes_orders (length self.old.log.memory.usage.segments) }
-        ensures unsaved { (IsErrOf result LogFault.Halted → ⊥) → self.new.saved ≡ false
+        ensures unsaved { (IsErrOf result LogFault.Halted → ⊥) → self.new.log.saved ≡ false
             → self.new.log ≡ self.old.log }
     {
-        if self.log.is_halted() {
-            return Err(LogFault::Halted);
-        }
-        if has_quarter(&self.log) {
-            return Ok(());
-        }
-        self.commit()?;
         make_room(&mut self.log)
     }
 
@@ -212,35 +203,18 @@ impl<D: SectorDevice> Store<D> {
             ≤ length (D.state self.old.log.device).told
             + once_orders (length self.old.log.memory.usage.segments) }
     {
-        if self.log.is_halted() {
-            return Err(LogFault::Halted);
-        }
-        if !self.is_cleaning_due() {
-            return Ok(());
-        }
-        self.commit()?;
         clean_once(&mut self.log)
-    }
-
-    /// Whether so few segments are clean that a commit might find too few.
-    fn lacks_segments(&self) -> bool
-        ensures few { IsTrue result → IsFull self.now.log }
-        ensures lacks { IsTrue result → clean_in self.now.log.memory.usage.segments
-            < length self.now.log.memory.usage.segments / 8 + 8 }
-        ensures enough { IsFalse result → HasClean self.now.log }
-    {
-        self.log.clean_segments() < self.log.segments() / 8 + 8
     }
 
     /// Writes full chunks of what isn't saved to segments that are clean, while more of them are
     /// than a commit asks for.
     fn write_early(&mut self) -> Result<(), LogFault>
         requires { self.old.log.halted ≡ false }
-        ensures done { OnOk result (Readies D.SectorDevice.state self.old.log self.old.saved
-            self.new.log self.new.saved) }
+        ensures done { OnOk result (Readies D.SectorDevice.state self.old.log self.old.log.saved
+            self.new.log self.new.log.saved) }
         ensures early { OnOk result (WritesEarly D.SectorDevice.state self.old.log self.new.log) }
-        ensures quiet { self.old.saved ≡ true → self.new.log ≡ self.old.log }
-        ensures same { self.new.saved ≡ self.old.saved }
+        ensures quiet { self.old.log.saved ≡ true → self.new.log ≡ self.old.log }
+        ensures same { OnOk result (self.new.log.saved ≡ self.old.log.saved) }
         ensures keeps { KeepsDraft self.old self.new }
         ensures halted { IsErrOf result LogFault.Halted →
             Halts D.SectorDevice.state self.old.log self.new.log }
@@ -250,7 +224,7 @@ impl<D: SectorDevice> Store<D> {
             ≤ length (D.state self.old.log.device).told
             + orders_for (length self.old.log.memory.dirty.blocks) }
     {
-        if self.saved {
+        if self.log.is_saved() {
             return Ok(());
         }
         self.log.write_early()
@@ -261,9 +235,9 @@ impl<D: SectorDevice> Store<D> {
     fn find_room(&mut self) -> Result<(), LogFault>
         requires { self.old.log.halted ≡ false }
         ensures makes { RoomMade D.SectorDevice.state self.old self.new result }
-        ensures ready { OnOk result (Readies D.SectorDevice.state self.old.log self.old.saved
-            self.new.log self.new.saved) }
-        ensures room { OnOk result (self.new.saved ≡ false →
+        ensures ready { OnOk result (Readies D.SectorDevice.state self.old.log self.old.log.saved
+            self.new.log self.new.log.saved) }
+        ensures room { OnOk result (self.new.log.saved ≡ false →
             length self.new.log.memory.dirty.blocks + room_for self.new.draft.changes
             ≤ self.new.log.memory.dirty.capacity.limit) }
         ensures quiet { HasRoomFor self.old.log self.old.draft.changes
@@ -271,7 +245,7 @@ impl<D: SectorDevice> Store<D> {
         ensures lacks { IsErrOf result LogFault.Full → IsFull self.new.log }
         ensures other { IsErrOf result LogFault.Device → ⊥ }
         ensures once { OnOk result ((self.new.log ≡ self.old.log) ⊎ (HasClean self.new.log
-            ⊎ ((self.new.saved ≡ true) × AreAllSaved self.new.log))) }
+            ⊎ ((self.new.log.saved ≡ true) × AreAllSaved self.new.log))) }
         ensures clean { OnOk result (clean_in self.old.log.memory.usage.segments
             ≤ clean_in self.new.log.memory.usage.segments + 8) }
         ensures told { length (D.state self.new.log.device).told
@@ -292,12 +266,11 @@ impl<D: SectorDevice> Store<D> {
     fn check_segments(&self) -> Result<(), LogFault>
         ensures enough { OnOk result (HasClean self.now.log) }
         ensures full { IsErrOf result LogFault.Full → IsFull self.now.log }
-        ensures lacks { IsErrOf result LogFault.Full → clean_in self.now.log.memory.usage.segments
-            < length self.now.log.memory.usage.segments / 8 + 8 }
+        ensures lacks { IsErrOf result LogFault.Full → LacksReserve self.now.log.memory.usage }
         ensures device { IsErrOf result LogFault.Device → ⊥ }
         ensures halted { IsErrOf result LogFault.Halted → ⊥ }
     {
-        if self.lacks_segments() {
+        if !self.log.may_commit() {
             return Err(LogFault::Full);
         }
         Ok(())
@@ -312,7 +285,7 @@ impl<D: SectorDevice> Store<D> {
         ensures told { length (D.state self.new.log.device).told
             ≤ length (D.state self.old.log.device).told
             + room_orders (length self.old.log.memory.usage.segments) }
-        ensures passes { self.old.saved ≡ true → AreAllSaved self.old.log
+        ensures passes { self.old.log.saved ≡ true
             → length (D.state self.new.log.device).told
             ≤ length (D.state self.old.log.device).told
             + passes_orders (length self.old.log.memory.usage.segments) }
@@ -332,7 +305,7 @@ impl<D: SectorDevice> Store<D> {
         requires { self.old.log.halted ≡ false }
         ensures makes { RoomMade D.SectorDevice.state self.old self.new result }
         ensures enough { OnOk result (HasClean self.new.log) }
-        ensures room { OnOk result (self.new.saved ≡ false →
+        ensures room { OnOk result (self.new.log.saved ≡ false →
             length self.new.log.memory.dirty.blocks + room_for self.new.draft.changes
             ≤ self.new.log.memory.dirty.capacity.limit) }
         ensures quiet { HasRoomFor self.old.log self.old.draft.changes → HasClean self.old.log
@@ -346,7 +319,7 @@ impl<D: SectorDevice> Store<D> {
             ≤ length (D.state self.old.log.device).told + commit_orders }
     {
         self.find_room()?;
-        if !self.lacks_segments() {
+        if self.log.may_commit() {
             return Ok(());
         }
         self.find_segments()
@@ -354,7 +327,7 @@ impl<D: SectorDevice> Store<D> {
 
     /// Stages the draft, and leaves it as it is.
     fn stage_draft(&mut self) -> Result<(), StoreFault>
-        ensures accepts { Accepted D.SectorDevice.state self.old self.new.log self.new.saved
+        ensures accepts { Accepted D.SectorDevice.state self.old self.new.log self.new.log.saved
             result }
         ensures drafted { self.new.drafted ≡ self.old.drafted }
     {
@@ -366,8 +339,6 @@ impl<D: SectorDevice> Store<D> {
             Err(fault) => return Err(StoreFault::Log(fault)),
         }
         let staged = self.log.stage(&self.draft.changes, self.drafted);
-        // A stage that fails may have brought blocks into memory, which a commit clears.
-        self.saved = false;
         match staged {
             Ok(()) => Ok(()),
             // Enough segments are clean: it is memory that has no room.
@@ -388,7 +359,7 @@ impl<D: SectorDevice> Store<D> {
     /// where a call of the device failed. `Halted` once a write of the log failed, in this call or
     /// before.
     pub fn accept(&mut self) -> Result<(), StoreFault>
-        ensures accepts { Accepted D.SectorDevice.state self.old self.new.log self.new.saved
+        ensures accepts { Accepted D.SectorDevice.state self.old self.new.log self.new.log.saved
             result }
         ensures draft { IsNoChange self.new.draft.changes }
         ensures drafted { self.new.drafted ≡ self.new.log.totals }

@@ -2,7 +2,8 @@
 use crate::store::Store;
 use lfs_device::SectorDevice;
 use lfs_files::{Files, Header, LogFault, StoreFault};
-use lfs_model::FileNumber;
+use lfs_model::{FileNumber, Kind};
+use std::alloc::Global;
 
 impl<D: SectorDevice> Files for Store<D> {
     ghost use Rattle.lfs_store.specs.declared.draft.Draft.{Draft};
@@ -12,7 +13,7 @@ impl<D: SectorDevice> Files for Store<D> {
 
     ghost Draft = { Draft };
 
-    ghost state = { λ s. state_of D.SectorDevice.state s.log s.draft s.saved s.drafted };
+    ghost state = { λ s. state_of D.SectorDevice.state s.log s.draft s.log.saved s.drafted };
 
     fn header(&mut self, number: FileNumber) -> Result<Option<Header>, LogFault> {
         Store::header(self, number)
@@ -25,6 +26,37 @@ impl<D: SectorDevice> Files for Store<D> {
         out: &mut [u8; 512],
     ) -> Result<bool, LogFault> {
         Store::block(self, number, index, out)
+    }
+
+    fn read_at(
+        &mut self,
+        alloc: Global,
+        number: FileNumber,
+        from: u32,
+        to: u32,
+    ) -> Result<Vec<u8>, StoreFault> {
+        Store::read_at(self, alloc, number, from, to)
+    }
+
+    fn create(&mut self, number: FileNumber, kind: Kind, form: u8) -> Result<(), StoreFault> {
+        Store::create(self, number, kind, form)
+    }
+
+    fn create_link(&mut self, number: FileNumber, size: u32) -> Result<(), StoreFault> {
+        Store::create_link(self, number, size)
+    }
+
+    fn set_links(
+        &mut self,
+        number: FileNumber,
+        header: Header,
+        links: u32,
+    ) -> Result<(), StoreFault> {
+        Store::set_links(self, number, header, links)
+    }
+
+    fn remove(&mut self, number: FileNumber) -> Result<(), LogFault> {
+        Store::remove(self, number)
     }
 
     fn write_at(

@@ -230,11 +230,10 @@ impl<D: SectorDevice> Store<D> {
         requires empty { IsNoChange self.old.draft.changes }
         ensures done { OnOk result (IsRemoved D.SectorDevice.state self.old.log self.new.log
             number.value) }
-        ensures stores { OnOk result (Forgets D.SectorDevice.state self.old.log self.old.saved
+        ensures stores { OnOk result (Forgets D.SectorDevice.state self.old.log self.old.log.saved
             self.new.log number.value) }
         ensures kept { OnErr result (IsKept D.SectorDevice.state self.old.log self.new.log) }
         ensures draft { self.new.draft ≡ self.old.draft }
-        ensures saved { self.new.saved ≡ self.old.saved }
         ensures counted { OnOk result (CountsGone D.SectorDevice.state self.old.log self.new.log
             number.value self.old.log.totals self.new.log.totals) }
         ensures drafted { OnOk result (self.new.drafted ≡ self.new.log.totals) }

@@ -14,8 +14,6 @@ use lfs_model::limits::SECTOR_LEN;
 pub struct Store<D: SectorDevice> {
     pub log: Log<D>,
     pub draft: Draft,
-    /// Whether nothing changed since the acknowledged checkpoint.
-    pub saved: bool,
     /// The blocks of all files, with the draft.
     pub drafted: BlockTotals,
 }

@@ -1,5 +1,5 @@
 -- How often the tree's directories give a number, and which.
-use Rattle.std.specs.Prelude.{T, sum_by, unwrap_or}
+use Rattle.std.specs.Prelude.{T, unwrap_or}
 use Rattle.std.proofs.Common.{◌≡◌, ◌<◌, ◌≤◌, ⊎_elim, ◌+◌, cond, true, false, Bool, eqb, ℕ, zero, suc, List, [], ◌∷◌, Option, Some, None}
 use Rattle.std.proofs.Common.{refl, ◌∙◌, ap, arith}
 use Rattle.std.proofs.lemmas.Bool.{cases_eq}
@@ -9,63 +9,20 @@ use Rattle.std.specs.FinMap.{find, is_sorted}
 use Rattle.std.specs.Prelude.{◌==◌}
 use Rattle.std.proofs.lemmas.Bool.Decides.{nat_tests}
 use Rattle.lfs_model.specs.Stands.{LogMap}
-use Rattle.lfs_model.specs.Tree.{File, Names, Node, Tree, byte_cmp, names, names_of}
-use Rattle.lfs_model.specs.TreeOf.{node_of, nodes_from, tree_in, with_object}
+use Rattle.lfs_model.specs.Tree.{File, Names, Node, byte_cmp, names, names_of}
+use Rattle.lfs_model.specs.TreeOf.{node_of, tree_in}
 use Rattle.lfs_model.proofs.Sums.{T_right, find_after, find_first, weight-le-total}
+use Rattle.lfs_model.proofs.NodeSums.{tree_sum}
 use Rattle.lfs_tree.specs.Naming.{giving}
 use Rattle.lfs_tree.specs.Objects.{given_below, names_at, sum_below}
 use Rattle.lfs_tree.proofs.Named.{sum_more, sum_none}
 use Rattle.lfs_tree.proofs.ObjectNames.{AreHeaders, no_names, nobody}
 
--- ---- a sum over the nodes, by their numbers
-module _ (m : LogMap) (f : Node → ℕ) (w : ℕ → ℕ) where
-  abbrev weighs : Option Node → ℕ
-  weighs o = elim o [ None ↦ 0 | Some x ↦ f x ]
-
-  abbrev total : Tree → ℕ
-  total t = sum_by (λ e. f e.1) t
-
-  one_more : (n : ℕ) (o : Option Node) (t : Tree) → total (with_object n o t) ≡ weighs o + total t
-  one_more n None t = omega arith
-  one_more n (Some x) t = sum_by-cons (λ (e : ℕ × Node). f e.1) (n, x) t
-
-  module _ (each : (n : ℕ) → weighs (node_of m n (m.header n)) ≡ w n) where
-    first : (count a : ℕ) → total (nodes_from m (suc count) a) ≡ w a + total (nodes_from m count (a + 1))
-    unfolding nodes_from
-    first count a =
-        let own = each a in
-        let one = one_more a (node_of m a (m.header a)) (nodes_from m count (a + 1)) in
-        omega (arith, own, one)
-
-    none : (a : ℕ) → total (nodes_from m 0 a) ≡ 0
-    unfolding nodes_from
-    none a = refl
-
-    nodes_sum : (count b : ℕ) → total (nodes_from m count b) + sum_below w b ≡ sum_below w (b + count)
-    nodes_sum zero b =
-        let same : b ≡ b + 0 = omega arith in
-        let e = ap (sum_below w) same in
-        omega (arith, none b, e)
-    nodes_sum (suc count) b =
-        let rest = nodes_sum count (b + 1) in
-        let last : b + 1 + count ≡ b + suc count = omega arith in
-        let up = sum_more w b in
-        let end = ap (sum_below w) last in
-        omega (arith, rest, up, end, first count b)
-
-    pub tree_sum : w 0 ≡ 0 → total (tree_in m) ≡ sum_below w 4096
-    unfolding tree_in
-    tree_sum nobody =
-        let all = nodes_sum 4095 1 in
-        let start = sum_more w 0 in
-        let empty = sum_none w in
-        let one : 0 + 1 ≡ 1 = omega arith in
-        let e = ap (sum_below w) one in
-        let end : 1 + 4095 ≡ 4096 = omega arith in
-        let last = ap (sum_below w) end in
-        omega (arith, all, start, empty, nobody, e, last)
-
 -- ---- names
+sum_step : (f : ℕ → ℕ) (n : ℕ) → sum_below f (suc n) ≡ sum_below f n + f n
+unfolding sum_below
+sum_step f n = refl
+
 module _ (m : LogMap) (are : AreHeaders m) (n : ℕ) where
   given_each : (d : ℕ) (o : Option Node)
       → elim o [ None ↦ 0 | Some x ↦ giving (names_of x) n ] ≡ giving (names_of (unwrap_or o (File []))) n
@@ -75,8 +32,11 @@ module _ (m : LogMap) (are : AreHeaders m) (n : ℕ) where
   -- how often the tree gives a number
   pub names_given : names (tree_in m) n ≡ given_below m 4096 n
   names_given =
-      tree_sum m (λ x. giving (names_of x) n) (λ d. giving (names_at m d) n) (λ d. given_each d (node_of m d (m.header d)))
-      (ap (λ (ms : Names). giving ms n) (no_names m are 0 (nobody m are)))
+      let w = λ (d : ℕ). giving (names_at m d) n in
+      let start : sum_below w 1 ≡ 0 = sum_more w 0 ∙ (let none = sum_none w in
+      let own = ap (λ (ms : Names). giving ms n) (no_names m are 0 (nobody m are)) in omega (arith, none, own)) in
+      tree_sum m (λ x. giving (names_of x) n) w (λ d. given_each d (node_of m d (m.header d))) (λ d. sum_below w (suc d)) start
+      (λ d. sum_step w (suc d))
 
 -- what is given is found, and what is found is given
 pub given_found : (ms : Names) (n : ℕ) → T (is_sorted byte_cmp ms) → 0 < giving ms n → (name : List ℕ) × (find byte_cmp name ms ≡ Some n)

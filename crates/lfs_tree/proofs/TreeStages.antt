@@ -1,5 +1,5 @@
 -- The stages of a tree by number, and the room that it needs.
-use Rattle.std.proofs.Common.{◌≡◌, ◌≤◌, ◌+◌, ◌*◌, ◌%◌, ◌==◌, nat_le, true, false, Bool, ℕ, zero, suc, length, Option, Some, None, refl, sym}
+use Rattle.std.proofs.Common.{◌≡◌, ◌≤◌, ◌+◌, ◌*◌, ◌%◌, ◌==◌, nat_le, true, false, Bool, ℕ, suc, length, Option, Some, None, refl, sym}
 use Rattle.std.proofs.Common.{◌∙◌, ap, subst, arith}
 use Rattle.std.specs.Prelude.{sum_by}
 use Rattle.std.proofs.lemmas.Bool.{and_parts, eqb-true, ltb-true}
@@ -20,14 +20,13 @@ use Rattle.lfs_model.specs.Totals.{IsCounted, data_of_file, meta_of_file, sum_up
 use Rattle.lfs_model.specs.Tree.{Node, slot_len}
 use Rattle.lfs_model.specs.TreeOf.{AreFormed, IsTree, node_by, node_of, tree_in}
 use Rattle.lfs_model.proofs.Decodes
+use Rattle.lfs_model.proofs.NodeSums.{tree_sum}
 use Rattle.lfs_model.proofs.ObjectNeeds.{filter_none, object_costs}
 use Rattle.lfs_model.proofs.Standing.{headers_are}
 use Rattle.lfs_verify.specs.Codes.{HoldsBelow}
 use Rattle.lfs_verify.proofs.CodeSteps.{below_1, below_next, stage_1, stage_2, stage_3, stage_4, stage_5, stage_6, stage_7, stage_8}
 use Rattle.lfs_verify.proofs.CodeSteps.{stage_9}
 use Rattle.lfs_tree.specs.Checking.{IsTreeDamage, links_fail, reached_fail, room_fail, slots_fail, texts_fail}
-use Rattle.lfs_tree.specs.Objects.{sum_below}
-use Rattle.lfs_tree.proofs.TreeNames.{tree_sum}
 
 -- ---- stages by number
 below_10 : (v : View) → Stages v → HoldsBelow v 10
@@ -85,15 +84,6 @@ sum_upto_more : (f : ℕ → ℕ) (n : ℕ) → sum_upto f (suc n) ≡ sum_upto 
 unfolding sum_upto
 sum_upto_more f n = refl
 
-sums_same : (f g : ℕ → ℕ) → f 0 ≡ 0 → ((n : ℕ) → f (suc n) ≡ g (suc n)) → (n : ℕ) → sum_below f (suc n) ≡ sum_upto g n
-unfolding sum_below
-sums_same f g none same zero = let e = sum_upto_none g in omega (arith, e, none)
-sums_same f g none same (suc n) =
-    let rest = sums_same f g none same n in
-    let more = sum_upto_more g n in
-    let own = same n in
-    omega (arith, rest, more, own)
-
 -- ---- the need
 module _ (c : Content) (k : CheckpointValue) (m : LogMap) (sized : IsSized c) (st : HoldsAt c k m) (formed : AreFormed m) where
   map_is : IsLogMap m
@@ -142,31 +132,16 @@ module _ (c : Content) (k : CheckpointValue) (m : LogMap) (sized : IsSized c) (s
   meta_each n (Some h) at = (costs n h at).above
       ∙ sym (ap (λ (o : Option Header). elim o [ None ↦ 0 | Some h ↦ 1 + pointers (stored_blocks m n) ]) at)
 
-  nobody : m.header 0 ≡ None
-  nobody = by (m.header 0) refl
-    where
-      by : (o : Option Header) → m.header 0 ≡ o → o ≡ None
-      by None e = refl
-      by (Some h) e = absurd (map_is.none h e)
-
   sum_of : (f : Node → ℕ) (g : ℕ → ℕ) → ((n : ℕ) → elim (node_of m n (m.header n)) [ None ↦ 0 | Some x ↦ f x ] ≡ g n)
-      → sum_below (λ n. elim (node_of m n (m.header n)) [ None ↦ 0 | Some x ↦ f x ]) 4096 ≡ sum_upto g 4095
-  sum_of f g each =
-      sums_same (λ n. elim (node_of m n (m.header n)) [ None ↦ 0 | Some x ↦ f x ]) g
-      (ap (λ (o : Option Header). elim (node_of m 0 o) [ None ↦ 0 | Some x ↦ f x ]) nobody) (λ n. each (suc n)) 4095
-
-  total_of : (f : Node → ℕ)
-      → sum_by (λ (e : ℕ × Node). f e.1) (tree_in m) ≡ sum_below (λ n. elim (node_of m n (m.header n)) [ None ↦ 0 | Some x ↦ f x ]) 4096
-  total_of f =
-      tree_sum m f (λ n. elim (node_of m n (m.header n)) [ None ↦ 0 | Some x ↦ f x ]) (λ n. refl)
-      (ap (λ (o : Option Header). elim (node_of m 0 o) [ None ↦ 0 | Some x ↦ f x ]) nobody)
+      → sum_by (λ (e : ℕ × Node). f e.1) (tree_in m) ≡ sum_upto g 4095
+  sum_of f g each = tree_sum m f g each (sum_upto g) (sum_upto_none g) (sum_upto_more g)
 
   pub need_is : (blocks others : ℕ) → IsCounted m blocks others → need (tree_in m) ≡ blocks + 7 * others + 720
   need_is blocks others counted =
-      let data_is : data_blocks (tree_in m) ≡ sum_upto (data_of_file m) 4095 = total_of data_of
-      ∙ sum_of data_of (data_of_file m) (λ n. data_each n (m.header n) refl) in
-      let meta : meta_blocks (tree_in m) ≡ sum_upto (meta_of_file m) 4095 = total_of meta_of
-      ∙ sum_of meta_of (meta_of_file m) (λ n. meta_each n (m.header n) refl) in
+      let data_is : data_blocks (tree_in m) ≡ sum_upto (data_of_file m) 4095 =
+      sum_of data_of (data_of_file m) (λ n. data_each n (m.header n) refl) in
+      let meta : meta_blocks (tree_in m) ≡ sum_upto (meta_of_file m) 4095 =
+      sum_of meta_of (meta_of_file m) (λ n. meta_each n (m.header n) refl) in
       let stored = counted.stored in
       let above = counted.above in
       omega (arith, data_is, meta, stored, above)

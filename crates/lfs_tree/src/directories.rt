@@ -62,8 +62,8 @@ fn take_blocks<D: SectorDevice>(
             &block,
             header.form,
             count,
-            headers,
             directory,
+            headers,
             names,
             tables,
         ) {

@@ -8,7 +8,7 @@ pub mod headers;
 pub mod links;
 mod marks;
 pub mod reached;
-pub mod reading;
+mod reading;
 pub mod slot_stage;
 mod slots;
 pub mod tables;

@@ -46,7 +46,7 @@ fn read_sector<D: SectorDevice>(
 /// # Errors
 ///
 /// The fault where a call of the device failed, or the inode can't be read.
-pub fn read_inode<D: SectorDevice>(
+pub(crate) fn read_inode<D: SectorDevice>(
     device: &mut CachedDevice<D>,
     map: &InodeMap,
     number: u16,
@@ -72,7 +72,7 @@ pub fn read_inode<D: SectorDevice>(
 /// # Errors
 ///
 /// The fault where a call of the device failed, or a block can't be read.
-pub fn read_block<D: SectorDevice>(
+pub(crate) fn read_block<D: SectorDevice>(
     device: &mut CachedDevice<D>,
     inode: &[u8; 512],
     index: u32,

@@ -57,8 +57,8 @@ fn take_slot(
     alloc: Global,
     form: u8,
     slot: &[u8],
-    headers: &Headers,
     directory: FileNumber,
+    headers: &Headers,
     names: &mut BTreeSet<Vec<u8>>,
     tables: &mut NameTables,
 ) -> Result<bool, AllocError>
@@ -92,8 +92,8 @@ pub(crate) fn take_slots(
     block: &[u8; 512],
     form: u8,
     count: usize,
-    headers: &Headers,
     directory: FileNumber,
+    headers: &Headers,
     names: &mut BTreeSet<Vec<u8>>,
     tables: &mut NameTables,
 ) -> Result<bool, AllocError>
@@ -108,8 +108,8 @@ pub(crate) fn take_slots(
             alloc,
             form,
             nth_slot(block, form, place),
-            headers,
             directory,
+            headers,
             names,
             tables,
         )? {

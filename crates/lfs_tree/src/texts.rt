@@ -2,8 +2,7 @@
 ghost use Rattle.std.specs.Prelude.{◌≡◌, ◌≢◌, ◌<◌, ◌≤◌, ◌↔◌, ℕ, slice_index, Some, IfOk, OnErr, IsTrue};
 ghost use Rattle.lfs_model.specs.Content.{block};
 ghost use Rattle.lfs_model.specs.TreeOf.{AreTexts};
-ghost use Rattle.lfs_files.specs.Headers.{as_header};
-ghost use Rattle.lfs_tree.specs.Reading.{FailsToRead, OfHeaders, OfInode, OfLog};
+ghost use Rattle.lfs_tree.specs.Reading.{FailsToRead, OfHeaders, OfInode};
 ghost use Rattle.lfs_tree.specs.Texts.{Decides, HasNoZero, IsGoodText};
 ghost use Rattle.lfs_verify.specs.Keeping.{OnlyLooks};
 
@@ -60,31 +59,6 @@ fn check_bytes<D: SectorDevice>(
     Ok(true)
 }
 
-/// Whether the text of a link has no zero byte.
-///
-/// # Errors
-///
-/// The fault where a block can't be read.
-fn check_text<D: SectorDevice>(
-    device: &mut CachedDevice<D>,
-    map: &InodeMap,
-    number: FileNumber,
-    header: Header,
-) -> Result<bool, DeviceFault>
-    ensures holds { IfOk result (λ holds. OfLog (D.state device.old) (D.state device.new) map.now
-        (λ k m. Decides (HasNoZero m number.value header.size) holds)) }
-    ensures failed { OnErr result (OfLog (D.state device.old) (D.state device.new) map.now
-        (λ k m. m.header number.value ≡ Some (as_header header)
-        → FailsToRead (D.state device.old) (D.state device.new))) }
-    ensures keeps { OnlyLooks (D.state device.old) (D.state device.new) result }
-{
-    let mut inode = [0; 512];
-    if !read_inode(device, map, number.value, &mut inode)? {
-        return Err(DeviceFault);
-    }
-    check_bytes(device, &inode, header.size)
-}
-
 /// Whether it is the header of a link.
 fn is_link(header: Header) -> bool
     ensures { IsTrue result ↔ header.kind ≡ Kind.Link }
@@ -121,7 +95,11 @@ fn check_object<D: SectorDevice>(
     if !is_link(header) {
         return Ok(true);
     }
-    check_text(device, map, number, header)
+    let mut inode = [0; 512];
+    if !read_inode(device, map, number.value, &mut inode)? {
+        return Err(DeviceFault);
+    }
+    check_bytes(device, &inode, header.size)
 }
 
 /// Whether no link's text has a zero byte: false where the stage fails.

@@ -4,8 +4,8 @@ use Rattle.lfs_model.specs.Checkpoint.{CheckpointValue}
 use Rattle.lfs_model.specs.Content.{Content}
 use Rattle.lfs_model.specs.Entry.{Inode}
 use Rattle.lfs_model.specs.Reach.{address, view}
-use Rattle.lfs_verify.specs.declared.files.FileStage.{FileStage}
-use Rattle.lfs_verify.specs.declared.files.FileStage.TheVariants as stage
+use Rattle.lfs_verify.specs.declared.blocks.FileStage.{FileStage}
+use Rattle.lfs_verify.specs.declared.blocks.FileStage.TheVariants as stage
 use Rattle.lfs_verify.specs.FileStages.{file_step}
 use Rattle.lfs_verify.specs.Walk.{Walked}
 use Rattle.lfs_verify.proofs.BlockSteps.{file_passed}

@@ -1,5 +1,5 @@
 -- What a row of steps of the walk keeps.
-use Rattle.std.proofs.Common.{◌≡◌, List, ℕ, length, Result, Ok, refl, ◌∙◌}
+use Rattle.std.proofs.Common.{◌≡◌, List, ℕ, length, Ok, refl, ◌∙◌}
 use Rattle.lfs_model.specs.Device.{DeviceState, IsLawful}
 use Rattle.lfs_verify.specs.Keeping.{Steps}
 use Rattle.lfs_verify.specs.Take.{Looks}

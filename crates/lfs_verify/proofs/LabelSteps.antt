@@ -1,18 +1,19 @@
 -- Labels of a row against the marks, one chunk at a time.
-use Rattle.std.proofs.Common.{◌≡◌, ◌<◌, ◌≤◌, ⊎_elim, ◌+◌, ◌-◌, ◌*◌, ℕ, zero, suc, List, [], ◌∷◌, length, get_or, drop, map, Option, Some}
-use Rattle.std.proofs.Common.{None, refl, sym, ◌∙◌, ap, subst, arith, zero-add, ◌⊎◌, ◌/◌, ◌%◌, inl, inr, pred, set, length-set}
+use Rattle.std.proofs.Common.{◌≡◌, ◌<◌, ◌≤◌, ⊎_elim, ◌+◌, ◌-◌, ◌*◌, ℕ, zero, suc, List, [], length, get_or, drop, map, Option, Some}
+use Rattle.std.proofs.Common.{None, refl, sym, ◌∙◌, ap, subst, arith, ◌⊎◌, ◌/◌, ◌%◌, inl, inr, pred, set, length-set}
 use Rattle.std.proofs.Common.{get_or-set_other, get_or-set_same}
 use Rattle.std.proofs.lemmas.Bool.{cases_eq, cases_lt}
-use Rattle.std.proofs.lemmas.List.{get_or-map, get_or_past, length-map}
+use Rattle.std.proofs.lemmas.List.{get_or-map, length-map}
 use Rattle.lfs_model.specs.declared.BlockKind.{BlockKind}
 use Rattle.lfs_model.specs.declared.BlockKind.TheVariants as kind
 use Rattle.lfs_model.specs.Checkpoint.{CheckpointValue}
 use Rattle.lfs_model.specs.Content.{Content, bytes_of, block}
 use Rattle.lfs_model.specs.Device.{Cell}
-use Rattle.lfs_model.specs.Entry.{Entry, entry_by, entry_of, entries_in}
-use Rattle.lfs_model.specs.Reach.{Row, after, opened, chunks, row_by, place_in, view, View}
+use Rattle.lfs_model.specs.Entry.{entry_by, entry_of, entries_in}
+use Rattle.lfs_model.specs.Reach.{Row, after, chunks, row_by, place_in, view, View}
 use Rattle.lfs_model.specs.Stands.{AreNamed}
 use Rattle.lfs_model.specs.Summary.{BlockNameValue, FitsSummary, IsPlaced, no_block, summary_in}
+use Rattle.lfs_model.proofs.RowPlaces as rows
 use Rattle.lfs_verify.specs.Labels.{IsNamedIn, HasStep, Agrees, HasLabels, HasAllLabels, PutsLabels}
 use Rattle.lfs_verify.specs.Rows.{HasRow, IsSummaryOf, part, from}
 use Rattle.lfs_verify.specs.Tables.{IsUsedTable}
@@ -32,48 +33,9 @@ bounds_of kind.Inode file index p = let x = p.0 in omega arith
 bounds_of kind.Map file index p = let x = p.1 in omega arith
 bounds_of kind.Usage file index p = let x = p.1 in omega arith
 
--- ---- places of a row
-after_first : (x : Option Row) → place_in (after None x) 0 ≡ None
-after_first None = refl
-after_first (Some row) = refl
-
-after_next : (e : Option Entry) (x : Option Row) (i : ℕ) → place_in (after e x) (suc i) ≡ place_in x i
-after_next e None i = refl
-after_next e (Some row) i = refl
-
-opened_first : (o : Option (List Entry)) (rest : List Entry → Option Row) → place_in (opened o rest) 0 ≡ None
-opened_first None rest = refl
-opened_first (Some es) rest = after_first (rest es)
-
-after_label : (e : Entry) (x : Option Row) → HasRow (after (Some e) x) → place_in (after (Some e) x) 0 ≡ Some e
-after_label e None h = let z = h.1 in absurd (cc)
-after_label e (Some row) h = refl
-
-rest_row : (e : Option Entry) (x : Option Row) → HasRow (after e x) → HasRow x
-rest_row e None h = let z = h.1 in absurd (cc)
-rest_row e (Some row) h = (row, refl)
-
--- the blocks of a chunk have its labels
-label_here : (es : List Entry) (ss : List Cell) (d : Entry) (i : ℕ) → HasRow (chunks es ss) → i < length es
-    → place_in (chunks es ss) i ≡ Some (get_or es i d)
-label_here [] ss d i h lt = absurd (omega arith)
-label_here (e ∷ es) [] d i h lt = let z = h.1 in absurd (cc)
-label_here (e ∷ es) (s ∷ ss) d zero h lt = after_label e (chunks es ss) h
-label_here (e ∷ es) (s ∷ ss) d (suc i) h lt = after_next (Some e) (chunks es ss) i
-    ∙ label_here es ss d i (rest_row (Some e) (chunks es ss) h) (omega arith)
-
-label_behind : (es : List Entry) (ss : List Cell) (j : ℕ) → length es ≤ length ss
-    → place_in (chunks es ss) (length es + j) ≡ place_in (chunks [] (drop (length es) ss)) j
-label_behind [] ss j le = ap (place_in (chunks [] ss)) (omega arith)
-label_behind (e ∷ es) [] j le = absurd (omega arith)
-label_behind (e ∷ es) (s ∷ ss) j le =
-    ap (place_in (after (Some e) (chunks es ss))) (omega arith) ∙ after_next (Some e) (chunks es ss) (length es + j)
-    ∙ label_behind es ss j (omega arith)
-
 -- Up to a place of a row that begins a chunk, what is marked has its label.
 pub record NamedTo (c : Content) (used segment : ℕ) (marks : List ℕ) (at : ℕ) : Type 0 where
-  pub rest : HasRow (from c used segment at)
-  pub places : (j : ℕ) → place_in (row_by c used segment) (at + j) ≡ place_in (from c used segment at) j
+  pub whole : rows.IsRowFrom (row_by c used segment) (from c used segment) at
   pub named : (o : ℕ) → o < at → IsNamedIn (row_by c used segment) marks segment o
 
 abbrev pub AllNamed : Content → ℕ → ℕ → List ℕ → Type 0
@@ -81,10 +43,8 @@ AllNamed c used segment marks = (o : ℕ) → o < 64 → IsNamedIn (row_by c use
 
 pub named_start : (c : Content) (used segment : ℕ) (marks : List ℕ) → HasRow (row_by c used segment) → NamedTo c used segment marks 0
 named_start c used segment marks h =
-    let e = from_start c used segment in
     record {
-      rest = subst HasRow (sym e) h;
-      places = λ j. ap (place_in (row_by c used segment)) (zero-add j) ∙ ap (λ (x : Option Row). place_in x j) (sym e);
+      whole = rows.row_start (row_by c used segment) (from c used segment) (from_start c used segment) h;
       named = λ o lt. absurd (omega arith);
     }
 
@@ -101,10 +61,8 @@ module _ (c : Content) (used segment at : ℕ) (marks : List ℕ) (long : 2 + 64
     (to : NamedTo c used segment marks at) where
   summary_place : place_in (row_by c used segment) at ≡ None
   summary_place =
-      let l = here c used segment at long lt in
-      ap (place_in (row_by c used segment)) (omega arith) ∙ to.places 0
-      ∙ ap (λ (x : Option Row). place_in x 0) (opens c used segment at long lt)
-      ∙ opened_first (entries_in (bytes_of l)) (λ es. chunks es (behind c used segment at long lt))
+      rows.summary_place (row_by c used segment) (from c used segment) at to.whole (entries_in (bytes_of (here c used segment at long lt)))
+      (λ es. chunks es (behind c used segment at long lt)) (opens c used segment at long lt)
 
   module _ (bytes : List ℕ) (there : block c (2 + 64 * segment + at) ≡ bytes) (bs : List BlockNameValue) (is : Some bs ≡ summary_in bytes)
       (room : at + length bs < used) where
@@ -114,22 +72,10 @@ module _ (c : Content) (used segment at : ℕ) (marks : List ℕ) (long : 2 + 64
     opened_row : from c used segment at ≡ after None (chunks (map entry_of bs) (behind c used segment at long lt))
     opened_row = opens_names c used segment at long lt (length bs) known
 
-    chunk_row : HasRow (chunks (map entry_of bs) (behind c used segment at long lt))
-    chunk_row = rest_row None (chunks (map entry_of bs) (behind c used segment at long lt)) (subst HasRow opened_row to.rest)
-
-    -- a sector behind the summary, by its place there
-    place_behind : (j : ℕ)
-        → place_in (row_by c used segment) (at + 1 + j) ≡ place_in (chunks (map entry_of bs) (behind c used segment at long lt)) j
-    place_behind j =
-        ap (place_in (row_by c used segment)) (omega arith) ∙ to.places (suc j)
-        ∙ ap (λ (x : Option Row). place_in x (suc j)) opened_row
-        ∙ after_next None (chunks (map entry_of bs) (behind c used segment at long lt)) j
-
     label_is : (i : ℕ) → i < length bs → place_in (row_by c used segment) (at + 1 + i) ≡ Some (entry_of (get_or bs i no_block))
     label_is i small =
-        place_behind i
-        ∙ label_here (map entry_of bs) (behind c used segment at long lt) (entry_of no_block) i chunk_row
-        (let x = length-map bs entry_of in omega arith)
+        rows.label_is (row_by c used segment) (from c used segment) at to.whole (map entry_of bs) (behind c used segment at long lt)
+        opened_row (entry_of no_block) i (let x = length-map bs entry_of in omega arith)
         ∙ ap Some (get_or-map entry_of bs i no_block (entry_of no_block) small)
 
     abbrev AreSteps : ℕ → Type 0
@@ -144,27 +90,22 @@ module _ (c : Content) (used segment at : ℕ) (marks : List ℕ) (long : 2 + 64
         let same : h.0 ≡ entry_of (get_or bs i no_block) = cc in
         sym (ap step_of same) ∙ h.2
 
-    behind_places : (next : ℕ) → next ≡ at + 1 + length bs → (j : ℕ)
-        → place_in (row_by c used segment) (next + j) ≡ place_in (from c used segment next) j
+    next_is : (next : ℕ) → next ≡ at + 1 + length bs
+        → from c used segment next ≡ chunks [] (drop (length (map entry_of bs)) (behind c used segment at long lt))
     unfolding from
-    behind_places next is_next j =
-        let ss = behind c used segment at long lt in
-        let l = length-map bs entry_of in
-        let e : next + j ≡ at + 1 + (length (map entry_of bs) + j) = omega arith in
-        ap (place_in (row_by c used segment)) e ∙ place_behind (length (map entry_of bs) + j)
-        ∙ label_behind (map entry_of bs) (behind c used segment at long lt) j
-        (enough_behind c used segment at long lt (length bs) known room)
-        ∙ ap (λ (x : List Cell). place_in (chunks [] x) j) (rest_is c used segment at long lt (length bs) known)
-        ∙ ap (λ (x : ℕ). place_in (chunks [] (drop x (part c used segment))) j) (sym is_next)
+    next_is next is_next =
+        ap (λ (x : ℕ). chunks [] (drop x (part c used segment))) is_next
+        ∙ ap (λ (x : List Cell). chunks [] x) (sym (rest_is c used segment at long lt (length bs) known))
 
     -- one chunk more is named
     pub chunk_taken : FitsSummary bs → get_or marks (2 + 64 * segment + at) 0 ≡ 0 → (first next : ℕ) → first ≡ 2 + 64 * segment + at + 1
         → next ≡ at + 1 + length bs → AreSteps first
         → NamedTo c used segment marks next
     chunk_taken fits clear first next is_first is_next steps = record {
-      rest = subst (λ (x : ℕ). HasRow (from c used segment x)) (sym is_next)
-          ((next_chunk c used segment at long lt (length bs) known room).0 to.rest);
-      places = behind_places next is_next;
+      whole = rows.row_next (row_by c used segment) (from c used segment) at to.whole (map entry_of bs) (behind c used segment at long lt)
+          opened_row next (let l = length-map bs entry_of in omega arith) (enough_behind c used segment at long lt (length bs) known room)
+          (next_is next is_next) (subst (λ (x : ℕ). HasRow (from c used segment x)) (sym is_next)
+          ((next_chunk c used segment at long lt (length bs) known room).0 to.whole.rest));
       named = λ o small. ⊎_elim
           (λ (before : o < at). to.named o before)
           (λ (later : at ≤ o). ⊎_elim
@@ -187,9 +128,6 @@ module _ (c : Content) (used segment at : ℕ) (marks : List ℕ) (long : 2 + 64
     }
 
 -- ---- the end of a row
-past_end : (x : Option Row) (j : ℕ) → x ≡ Some [] → place_in x j ≡ None
-past_end x j is = ap (λ (y : Option Row). place_in y j) is ∙ get_or_past [] j None (omega arith)
-
 module _ (c : Content) (used segment : ℕ) (marks : List ℕ) (long : 2 + 64 * segment + used ≤ length c) (few : used ≤ 64)
     (to : NamedTo c used segment marks used) where
   abbrev AreClear : ℕ → ℕ → Type 0
@@ -206,9 +144,8 @@ module _ (c : Content) (used segment : ℕ) (marks : List ℕ) (long : 2 + 64 * 
   all_clear a b is_a is_b all i le lt =
       let o = i - (2 + 64 * segment) in
       let e : i ≡ 2 + 64 * segment + (i - (2 + 64 * segment)) = omega arith in
-      let s : i - (2 + 64 * segment) ≡ used + (i - (2 + 64 * segment) - used) = omega arith in
-      let none = ap (place_in (row_by c used segment)) s ∙ to.places (i - (2 + 64 * segment) - used)
-      ∙ past_end (from c used segment used) (i - (2 + 64 * segment) - used) (end_is c used segment long) in
+      let none = rows.row_end (row_by c used segment) (from c used segment) used (end_is c used segment long) to.whole
+      (i - (2 + 64 * segment)) (omega arith) in
       unlabelled (row_by c used segment) marks segment (i - (2 + 64 * segment)) (get_or marks i 0)
       (ap (λ (x : ℕ). get_or marks x 0) (sym e)) none (all (i - (2 + 64 * segment)) (omega arith))
 
@@ -234,7 +171,7 @@ labelled_start c used segment labels h =
 -- a place of a row is one of any marks
 named_as : (c : Content) (used segment : ℕ) (old new : List ℕ) (at : ℕ) → NamedTo c used segment old at
     → ((o : ℕ) → o < at → IsNamedIn (row_by c used segment) new segment o) → NamedTo c used segment new at
-named_as c used segment old new at to named = record { rest = to.rest; places = to.places; named = named }
+named_as c used segment old new at to named = record { whole = to.whole; named = named }
 
 -- a mark that has the step of a label is the one that the label gives
 step_label : (mark label step : ℕ) → label ≡ suc step → ((p : ℕ) → mark ≡ suc p → step ≡ p) → (mark ≡ 0) ⊎ (mark ≡ label)

@@ -13,7 +13,7 @@ use Rattle.lfs_model.specs.Running.{IsSet}
 use Rattle.lfs_model.specs.Stands.{LogMap, HoldsAt}
 use Rattle.lfs_model.proofs.Encodes.{word_nil}
 use Rattle.lfs_model.proofs.Words.{pointers_are}
-use Rattle.lfs_inodes.specs.MapValue.{MapValue, IsEmptyMap, IsLoaded, address_in, block_in}
+use Rattle.lfs_inodes.specs.MapValue.{MapValue, IsLoaded, address_in, block_in}
 use Rattle.lfs_verify.specs.Take.{Looks}
 use Rattle.lfs_verify.specs.Faults.{LacksBlock, LacksTables}
 use Rattle.lfs_verify.specs.Loading.{IsMapUpTo, SaysMap}

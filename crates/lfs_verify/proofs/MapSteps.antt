@@ -73,13 +73,14 @@ module _ (c : Content) (k : CheckpointValue) (j : ℕ) (low : j < 32) (p : ℕ) 
   there = (subst SomeWord (ap (block c) map_at), subst SomeWord (sym (ap (block c) map_at)))
 
   -- a block that can't be taken
-  pub map_refused : (p ≡ 0 → ⊥) → (m m1 : List ℕ) → (IsUnmarked m p → SomeWord (block c p) → ⊥) → Walked (view c k) m (16 + j)
+  map_refused : (p ≡ 0 → ⊥) → (m m1 : List ℕ) → (IsUnmarked m p → SomeWord (block c p) → ⊥) → Walked (view c k) m (16 + j)
       → Maps (view c k) → ⊥
   map_refused some m m1 not w maps = refused (view c k) m m1 (16 + j) w (Map j) refl low p map_at c SomeWord there false refl
       (omega arith, not) maps.fresh (maps.nonempty j)
 
-  pub map_unread : (p ≡ 0 → ⊥) → (m m1 : List ℕ) → block c p ≡ [] → Walked (view c k) m (16 + j) → Maps (view c k) → ⊥
-  map_unread some m m1 none = map_refused some m m1 (λ o is. no_word (block c p) none is)
+  pub map_missed : (p ≡ 0 → ⊥) → (m m1 : List ℕ) → (IsUnmarked m p → block c p ≡ []) → Walked (view c k) m (16 + j) → Maps (view c k)
+      → ⊥
+  map_missed some m m1 none = map_refused some m m1 (λ o is. no_word (block c p) (none o) is)
 
   pub map_empty : (p ≡ 0 → ⊥) → (m m1 out : List ℕ) → block c p ≡ out → (SomeWord out → ⊥) → Walked (view c k) m (16 + j) → Maps (view c k)
       → ⊥

@@ -1,5 +1,5 @@
 -- One address of the walk.
-use Rattle.std.proofs.Common.{◌≡◌, ◌<◌, ◌↔◌, ⊎_elim, ℕ, zero, suc, Bool, true, false, cond, List, [], length, set, refl, sym, ◌∙◌, ap}
+use Rattle.std.proofs.Common.{◌≡◌, ◌<◌, ◌↔◌, ⊎_elim, inr, ℕ, zero, suc, Bool, true, false, cond, List, [], length, set, refl, sym, ◌∙◌, ap}
 use Rattle.std.proofs.Common.{subst, arith}
 use Rattle.lfs_model.specs.Entry.{Entry, IsInode, word}
 use Rattle.lfs_model.specs.Inode.{inode_in, inode_of, inode_sector, may_be_inode}
@@ -8,7 +8,7 @@ use Rattle.lfs_model.specs.Device.{Cell, DeviceState, IsLawful, cell_at}
 use Rattle.lfs_model.specs.Reach.{View}
 use Rattle.lfs_model.specs.Stands.{Reached, Fresh, stage_of}
 use Rattle.lfs_verify.specs.Walk.{step_of, InBounds, IsGood, Walked, IsUnmarked}
-use Rattle.lfs_verify.specs.Take.{Looks, TakesAddress, ReadsContent, SomeWord, Advances}
+use Rattle.lfs_verify.specs.Take.{Looks, TakesAddress, TakesBlock, ReadsContent, SomeWord, Advances}
 use Rattle.lfs_model.proofs.Decoding.{value_found}
 use Rattle.lfs_model.proofs.Moments.{carries_none, carries_then, started, joined}
 use Rattle.lfs_verify.proofs.Words.{word_none}
@@ -32,6 +32,30 @@ unfolding inode_in inode_sector
 no_inode version n bytes none is =
     let spelt = (value_found inode_of may_be_inode inode_sector bytes is.value is.spelt).2 in
     let z = ap length (sym none ∙ spelt) in absurd (cc)
+
+-- a block that is taken, and one that isn't
+module _ (c : Content) (old new : List ℕ) (at step : ℕ) (out : List ℕ) (r : Bool) (t : TakesBlock c old new at step out r) where
+  pub block_taken : r ≡ true → IsUnmarked old at × (block c at ≡ out) × (new ≡ set old at (suc step))
+  block_taken is = subst (λ (b : Bool). TakesBlock c old new at step out b) is t
+
+  pub block_missed : r ≡ false → IsUnmarked old at → block c at ≡ []
+  block_missed is = subst (λ (b : Bool). TakesBlock c old new at step out b) is t
+
+  -- where the block is what is asked for, or isn't
+  pub takes_good : (P : List ℕ → Type 0) → r ≡ true → P out → TakesAddress P c old new at step true
+  takes_good P is good = let x = block_taken is in inr (x.0, subst P (sym x.1) good, x.2)
+
+  pub takes_bad : (P : List ℕ → Type 0) → r ≡ true → 0 < at → (P out → ⊥) → TakesAddress P c old new at step false
+  takes_bad P is some bad = (some, λ o p. bad (subst P (block_taken is).1 p))
+
+  pub takes_as : (P : List ℕ → Type 0) → r ≡ true → 0 < at → (held : Bool) → (held ≡ true) ↔ P out → TakesAddress P c old new at step held
+  takes_as P is some true iff = takes_good P is (iff.0 refl)
+  takes_as P is some false iff = takes_bad P is some (λ p. let e = iff.1 p in absurd (cc))
+
+  -- what isn't read has nothing of what is asked for
+  pub takes_none : (P : List ℕ → Type 0) → r ≡ false → 0 < at → (block c at ≡ [] → P (block c at) → ⊥)
+      → TakesAddress P c old new at step false
+  takes_none P is some bad = (some, λ o p. bad (block_missed is o) p)
 
 -- what a read says of the block
 pub read_at : (d d' : DeviceState) (c : Content) (at : ℕ) (o : Cell) → 0 < at → ReadsContent d d' c

@@ -1,5 +1,5 @@
 -- What a mount takes in of the usage table.
-use Rattle.std.proofs.Common.{replicate, ◌≡◌, ◌<◌, ◌≤◌, ⊎_elim, ◌+◌, ◌*◌, ◌-◌, ◌/◌, ◌%◌, ℕ, zero, suc, Bool, false, List, length, get_or}
+use Rattle.std.proofs.Common.{◌≡◌, ◌<◌, ◌≤◌, ⊎_elim, ◌+◌, ◌*◌, ◌-◌, ◌/◌, ◌%◌, ℕ, zero, suc, Bool, false, List, length, get_or}
 use Rattle.std.proofs.Common.{Some, None, refl, sym, ◌∙◌, ap, ap₂, subst, arith, length-set, get_or-set_other, get_or-set_same}
 use Rattle.std.specs.Prelude.{slice_set}
 use Rattle.std.proofs.lemmas.Bool.{cases_eq, cases_lt}
@@ -19,7 +19,7 @@ use Rattle.lfs_model.proofs.Words.{IsUsageBlock, uses_are, usage_block_some}
 use Rattle.lfs_segments.specs.Table.{SegmentNumbers, UsageTable, PlaceInSegment, no_segment, no_place, address_of, stale_of}
 use Rattle.lfs_segments.specs.Early.{AreUntaken}
 use Rattle.lfs_segments.specs.Steps.{PutsPlace}
-use Rattle.std.proofs.lemmas.List.{get_or-replicate, length-replicate, get_or_past}
+use Rattle.std.proofs.lemmas.List.{get_or_past}
 use Rattle.lfs_verify.specs.Take.{Looks}
 use Rattle.lfs_verify.specs.declared.fault.MountFault.{MountFault}
 use Rattle.lfs_verify.specs.Faults.{IsTableFault, LacksBlock, LacksTables}

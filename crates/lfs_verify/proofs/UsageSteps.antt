@@ -179,14 +179,14 @@ module _ (c : Content) (k : CheckpointValue) (j : ℕ) (low : j < 16) (n : ℕ) 
   good_of stage reached = block_good c k j (stage.readable j reached, usage_block_of (view c k) stage j)
 
   -- a block that can't be taken
-  pub usage_refused : (p ≡ 0 → ⊥) → (m m1 : List ℕ) → (IsUnmarked m p → Says (n - 64 * j) (block c p) → ⊥) → Walked (view c k) m j
+  usage_refused : (p ≡ 0 → ⊥) → (m m1 : List ℕ) → (IsUnmarked m p → Says (n - 64 * j) (block c p) → ⊥) → Walked (view c k) m j
       → Usages (view c k) → ⊥
   usage_refused some m m1 not w stage =
       refused (view c k) m m1 j w (Usage j) refl low p usage_at c (Says (n - 64 * j)) (there, back) false refl
       (omega arith, not) stage.fresh (good_of stage)
 
-  pub usage_unread : (p ≡ 0 → ⊥) → (m m1 : List ℕ) → block c p ≡ [] → Walked (view c k) m j → Usages (view c k) → ⊥
-  usage_unread some m m1 none = usage_refused some m m1 (λ o says. let e = sym (ap length none) ∙ says.0 in absurd (cc))
+  pub usage_missed : (p ≡ 0 → ⊥) → (m m1 : List ℕ) → (IsUnmarked m p → block c p ≡ []) → Walked (view c k) m j → Usages (view c k) → ⊥
+  usage_missed some m m1 none = usage_refused some m m1 (λ o says. let e = sym (ap length (none o)) ∙ says.0 in absurd (cc))
 
   module _ (out : List ℕ) (read : block c p ≡ out) (long : length out ≡ 512) (bytes : IsBytes out) where
     pub usage_undecoded : (p ≡ 0 → ⊥) → (m m1 : List ℕ) → None ≡ usage_in (n - 64 * j) out → Walked (view c k) m j → Usages (view c k) → ⊥

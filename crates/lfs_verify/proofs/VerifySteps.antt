@@ -4,7 +4,7 @@ use Rattle.std.proofs.Common.{◌∙◌, ap, arith}
 use Rattle.lfs_model.specs.Checkpoint.{CheckpointValue, FitsCheckpoint}
 use Rattle.lfs_model.specs.Content.{Content, newest}
 use Rattle.lfs_model.specs.Damage.{IsDamaged}
-use Rattle.lfs_model.specs.Device.{DeviceState, IsLawful, IsUntouched, Carries, LeavesOnly, Only}
+use Rattle.lfs_model.specs.Device.{DeviceState, IsLawful, Only}
 use Rattle.lfs_model.specs.Reach.{View, view}
 use Rattle.lfs_model.specs.Slots.{IsNewest, HasNoCheckpoint}
 use Rattle.lfs_model.specs.Stands.{LogMap, HoldsAt, StandsLog, EnoughClean, Stages, log_in}

@@ -4,8 +4,8 @@ use Rattle.std.specs.Prelude.{◌+◌, ◌*◌, ℕ}
 use Rattle.lfs_model.specs.declared.limits.TheConstants.{BLOCK_POINTERS, FILE_BLOCKS}
 use Rattle.lfs_model.specs.Reach.{View}
 use Rattle.lfs_model.specs.Stands.{Blocks, Leaves, Roots}
-use Rattle.lfs_verify.specs.declared.files.FileStage.{FileStage}
-use Rattle.lfs_verify.specs.declared.files.FileStage.TheVariants as stage
+use Rattle.lfs_verify.specs.declared.blocks.FileStage.{FileStage}
+use Rattle.lfs_verify.specs.declared.blocks.FileStage.TheVariants as stage
 use Rattle.lfs_verify.specs.declared.order.TheConstants.{FIRST_DATA, FIRST_LEAF, FIRST_ROOT}
 
 -- the step at which a stage begins with file n

@@ -1,6 +1,6 @@
 -- What is said of a device that is only read, and of one address of the walk.
 -- All of it is an own choice.
-use Rattle.std.specs.Prelude.{◌≡◌, ◌<◌, ◌⊎◌, ℕ, suc, Bool, true, false, List, get_or, set}
+use Rattle.std.specs.Prelude.{◌≡◌, ◌<◌, ◌⊎◌, ℕ, suc, Bool, true, false, List, [], get_or, set}
 use Rattle.lfs_model.specs.declared.limits.TheConstants.{BLOCK_POINTERS, FILE_NUMBERS}
 use Rattle.lfs_model.specs.Content.{Content, block}
 use Rattle.lfs_model.specs.Device.{DeviceState, Carries, IsUntouched, LeavesOnly}
@@ -27,6 +27,11 @@ SomeWord bytes = (i : ℕ) × (i < BLOCK_POINTERS) × (0 < word bytes i)
 abbrev pub TakesAddress : (List ℕ → Type 0) → Content → List ℕ → List ℕ → ℕ → ℕ → Bool → Type 0
 TakesAddress P c old new at step true = ((at ≡ 0) × (new ≡ old)) ⊎ (IsUnmarked old at × P (block c at) × (new ≡ set old at (suc step)))
 TakesAddress P c old new at step false = (0 < at) × (IsUnmarked old at → P (block c at) → ⊥)
+
+-- The block at an address at a step: taken and read where it is open; else it isn't open, or no bytes are read.
+abbrev pub TakesBlock : Content → List ℕ → List ℕ → ℕ → ℕ → List ℕ → Bool → Type 0
+TakesBlock c old new at step out true = IsUnmarked old at × (block c at ≡ out) × (new ≡ set old at (suc step))
+TakesBlock c old new at step out false = IsUnmarked old at → block c at ≡ []
 
 -- the table of inode addresses
 abbrev pub Lists : View → List ℕ → Type 0

@@ -62,7 +62,7 @@ pub fn all_inodes<D: SectorDevice>(
 {
     for file in 0..FILES {
         let address = map[file as usize];
-        if !take_inode(device, marks, version, address, file, sector)? {
+        if !take_inode(device, version, marks, address, file, sector)? {
             return Ok(false);
         }
         keep_inode(inodes, address, sector);

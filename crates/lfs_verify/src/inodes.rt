@@ -8,9 +8,8 @@ ghost use Rattle.lfs_verify.specs.Keeping.{OfContent, Steps};
 ghost use Rattle.lfs_verify.specs.Kept.{there_below};
 ghost use Rattle.lfs_verify.specs.Take.{TakesAddress};
 
-use crate::marks::claim;
 use crate::order::FIRST_INODE;
-use crate::reading::fetch;
+use crate::reading::take_block;
 use crate::totals::count_above;
 use crate::values::is_inode;
 use lfs_cache::CachedDevice;
@@ -74,8 +73,8 @@ pub(crate) fn inodes_at(address: u32) -> usize
 /// The fault where a call of the device failed.
 pub fn take_inode<D: SectorDevice>(
     device: &mut CachedDevice<D>,
-    marks: &mut [u32],
     version: u32,
+    marks: &mut [u32],
     address: u32,
     file: u32,
     out: &mut [u8; 512],
@@ -96,10 +95,7 @@ pub fn take_inode<D: SectorDevice>(
     if address as usize >= marks.len() {
         return Ok(false);
     }
-    if !claim(marks, address, FIRST_INODE + file) {
-        return Ok(false);
-    }
-    if !fetch(device, address, out)? {
+    if !take_block(device, address, FIRST_INODE + file, marks, out)? {
         return Ok(false);
     }
     Ok(is_inode(out, version, file))

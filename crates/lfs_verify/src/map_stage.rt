@@ -7,9 +7,8 @@ ghost use Rattle.lfs_verify.specs.MapTables.{Copies, ListsUpTo, IsEmptyFrom};
 ghost use Rattle.lfs_verify.specs.Take.{Advances, Lists};
 ghost use Rattle.lfs_verify.specs.Walk.{Walked, IsBounded};
 
-use crate::marks::claim;
 use crate::order::{FIRST_INODE, FIRST_MAP};
-use crate::reading::fetch;
+use crate::reading::take_block;
 use crate::values::{has_word, word_at};
 use lfs_cache::CachedDevice;
 use lfs_device::{DeviceFault, SectorDevice};
@@ -66,10 +65,7 @@ pub fn take_map<D: SectorDevice>(
     if address == 0 {
         return Ok(true);
     }
-    if !claim(marks, address, FIRST_MAP + index) {
-        return Ok(false);
-    }
-    if !fetch(device, address, sector)? {
+    if !take_block(device, address, FIRST_MAP + index, marks, sector)? {
         return Ok(false);
     }
     if !has_word(sector) {

@@ -7,9 +7,8 @@ ghost use Rattle.lfs_verify.specs.Take.{Advances};
 ghost use Rattle.lfs_verify.specs.UsageTables.{CopiesUses, SaysUpTo, SaysAll};
 ghost use Rattle.lfs_verify.specs.Walk.{Walked, IsBounded};
 
-use crate::marks::claim;
 use crate::order::FIRST_MAP;
-use crate::reading::fetch;
+use crate::reading::take_block;
 use lfs_cache::CachedDevice;
 use lfs_device::{DeviceFault, SectorDevice};
 use lfs_layout::{Checkpoint, UsageView};
@@ -86,10 +85,7 @@ pub fn take_usage<D: SectorDevice>(
     if address == 0 {
         return Ok(false);
     }
-    if !claim(marks, address, index) {
-        return Ok(false);
-    }
-    if !fetch(device, address, sector)? {
+    if !take_block(device, address, index, marks, sector)? {
         return Ok(false);
     }
     let Some(block) = UsageView::decode(sector, (segments - 64 * index) as usize) else {

@@ -1,26 +1,18 @@
-use Rattle.std.proofs.Common.{rules, ◌<◌, arith}
-use Rattle.lfs_log.specs.Held.{waiting_in}
-use Rattle.lfs_log.proofs.Unsaved.{all_saved}
+use Rattle.std.proofs.Common.{rules, ◌≡◌, false, sym, ◌∙◌}
 use Rattle.lfs_cleaner.proofs.RoomBounds.{readied_none, readied_saves}
 use Rattle.lfs_cleaner.proofs.room.commit_unsaved.Goals as goal
 
 pub returns-then-is_saved-clause-done : goal.returns-then-is_saved-clause-done
 returns-then-is_saved-clause-done g c =
-    readied_none g.D.SectorDevice.state c.args.log.now (g.met.D.SectorDevice.lawful c.args.log.now.device) c.requires (search rules)
+    readied_none g.D.SectorDevice.state c.args.log.now (g.met.D.SectorDevice.lawful c.args.log.now.device) c.requires
+    (sym c.is_saved.ensures.value ∙ c.if-is_saved.true) (c.if-is_saved.ensures.nothing (search rules))
 
 pub returns-in-Ok-clause-done : goal.returns-in-Ok-clause-done
 returns-in-Ok-clause-done g c =
-    let some : 0 < waiting_in c.args.log.now = search (rules, arith) in
-    readied_saves g.D.SectorDevice.state c.args.log.now c.commit.new.self c.in-Ok.ensures.done c.in-Ok.ensures.totals some
+    let some : c.args.log.now.saved ≡ false = sym c.is_saved.ensures.value ∙ c.if-is_saved.false in
+    readied_saves g.D.SectorDevice.state c.args.log.now c.commit.new.self some c.in-Ok.ensures.done c.in-Ok.ensures.totals
 
-pub returns-in-Ok-clause-quiet : goal.returns-in-Ok-clause-quiet
-returns-in-Ok-clause-quiet g c is =
-    let none = all_saved c.args.log.now is in
-    let some : 0 < waiting_in c.args.log.now = search (rules, arith) in
-    absurd (omega (arith, none, some))
-
-pub returns-in-Err-clause-quiet : goal.returns-in-Err-clause-quiet
-returns-in-Err-clause-quiet g c is =
-    let none = all_saved c.args.log.now is in
-    let some : 0 < waiting_in c.args.log.now = search (rules, arith) in
-    absurd (omega (arith, none, some))
+pub returns-in-Err-clause-full : goal.returns-in-Err-clause-full
+returns-in-Err-clause-full g c is =
+    let full = c.in-Err.ensures.full (search rules) in
+    (full.0, full.1, sym c.is_saved.ensures.value ∙ c.if-is_saved.false)

@@ -1,4 +1,5 @@
-use Rattle.std.proofs.Common.{rules, ◌≡◌, ◌≤◌, ◌+◌, ◌/◌, true, false, length, ◌∙◌, arith}
+use Rattle.std.proofs.Common.{rules, ◌≡◌, ◌<◌, ◌≤◌, ◌+◌, ◌/◌, true, false, length, ◌∙◌, ap, arith}
+use Rattle.lfs_log.specs.segments.Table.{UsageTable}
 use Rattle.lfs_cleaner.proofs.Rooms.{fault_then, halts_at_once, halts_then, halts_weaker, keeps_reads, keeps_then, keeps_weaker, read_fault}
 use Rattle.lfs_cleaner.proofs.RoomBounds.{may_pass, nothing_between, pass_more, passes_more, passes_most, passes_none, passes_suffice}
 use Rattle.lfs_log.specs.Saving.{pass_orders}
@@ -12,47 +13,45 @@ pub returns-in-Err-clause-full : goal.returns-in-Err-clause-full
 returns-in-Err-clause-full g c is =
     let done = c.loop.invariant.repeats.keeps in
     let lt = c.loop-test.true in
-    let most = c.segments-most.ensures in
-    let le : c.loop.counter + 0 ≤ length c.args.log.now.memory.usage.segments / 8 = omega (arith, lt, most) in
+    let most = c.most_passes-most.ensures in
+    let size = ap (λ (t : UsageTable). length t.segments) c.usage.ensures in
+    let le : c.loop.counter < length c.args.log.now.memory.usage.segments / 8 = omega (arith, lt, most, size) in
+    let refuses = c.in-Err.ensures.full (search rules) in
     let reads = keeps_reads g.D.SectorDevice.state c.loop.log c.pass.new.log (g.met.D.SectorDevice.lawful c.loop.log.device) done.running
-    (c.in-Err.ensures.full (search rules)) in
-    keeps_weaker g.D.SectorDevice.state c.args.log.now c.pass.new.log (c.loop.counter + 0) _
-    (keeps_then g.D.SectorDevice.state c.args.log.now c.loop.log c.pass.new.log c.loop.counter done 0 reads) le
+    refuses.reads in record {
+      keeps = keeps_weaker g.D.SectorDevice.state c.args.log.now c.pass.new.log (c.loop.counter + 0) _
+          (keeps_then g.D.SectorDevice.state c.args.log.now c.loop.log c.pass.new.log c.loop.counter done 0 reads) (omega (arith, le));
+      never = λ k m0 m keeps may.
+          (let next =
+          may_pass g.D.SectorDevice.state c.args.log.now c.loop.log c.loop.counter c.requires.saved c.requires.nothing c.loop.invariant
+          (c.if-has_quarter.ensures.no (search rules)) k m0 m
+          (refuses.reads.looks.carries.kept_before keeps) may le in
+          refuses.unfit next.0 next.1 m keeps next.2);
+    }
 
-pub returns-in-Err-clause-kept : goal.returns-in-Err-clause-kept
-returns-in-Err-clause-kept g c is =
+pub returns-in-Err-clause-device : goal.returns-in-Err-clause-device
+returns-in-Err-clause-device g c is =
     let done = c.loop.invariant.repeats.keeps in
     let lt = c.loop-test.true in
-    let most = c.segments-most.ensures in
-    let le : c.loop.counter + 0 ≤ length c.args.log.now.memory.usage.segments / 8 = omega (arith, lt, most) in
+    let most = c.most_passes-most.ensures in
+    let size = ap (λ (t : UsageTable). length t.segments) c.usage.ensures in
+    let le : c.loop.counter + 0 ≤ length c.args.log.now.memory.usage.segments / 8 = omega (arith, lt, most, size) in
+    let fails = c.in-Err.ensures.device (search rules) in
     let reads = keeps_reads g.D.SectorDevice.state c.loop.log c.pass.new.log (g.met.D.SectorDevice.lawful c.loop.log.device) done.running
-    (c.in-Err.ensures.kept (search rules)) in
-    keeps_weaker g.D.SectorDevice.state c.args.log.now c.pass.new.log (c.loop.counter + 0) _
-    (keeps_then g.D.SectorDevice.state c.args.log.now c.loop.log c.pass.new.log c.loop.counter done 0 reads) le
-
-pub returns-in-Err-clause-lacks : goal.returns-in-Err-clause-lacks
-returns-in-Err-clause-lacks g c is k m0 m keeps may =
-    let lt = c.loop-test.true in
-    let most = c.segments-most.ensures in
-    let full = c.in-Err.ensures.full (search rules) in
-    let next = may_pass g.D.SectorDevice.state c.args.log.now c.loop.log c.loop.counter c.requires.nothing c.loop.invariant
-    (c.if-has_quarter.ensures.no (search rules)) k m0 m
-    (full.looks.carries.kept_before keeps) may (omega (arith, lt, most)) in
-    c.in-Err.ensures.lacks (search rules) next.0 next.1 m keeps next.2
-
-pub returns-in-Err-clause-failed : goal.returns-in-Err-clause-failed
-returns-in-Err-clause-failed g c is =
-    let kept = c.in-Err.ensures.kept (search rules) in
-    fault_then g.D.SectorDevice.state c.args.log.now c.loop.log c.pass.new.log c.loop.counter c.loop.invariant.repeats.keeps
-    kept.looks.carries
-    (read_fault g.D.SectorDevice.state c.loop.log c.pass.new.log (c.in-Err.ensures.failed (search rules)))
+    fails.reads in record {
+      keeps = keeps_weaker g.D.SectorDevice.state c.args.log.now c.pass.new.log (c.loop.counter + 0) _
+          (keeps_then g.D.SectorDevice.state c.args.log.now c.loop.log c.pass.new.log c.loop.counter done 0 reads) le;
+      fault = fault_then g.D.SectorDevice.state c.args.log.now c.loop.log c.pass.new.log c.loop.counter done
+          fails.reads.looks.carries (read_fault g.D.SectorDevice.state c.loop.log c.pass.new.log fails.fault);
+    }
 
 pub returns-in-Err-clause-halted : goal.returns-in-Err-clause-halted
 returns-in-Err-clause-halted g c is =
     let done = c.loop.invariant.repeats.keeps in
     let lt = c.loop-test.true in
-    let most = c.segments-most.ensures in
-    let le : c.loop.counter + 0 ≤ length c.args.log.now.memory.usage.segments / 8 = omega (arith, lt, most) in
+    let most = c.most_passes-most.ensures in
+    let size = ap (λ (t : UsageTable). length t.segments) c.usage.ensures in
+    let le : c.loop.counter + 0 ≤ length c.args.log.now.memory.usage.segments / 8 = omega (arith, lt, most, size) in
     let running : c.loop.log.halted ≡ false = done.running in
     let halts = c.in-Err.ensures.halted (search rules) (λ (is : c.loop.log.halted ≡ true). absurd (cc)) in
     halts_weaker g.D.SectorDevice.state c.args.log.now c.pass.new.log (c.loop.counter + 0) _
@@ -69,14 +68,20 @@ loop-preserved g c =
     passes_more g.D.SectorDevice.state c.args.log.now c.loop.log c.pass.new.log c.loop.counter c.loop.invariant need c.in-Ok.ensures.totals
     c.pass.ensures.told
 
-pub returns-clause-lacks : goal.returns-clause-lacks
-returns-clause-lacks g c is k m0 m keeps may =
+pub returns-clause-full : goal.returns-clause-full
+returns-clause-full g c is =
     let low = c.loop-test.false in
     let high = c.loop.auto.counter-end in
-    let most = c.segments-most.ensures in
-    passes_suffice g.D.SectorDevice.state c.args.log.now c.loop.log c.loop.counter c.requires.nothing c.loop.invariant
-    (c.if-has_quarter-2.ensures.no (search rules)) k m0 m keeps may
-    (g.met.D.SectorDevice.lawful c.args.log.now.device) (omega (arith, low, high, most))
+    let most = c.most_passes-most.ensures in
+    let size = ap (λ (t : UsageTable). length t.segments) c.usage.ensures in
+    let all : c.loop.counter ≡ length c.args.log.now.memory.usage.segments / 8 = omega (arith, low, high, most, size) in record {
+      keeps = keeps_weaker g.D.SectorDevice.state c.args.log.now c.loop.log c.loop.counter _ c.loop.invariant.repeats.keeps
+          (omega (arith, all));
+      never = λ k m0 m keeps may.
+          passes_suffice g.D.SectorDevice.state c.args.log.now c.loop.log c.loop.counter c.requires.saved c.requires.nothing
+          c.loop.invariant (c.if-has_quarter-2.ensures.no (search rules)) k m0 m keeps may
+          (g.met.D.SectorDevice.lawful c.args.log.now.device) all;
+    }
 
 pub returns-in-Err-clause-totals : goal.returns-in-Err-clause-totals
 returns-in-Err-clause-totals g c = c.pass.ensures.totals ∙ c.loop.invariant.repeats.keeps.totals
@@ -90,9 +95,10 @@ returns-clause-totals g c = c.loop.invariant.repeats.keeps.totals
 pub returns-in-Err-clause-told : goal.returns-in-Err-clause-told
 returns-in-Err-clause-told g c =
     let lt = c.loop-test.true in
-    let most = c.segments-most.ensures in
+    let most = c.most_passes-most.ensures in
+    let size = ap (λ (t : UsageTable). length t.segments) c.usage.ensures in
     passes_most (length (g.D.SectorDevice.state c.args.log.now.device).told) (length (g.D.SectorDevice.state c.pass.new.log.device).told)
-    (c.loop.counter + 1) _ (pass_orders (length c.args.log.now.memory.usage.segments)) (omega (arith, lt, most))
+    (c.loop.counter + 1) _ (pass_orders (length c.args.log.now.memory.usage.segments)) (omega (arith, lt, most, size))
     (pass_more (length (g.D.SectorDevice.state c.args.log.now.device).told) (length (g.D.SectorDevice.state c.loop.log.device).told)
     (length (g.D.SectorDevice.state c.pass.new.log.device).told) c.loop.counter (length c.args.log.now.memory.usage.segments)
     (length c.loop.log.memory.usage.segments) c.loop.invariant.repeats.keeps.segments c.loop.invariant.told c.pass.ensures.told)
@@ -100,20 +106,23 @@ returns-in-Err-clause-told g c =
 pub returns-then-has_quarter-clause-told : goal.returns-then-has_quarter-clause-told
 returns-then-has_quarter-clause-told g c =
     let lt = c.loop-test.true in
-    let most = c.segments-most.ensures in
+    let most = c.most_passes-most.ensures in
+    let size = ap (λ (t : UsageTable). length t.segments) c.usage.ensures in
     passes_most (length (g.D.SectorDevice.state c.args.log.now.device).told) (length (g.D.SectorDevice.state c.loop.log.device).told)
-    c.loop.counter _ (pass_orders (length c.args.log.now.memory.usage.segments)) (omega (arith, lt, most)) c.loop.invariant.told
+    c.loop.counter _ (pass_orders (length c.args.log.now.memory.usage.segments)) (omega (arith, lt, most, size)) c.loop.invariant.told
 
 pub returns-then-has_quarter-2-clause-told : goal.returns-then-has_quarter-2-clause-told
 returns-then-has_quarter-2-clause-told g c =
     let high = c.loop.auto.counter-end in
-    let most = c.segments-most.ensures in
+    let most = c.most_passes-most.ensures in
+    let size = ap (λ (t : UsageTable). length t.segments) c.usage.ensures in
     passes_most (length (g.D.SectorDevice.state c.args.log.now.device).told) (length (g.D.SectorDevice.state c.loop.log.device).told)
-    c.loop.counter _ (pass_orders (length c.args.log.now.memory.usage.segments)) (omega (arith, high, most)) c.loop.invariant.told
+    c.loop.counter _ (pass_orders (length c.args.log.now.memory.usage.segments)) (omega (arith, high, most, size)) c.loop.invariant.told
 
 pub returns-clause-told : goal.returns-clause-told
 returns-clause-told g c =
     let high = c.loop.auto.counter-end in
-    let most = c.segments-most.ensures in
+    let most = c.most_passes-most.ensures in
+    let size = ap (λ (t : UsageTable). length t.segments) c.usage.ensures in
     passes_most (length (g.D.SectorDevice.state c.args.log.now.device).told) (length (g.D.SectorDevice.state c.loop.log.device).told)
-    c.loop.counter _ (pass_orders (length c.args.log.now.memory.usage.segments)) (omega (arith, high, most)) c.loop.invariant.told
+    c.loop.counter _ (pass_orders (length c.args.log.now.memory.usage.segments)) (omega (arith, high, most, size)) c.loop.invariant.told

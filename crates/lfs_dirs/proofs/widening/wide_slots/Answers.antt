@@ -21,7 +21,7 @@ loop-index-preserved g c =
     widening_goes_on c.args.directory.value c.args.header (g.F.Files.state c.args.files.now) (g.F.Files.state c.loop-index.files)
     (g.F.Files.state c.widen_nth.new.files)
     c.loop-index.index (count_in_nth c.args.header c.loop-index.index) c.loop-index.slots.items refl low c.loop-index.invariant
-    c.widen_nth.new.slots.items (g.met.F.Files.lawful c.args.files.now) c.widen_nth.ensures.reads c.in_ok-widen_nth.ensures.long
+    c.widen_nth.new.slots.items (g.met.F.Files.lawful c.args.files.now) c.widen_nth.ensures.gathers.reads c.in_ok-widen_nth.ensures.long
     c.in_ok-widen_nth.ensures.done
 
 pub returns-in_err-widen_nth-clause-failed : goal.returns-in_err-widen_nth-clause-failed

@@ -10,20 +10,20 @@ use Rattle.lfs_dirs.proofs.widening.widen.Goals as goal
 
 pub returns-in_err-slots-clause-redrafts : goal.returns-in_err-slots-clause-redrafts
 returns-in_err-slots-clause-redrafts g c =
-    redrafts_read (g.F.Files.state c.args.files.now) (g.F.Files.state c.wide_slots.new.files) c.wide_slots.ensures.reads
+    redrafts_read (g.F.Files.state c.args.files.now) (g.F.Files.state c.wide_slots.new.files) c.wide_slots.ensures.gathers.reads
 
 pub returns-in_err-reform-clause-redrafts : goal.returns-in_err-reform-clause-redrafts
 returns-in_err-reform-clause-redrafts g c =
     redrafts_more (g.F.Files.state c.args.files.now) (g.F.Files.state c.wide_slots.new.files) (g.F.Files.state c.reform.new.self)
     (g.met.F.Files.lawful c.args.files.now)
-    (redrafts_read (g.F.Files.state c.args.files.now) (g.F.Files.state c.wide_slots.new.files) c.wide_slots.ensures.reads)
+    (redrafts_read (g.F.Files.state c.args.files.now) (g.F.Files.state c.wide_slots.new.files) c.wide_slots.ensures.gathers.reads)
     c.reform.ensures.redrafts
 
 pub returns-then-is_empty-clause-redrafts : goal.returns-then-is_empty-clause-redrafts
 returns-then-is_empty-clause-redrafts g c =
     redrafts_more (g.F.Files.state c.args.files.now) (g.F.Files.state c.wide_slots.new.files) (g.F.Files.state c.reform.new.self)
     (g.met.F.Files.lawful c.args.files.now)
-    (redrafts_read (g.F.Files.state c.args.files.now) (g.F.Files.state c.wide_slots.new.files) c.wide_slots.ensures.reads)
+    (redrafts_read (g.F.Files.state c.args.files.now) (g.F.Files.state c.wide_slots.new.files) c.wide_slots.ensures.gathers.reads)
     c.reform.ensures.redrafts
 
 pub returns-in_err-write_at-clause-redrafts : goal.returns-in_err-write_at-clause-redrafts
@@ -32,7 +32,7 @@ returns-in_err-write_at-clause-redrafts g c =
     (g.met.F.Files.lawful c.args.files.now)
     (redrafts_more (g.F.Files.state c.args.files.now) (g.F.Files.state c.wide_slots.new.files) (g.F.Files.state c.reform.new.self)
     (g.met.F.Files.lawful c.args.files.now)
-    (redrafts_read (g.F.Files.state c.args.files.now) (g.F.Files.state c.wide_slots.new.files) c.wide_slots.ensures.reads)
+    (redrafts_read (g.F.Files.state c.args.files.now) (g.F.Files.state c.wide_slots.new.files) c.wide_slots.ensures.gathers.reads)
     c.reform.ensures.redrafts) c.write_at.ensures.redrafts
 
 pub returns-clause-redrafts : goal.returns-clause-redrafts
@@ -41,7 +41,7 @@ returns-clause-redrafts g c =
     (g.met.F.Files.lawful c.args.files.now)
     (redrafts_more (g.F.Files.state c.args.files.now) (g.F.Files.state c.wide_slots.new.files) (g.F.Files.state c.reform.new.self)
     (g.met.F.Files.lawful c.args.files.now)
-    (redrafts_read (g.F.Files.state c.args.files.now) (g.F.Files.state c.wide_slots.new.files) c.wide_slots.ensures.reads)
+    (redrafts_read (g.F.Files.state c.args.files.now) (g.F.Files.state c.wide_slots.new.files) c.wide_slots.ensures.gathers.reads)
     c.reform.ensures.redrafts) c.write_at.ensures.redrafts
 
 pub returns-then-is_empty-clause-done : goal.returns-then-is_empty-clause-done
@@ -52,7 +52,7 @@ returns-then-is_empty-clause-done g c =
     (g.F.Files.state c.reform.new.self) c.args.directory.value c.args.header 1 n) size c.in_ok-reform.ensures.done in
     let none : length c.in_ok-slots.slots.items ≡ 0 = search rules in
     widens_empty (g.F.Files.state c.args.files.now) (g.F.Files.state c.wide_slots.new.files)
-    (g.F.Files.state c.reform.new.self) c.args.directory.value c.args.header c.in_ok-slots.slots.items c.wide_slots.ensures.reads
+    (g.F.Files.state c.reform.new.self) c.args.directory.value c.args.header c.in_ok-slots.slots.items c.wide_slots.ensures.gathers.reads
     c.in_ok-slots.ensures.answer long c.requires.size c.reform.ensures.redrafts reforms none
 
 pub returns-then-is_empty-clause-counted : goal.returns-then-is_empty-clause-counted
@@ -62,7 +62,7 @@ returns-then-is_empty-clause-counted g c =
     let reforms = subst (λ (n : ℕ). Reforms (g.F.Files.state c.wide_slots.new.files)
     (g.F.Files.state c.reform.new.self) c.args.directory.value c.args.header 1 n) size c.in_ok-reform.ensures.done in
     counts_empty (g.F.Files.state c.args.files.now) (g.F.Files.state c.wide_slots.new.files)
-    (g.F.Files.state c.reform.new.self) c.args.directory.value c.args.header c.in_ok-slots.slots.items c.wide_slots.ensures.reads
+    (g.F.Files.state c.reform.new.self) c.args.directory.value c.args.header c.in_ok-slots.slots.items c.wide_slots.ensures.gathers.reads
     c.in_ok-slots.ensures.answer long c.requires.size c.reform.ensures.redrafts reforms c.in_ok-reform.ensures.counted
 
 pub returns-clause-done : goal.returns-clause-done
@@ -78,7 +78,7 @@ returns-clause-done g c =
     let writes = subst (λ (w : List ℕ). Writes (g.F.Files.state c.reform.new.self)
     (g.F.Files.state c.write_at.new.self) c.args.directory.value (wide c.args.header) 0 w) bytes sized in
     widens_written (g.F.Files.state c.args.files.now) (g.F.Files.state c.wide_slots.new.files)
-    (g.F.Files.state c.reform.new.self) c.args.directory.value c.args.header c.in_ok-slots.slots.items c.wide_slots.ensures.reads
+    (g.F.Files.state c.reform.new.self) c.args.directory.value c.args.header c.in_ok-slots.slots.items c.wide_slots.ensures.gathers.reads
     c.in_ok-slots.ensures.answer long c.requires.size c.reform.ensures.redrafts reforms
     (g.F.Files.state c.write_at.new.self) c.write_at.ensures.redrafts writes
     (λ lone. c.in_ok-write_at.ensures.asked (subst (λ (w : List ℕ). IsLoneWrite (g.F.Files.state c.reform.new.self) w) (sym bytes) lone))
@@ -96,7 +96,7 @@ returns-clause-counted g c =
     let writes = subst (λ (w : List ℕ). Writes (g.F.Files.state c.reform.new.self)
     (g.F.Files.state c.write_at.new.self) c.args.directory.value (wide c.args.header) 0 w) bytes sized in
     counts_written (g.F.Files.state c.args.files.now) (g.F.Files.state c.wide_slots.new.files)
-    (g.F.Files.state c.reform.new.self) c.args.directory.value c.args.header c.in_ok-slots.slots.items c.wide_slots.ensures.reads
+    (g.F.Files.state c.reform.new.self) c.args.directory.value c.args.header c.in_ok-slots.slots.items c.wide_slots.ensures.gathers.reads
     c.in_ok-slots.ensures.answer long c.requires.size c.reform.ensures.redrafts reforms
     (g.F.Files.state c.write_at.new.self) c.write_at.ensures.redrafts writes c.in_ok-reform.ensures.counted c.in_ok-write_at.ensures.counted
 
@@ -113,6 +113,6 @@ returns-in_err-write_at-clause-failed g c =
     let reforms = subst (λ (n : ℕ). Reforms (g.F.Files.state c.wide_slots.new.files)
     (g.F.Files.state c.reform.new.self) c.args.directory.value c.args.header 1 n) size c.in_ok-reform.ensures.done in
     fails_written (g.F.Files.state c.args.files.now) (g.F.Files.state c.wide_slots.new.files)
-    (g.F.Files.state c.reform.new.self) c.args.directory.value c.args.header c.in_ok-slots.slots.items c.wide_slots.ensures.reads
+    (g.F.Files.state c.reform.new.self) c.args.directory.value c.args.header c.in_ok-slots.slots.items c.wide_slots.ensures.gathers.reads
     c.in_ok-slots.ensures.answer long c.requires.size c.reform.ensures.redrafts reforms
     (g.F.Files.state c.write_at.new.self) (c.in_err-write_at.ensures.failed other))

@@ -1,12 +1,16 @@
 use Rattle.std.proofs.Common.{◌+◌, ◌<◌, arith}
 use Rattle.lfs_model.specs.Checkpoint.{usage_blocks}
 use Rattle.lfs_format.proofs.FirstMoments.{writes_none, writes_write}
+use Rattle.lfs_format.proofs.FirstWrites.{known_version}
 use Rattle.lfs_format.proofs.making.write_first_blocks.Goals as goal
+
+pub root_block-requires : goal.root_block-requires
+root_block-requires g c = known_version _ c.args.shape.first c.args.shape.last
 
 pub returns-in_err-write-clause-writes : goal.returns-in_err-write-clause-writes
 returns-in_err-write-clause-writes g c =
     let lawful = g.met.D.SectorDevice.lawful in
-    let n = c.args.segments in
+    let n = c.args.shape.segments in
     let none = writes_none n _ (lawful c.args.device.now) in
     writes_write n _ _ _ 2 _ (omega arith) (omega arith) (lawful c.args.device.now) none c.write.ensures.crash c.write.ensures.carries
     c.write.ensures.time
@@ -14,7 +18,7 @@ returns-in_err-write-clause-writes g c =
 pub returns-in_err-write-2-clause-writes : goal.returns-in_err-write-2-clause-writes
 returns-in_err-write-2-clause-writes g c =
     let lawful = g.met.D.SectorDevice.lawful in
-    let n = c.args.segments in
+    let n = c.args.shape.segments in
     let none = writes_none n _ (lawful c.args.device.now) in
     let one =
     writes_write n _ _ _ 2 _ (omega arith) (omega arith) (lawful c.args.device.now) none c.write.ensures.crash c.write.ensures.carries
@@ -25,7 +29,7 @@ returns-in_err-write-2-clause-writes g c =
 pub returns-in_err-write-3-clause-writes : goal.returns-in_err-write-3-clause-writes
 returns-in_err-write-3-clause-writes g c =
     let lawful = g.met.D.SectorDevice.lawful in
-    let n = c.args.segments in
+    let n = c.args.shape.segments in
     let none = writes_none n _ (lawful c.args.device.now) in
     let one =
     writes_write n _ _ _ 2 _ (omega arith) (omega arith) (lawful c.args.device.now) none c.write.ensures.crash c.write.ensures.carries
@@ -39,9 +43,9 @@ returns-in_err-write-3-clause-writes g c =
 pub returns-in_err-write-4-clause-writes : goal.returns-in_err-write-4-clause-writes
 returns-in_err-write-4-clause-writes g c =
     let lawful = g.met.D.SectorDevice.lawful in
-    let n = c.args.segments in
+    let n = c.args.shape.segments in
     let none = writes_none n _ (lawful c.args.device.now) in
-    let some : 5 < 5 + usage_blocks n = omega (arith, c.requires.count.least) in
+    let some : 5 < 5 + usage_blocks n = omega (arith, c.args.shape.count.least) in
     let one =
     writes_write n _ _ _ 2 _ (omega arith) (omega arith) (lawful c.args.device.now) none c.write.ensures.crash c.write.ensures.carries
     c.write.ensures.time in
@@ -57,9 +61,9 @@ returns-in_err-write-4-clause-writes g c =
 pub returns-clause-writes : goal.returns-clause-writes
 returns-clause-writes g c =
     let lawful = g.met.D.SectorDevice.lawful in
-    let n = c.args.segments in
+    let n = c.args.shape.segments in
     let none = writes_none n _ (lawful c.args.device.now) in
-    let some : 5 < 5 + usage_blocks n = omega (arith, c.requires.count.least) in
+    let some : 5 < 5 + usage_blocks n = omega (arith, c.args.shape.count.least) in
     let one =
     writes_write n _ _ _ 2 _ (omega arith) (omega arith) (lawful c.args.device.now) none c.write.ensures.crash c.write.ensures.carries
     c.write.ensures.time in

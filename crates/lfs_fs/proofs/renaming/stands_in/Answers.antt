@@ -1,5 +1,5 @@
 use Rattle.std.proofs.Common.{sym, subst, ◌∙◌}
-use Rattle.lfs_fs.proofs.ChainWalks.{RisesTo, rises_more}
+use Rattle.lfs_fs.proofs.paths.ChainWalks.{RisesTo, rises_more}
 use Rattle.lfs_fs.proofs.renaming.stands_in.Goals as goal
 
 pub loop-directory-preserved : goal.loop-directory-preserved

@@ -1,6 +1,6 @@
 use Rattle.std.proofs.Common.{◌≡◌, length}
 use Rattle.lfs_path.specs.Trees.{here}
-use Rattle.lfs_fs.proofs.ChainWalks.{RisesTo}
+use Rattle.lfs_fs.proofs.paths.ChainWalks.{RisesTo}
 use Rattle.lfs_fs.proofs.renaming.stands_in.Given as goal
 
 abbrev pub invariant-loop-directory : goal.invariant-loop-directory

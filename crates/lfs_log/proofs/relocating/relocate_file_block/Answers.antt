@@ -9,12 +9,12 @@ use Rattle.lfs_log.proofs.relocating.relocate_file_block.Goals as goal
 pub returns-in-Err-clause-relocates : goal.returns-in-Err-clause-relocates
 returns-in-Err-clause-relocates g c =
     relocates_looks (g.D.SectorDevice.state c.args.device.now) (g.D.SectorDevice.state c.locate.new.device) c.args.memory.now
-    c.requires.memory c.locate.ensures.looks
+    c.requires.memory c.locate.ensures.looks.looks
 
 pub returns-then-there-address-clause-relocates : goal.returns-then-there-address-clause-relocates
 returns-then-there-address-clause-relocates g c =
     relocates_looks (g.D.SectorDevice.state c.args.device.now) (g.D.SectorDevice.state c.locate.new.device) c.args.memory.now
-    c.requires.memory c.locate.ensures.looks
+    c.requires.memory c.locate.ensures.looks.looks
 
 pub returns-then-there-address-clause-left : goal.returns-then-there-address-clause-left
 returns-then-there-address-clause-left g c =
@@ -28,7 +28,7 @@ returns-in-Ok-true-clause-relocates g c =
     (g.D.SectorDevice.state c.bring_block.new.device)
     c.args.memory.now c.args.memory.now c.bring_block.new.memory (g.met.D.SectorDevice.lawful c.args.device.now)
     (relocates_looks (g.D.SectorDevice.state c.args.device.now) (g.D.SectorDevice.state c.locate.new.device) c.args.memory.now
-    c.requires.memory c.locate.ensures.looks) c.bring_block.ensures.relocates
+    c.requires.memory c.locate.ensures.looks.looks) c.bring_block.ensures.relocates
 
 pub returns-in-Ok-false-clause-relocates : goal.returns-in-Ok-false-clause-relocates
 returns-in-Ok-false-clause-relocates g c =
@@ -36,7 +36,7 @@ returns-in-Ok-false-clause-relocates g c =
     (g.D.SectorDevice.state c.bring_block.new.device)
     c.args.memory.now c.args.memory.now c.bring_block.new.memory (g.met.D.SectorDevice.lawful c.args.device.now)
     (relocates_looks (g.D.SectorDevice.state c.args.device.now) (g.D.SectorDevice.state c.locate.new.device) c.args.memory.now
-    c.requires.memory c.locate.ensures.looks) c.bring_block.ensures.relocates
+    c.requires.memory c.locate.ensures.looks.looks) c.bring_block.ensures.relocates
 
 pub returns-in-Ok-true-clause-left : goal.returns-in-Ok-true-clause-left
 returns-in-Ok-true-clause-left g c =
@@ -56,7 +56,7 @@ returns-in-Err-bring_block-clause-relocates g c =
     (g.D.SectorDevice.state c.bring_block.new.device)
     c.args.memory.now c.args.memory.now c.bring_block.new.memory (g.met.D.SectorDevice.lawful c.args.device.now)
     (relocates_looks (g.D.SectorDevice.state c.args.device.now) (g.D.SectorDevice.state c.locate.new.device) c.args.memory.now
-    c.requires.memory c.locate.ensures.looks) c.bring_block.ensures.relocates
+    c.requires.memory c.locate.ensures.looks.looks) c.bring_block.ensures.relocates
 
 pub returns-in-Err-bring_block-clause-failed : goal.returns-in-Err-bring_block-clause-failed
 returns-in-Err-bring_block-clause-failed g c is =
@@ -64,7 +64,7 @@ returns-in-Err-bring_block-clause-failed g c is =
     (g.D.SectorDevice.state c.bring_block.new.device)
     c.args.memory.now c.args.memory.now
     (relocates_looks (g.D.SectorDevice.state c.args.device.now) (g.D.SectorDevice.state c.locate.new.device) c.args.memory.now
-    c.requires.memory c.locate.ensures.looks)
+    c.requires.memory c.locate.ensures.looks.looks)
     c.bring_block.ensures.relocates.looks (c.in-Err-bring_block.ensures.failed (search rules))
 
 pub returns-in-Err-clause-came : goal.returns-in-Err-clause-came

@@ -8,8 +8,9 @@ use Rattle.lfs_memory.proofs.counting.count_leaves.Goals as goal
 
 pub loop-index-init : goal.loop-index-init
 loop-index-init g c = record {
-  counts = leaves_none (g.D.SectorDevice.state c.args.device.now) (g.D.SectorDevice.state c.args.device.now) c.args.memory.now c.args.number
-      c.args.root.now c.args.first c.args.counts.now;
+  counts =
+      leaves_none (g.D.SectorDevice.state c.args.device.now) (g.D.SectorDevice.state c.args.device.now) c.args.memory.now c.args.tail.number
+      c.args.root.now c.args.tail.first c.args.counts.now;
   looks = looks_none (g.D.SectorDevice.state c.args.device.now);
   no_failure = refl;
 }
@@ -22,7 +23,8 @@ loop-index-preserved g c =
     let was = c.loop-index.invariant in
     let now = c.in_ok-count_leaf.ensures in
     record {
-      counts = leaves_more old mid new c.args.memory.now c.args.number c.args.root.now c.loop-index.index c.word-address.result c.args.first
+      counts = leaves_more old mid new c.args.memory.now c.args.tail.number c.args.root.now c.loop-index.index c.word-address.result
+          c.args.tail.first
           was.looks now.looks
           (sym (word_read c.args.root.now c.loop-index.index c.loop-index.index c.word-address.result refl c.word-address.ensures))
           c.args.counts.now c.loop-index.counts was.counts c.count_leaf.new.counts now.done;
@@ -34,8 +36,8 @@ pub returns-clause-done : goal.returns-clause-done
 returns-clause-done g c =
     let low = c.loop-index-test.false in
     let most = c.loop-index.auto.index-end in
-    leaves_end (g.D.SectorDevice.state c.args.device.now) (g.D.SectorDevice.state c.loop-index.device) c.args.memory.now c.args.number
-    c.args.root.now c.loop-index.index 128 c.args.first
+    leaves_end (g.D.SectorDevice.state c.args.device.now) (g.D.SectorDevice.state c.loop-index.device) c.args.memory.now c.args.tail.number
+    c.args.root.now c.loop-index.index 128 c.args.tail.first
     c.args.counts.now c.loop-index.counts (omega (arith, low, most)) c.loop-index.invariant.counts
 
 pub returns-in_err-count_leaf-clause-failed : goal.returns-in_err-count_leaf-clause-failed
@@ -43,8 +45,9 @@ returns-in_err-count_leaf-clause-failed g c =
     let old = g.D.SectorDevice.state c.args.device.now in
     let mid = g.D.SectorDevice.state c.loop-index.device in
     let new = g.D.SectorDevice.state c.count_leaf.new.device in
-    on_err c.from_residual.result (FailsLeaves old new c.args.memory.now c.args.number c.args.root.now 128 c.args.first c.args.counts.now)
-    (leaves_fail old mid new c.args.memory.now c.args.number c.args.root.now c.loop-index.index c.word-address.result c.args.first
+    on_err c.from_residual.result
+    (FailsLeaves old new c.args.memory.now c.args.tail.number c.args.root.now 128 c.args.tail.first c.args.counts.now)
+    (leaves_fail old mid new c.args.memory.now c.args.tail.number c.args.root.now c.loop-index.index c.word-address.result c.args.tail.first
     c.loop-index.invariant.looks c.in_err-count_leaf.ensures.looks
     (sym (word_read c.args.root.now c.loop-index.index c.loop-index.index c.word-address.result refl c.word-address.ensures))
     c.args.counts.now c.loop-index.counts c.loop-index.invariant.counts 128

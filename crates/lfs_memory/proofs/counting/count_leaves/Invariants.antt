@@ -8,7 +8,7 @@ invariant-loop-index g l =
     let old = g.D.SectorDevice.state l.initial.device in
     let now = g.D.SectorDevice.state l.device in
     record {
-      counts : CountsLeaves old now l.memory l.number l.root l.index l.first l.initial.counts l.counts;
+      counts : CountsLeaves old now l.memory l.tail.number l.root l.index l.tail.first l.initial.counts l.counts;
       looks : Looks old now;
       no_failure : now.failures ≡ old.failures;
     }

@@ -2,10 +2,13 @@ use Rattle.std.proofs.Common.{rules, ap, not, arith}
 use Rattle.lfs_memory.proofs.CutFiles.{uncovered_past}
 use Rattle.lfs_memory.proofs.cutting.drop_counted.Goals as goal
 
-pub returns-then-not-are_covered-clause-failed : goal.returns-then-not-are_covered-clause-failed
-returns-then-not-are_covered-clause-failed g c =
-    let low = c.requires.number.few in
-    uncovered_past (g.D.SectorDevice.state c.args.device.now) (g.D.SectorDevice.state c.count_past.new.device) c.args.memory.now
-    c.args.number c.args.first (not c.is_hidden-lives.result) c.count_past.new.counts
-    (omega (arith, low)) (ap not c.is_hidden-lives.ensures) c.count_past.ensures.looks c.in_ok-count_past.ensures.counted
-    (c.if-not-are_covered.ensures.no (search rules))
+pub returns-then-not-are_covered-clause-looks : goal.returns-then-not-are_covered-clause-looks
+returns-then-not-are_covered-clause-looks g c = record {
+  failed = let low = c.requires.number.few in
+      uncovered_past (g.D.SectorDevice.state c.args.device.now) (g.D.SectorDevice.state c.count_past.new.device) c.args.memory.now
+      c.args.number c.args.first (not c.is_hidden-lives.result) c.count_past.new.counts
+      (omega (arith, low)) (ap not c.is_hidden-lives.ensures) c.count_past.ensures.looks.looks c.in_ok-count_past.ensures.counted
+      (c.if-not-are_covered.ensures.no (search rules));
+  no_failure = search rules;
+  looks = search rules;
+}

@@ -31,12 +31,12 @@ returns-in-Ok-true-clause-ends g c =
     let mid = g.D.SectorDevice.state c.lift_child.new.device in
     let new = g.D.SectorDevice.state c.lift_part-in-Ok-true.new.device in
     ends_then old mid new c.args.memory.now c.lift_child.new.memory c.lift_part-in-Ok-true.new.memory 1 c.in-Ok-true.ensures.prepares
-    c.in-Ok-true.ensures.no_failure c.lift_part-in-Ok-true.ensures.prepares.looks c.lift_part-in-Ok-true.result
+    c.in-Ok-true.ensures.ends.no_failure c.lift_part-in-Ok-true.ensures.prepares.looks c.lift_part-in-Ok-true.result
     c.lift_part-in-Ok-true.ensures.ends
 
 pub returns-in-Err-clause-ends : goal.returns-in-Err-clause-ends
 returns-in-Err-clause-ends g c = record {
-  full = λ is. c.in-Err.ensures.full (other_result c.in-Err.fault _ is);
-  failed = λ is. c.in-Err.ensures.failed (other_result c.in-Err.fault _ is);
+  full = λ is. c.in-Err.ensures.ends.full (other_result c.in-Err.fault _ is);
+  failed = λ is. c.in-Err.ensures.ends.failed (other_result c.in-Err.fault _ is);
   no_failure = tt;
 }

@@ -10,9 +10,9 @@ lift_child-requires-clause-above g c =
 pub returns-in_err-lift_child-clause-ends : goal.returns-in_err-lift_child-clause-ends
 returns-in_err-lift_child-clause-ends g c = record {
   full = λ is.
-      c.in_err-lift_child.ensures.full (passed_on c.from_residual.result c.in_err-lift_child.field-0.0 _ c.from_residual.ensures is);
+      c.in_err-lift_child.ensures.ends.full (passed_on c.from_residual.result c.in_err-lift_child.field-0.0 _ c.from_residual.ensures is);
   failed = λ is.
-      c.in_err-lift_child.ensures.failed (passed_on c.from_residual.result c.in_err-lift_child.field-0.0 _ c.from_residual.ensures is);
+      c.in_err-lift_child.ensures.ends.failed (passed_on c.from_residual.result c.in_err-lift_child.field-0.0 _ c.from_residual.ensures is);
   no_failure = err_ok c.from_residual.result _ _ c.from_residual.ensures;
 }
 

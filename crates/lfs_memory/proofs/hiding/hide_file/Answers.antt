@@ -12,7 +12,7 @@ returns-in-Ok-false-clause-failed g c _ =
 pub returns-in-Err-clause-failed : goal.returns-in-Err-clause-failed
 returns-in-Err-clause-failed g c is =
     link_excused (g.D.SectorDevice.state c.args.device.now) (g.D.SectorDevice.state c.lift_inode.new.device) c.args.memory.now c.args.number
-    (c.in-Err.ensures.failed (search rules))
+    (c.in-Err.ensures.ends.failed (search rules))
 
 pub returns-in-Err-count_file-clause-prepares : goal.returns-in-Err-count_file-clause-prepares
 returns-in-Err-count_file-clause-prepares g c =
@@ -23,7 +23,7 @@ returns-in-Err-count_file-clause-prepares g c =
     prepares_then old mid new c.args.memory.now c.lift_inode.new.memory c.lift_inode.new.memory 1 0
     (g.met.D.SectorDevice.lawful c.args.device.now) first
     (prepares_looks mid new c.lift_inode.new.memory (g.met.D.SectorDevice.lawful c.lift_inode.new.device) first.memory
-    c.count_file.ensures.looks)
+    c.count_file.ensures.looks.looks)
 
 pub returns-in-Err-count_file-clause-failed : goal.returns-in-Err-count_file-clause-failed
 returns-in-Err-count_file-clause-failed g c _ =
@@ -31,8 +31,8 @@ returns-in-Err-count_file-clause-failed g c _ =
     let mid = g.D.SectorDevice.state c.lift_inode.new.device in
     let new = g.D.SectorDevice.state c.count_file.new.device in
     link_excused old new c.args.memory.now c.args.number
-    (prepares_excused old mid new c.args.memory.now c.lift_inode.new.memory 1 c.in-Ok-true.ensures.prepares c.count_file.ensures.looks
-    c.in-Err-count_file.ensures.failed)
+    (prepares_excused old mid new c.args.memory.now c.lift_inode.new.memory 1 c.in-Ok-true.ensures.prepares c.count_file.ensures.looks.looks
+    c.in-Err-count_file.ensures.looks.failed)
 
 pub returns-then-not-are_covered-clause-prepares : goal.returns-then-not-are_covered-clause-prepares
 returns-then-not-are_covered-clause-prepares g c =
@@ -43,7 +43,7 @@ returns-then-not-are_covered-clause-prepares g c =
     prepares_then old mid new c.args.memory.now c.lift_inode.new.memory c.lift_inode.new.memory 1 0
     (g.met.D.SectorDevice.lawful c.args.device.now) first
     (prepares_looks mid new c.lift_inode.new.memory (g.met.D.SectorDevice.lawful c.lift_inode.new.device) first.memory
-    c.count_file.ensures.looks)
+    c.count_file.ensures.looks.looks)
 
 pub returns-then-not-are_covered-clause-failed : goal.returns-then-not-are_covered-clause-failed
 returns-then-not-are_covered-clause-failed g c _ =
@@ -54,7 +54,7 @@ returns-then-not-are_covered-clause-failed g c _ =
     link_excused old new c.args.memory.now c.args.number
     (blocks_covered old mid new c.args.memory.now c.lift_inode.new.memory c.args.number c.count_file.new.counts
     (g.met.D.SectorDevice.lawful c.args.device.now)
-    c.in-Ok-true.ensures.prepares c.count_file.ensures.looks c.requires.number.few shown c.in-Ok.ensures.counted
+    c.in-Ok-true.ensures.prepares c.count_file.ensures.looks.looks c.requires.number.few shown c.in-Ok.ensures.counted
     (c.if-not-are_covered.ensures.no (search rules)))
 
 pub returns-clause-hides : goal.returns-clause-hides
@@ -65,5 +65,6 @@ returns-clause-hides g c =
     let shown : is_hidden_in c.args.memory.now.map c.args.number ≡ false = sym c.is_hidden.ensures ∙ c.if-is_hidden.false in
     file_hidden old mid new c.args.memory.now c.lift_inode.new.memory c.args.number c.count_file.new.counts
     (g.met.D.SectorDevice.lawful c.args.device.now)
-    c.in-Ok-true.ensures.prepares c.count_file.ensures.looks c.requires.number.few shown c.in-Ok.ensures.counted c.drop_links.new.memory
+    c.in-Ok-true.ensures.prepares c.count_file.ensures.looks.looks c.requires.number.few shown c.in-Ok.ensures.counted
+    c.drop_links.new.memory
     c.args.kind c.args.form c.args.size c.drop_links.ensures

@@ -25,11 +25,15 @@ returns-then-not-is_counted-clause-prepares g c =
     (g.met.D.SectorDevice.lawful c.args.device.now) c.requires.memory
     (looks_none (g.D.SectorDevice.state c.args.device.now)))
 
-pub returns-then-not-is_counted-clause-failed : goal.returns-then-not-is_counted-clause-failed
-returns-then-not-is_counted-clause-failed g c is =
-    bring_lost (g.D.SectorDevice.state c.args.device.now) c.args.memory.now _ c.file.result c.args.address (not c.is_hidden-lives.result)
-    (file_is c.args.key.code c.file.result c.file.ensures.file) (omega (arith, c.file.ensures.few)) c.requires.at c.requires.above
-    (ap not c.is_hidden-lives.ensures) (search rules)
+pub returns-then-not-is_counted-clause-ends : goal.returns-then-not-is_counted-clause-ends
+returns-then-not-is_counted-clause-ends g c = record {
+  full = search rules;
+  failed = λ is.
+      bring_lost (g.D.SectorDevice.state c.args.device.now) c.args.memory.now _ c.file.result c.args.address (not c.is_hidden-lives.result)
+      (file_is c.args.key.code c.file.result c.file.ensures.file) (omega (arith, c.file.ensures.few)) c.requires.at c.requires.above
+      (ap not c.is_hidden-lives.ensures) (search rules);
+  no_failure = search rules;
+}
 
 pub returns-then-address-sectors-clause-prepares : goal.returns-then-address-sectors-clause-prepares
 returns-then-address-sectors-clause-prepares g c =
@@ -39,13 +43,16 @@ returns-then-address-sectors-clause-prepares g c =
     (g.met.D.SectorDevice.lawful c.args.device.now) c.requires.memory
     (looks_none (g.D.SectorDevice.state c.args.device.now)))
 
-pub returns-then-address-sectors-clause-failed : goal.returns-then-address-sectors-clause-failed
-returns-then-address-sectors-clause-failed g c is =
-    let d = g.D.SectorDevice.state c.args.device.now in
-    bring_unread d d c.args.memory.now _ c.file.result c.args.address
-    (file_is c.args.key.code c.file.result c.file.ensures.file) (omega (arith, c.file.ensures.few)) c.requires.at c.requires.above
-    (λ keeps. inr (past_missing d (blocks_of c.args.memory.now.dirty) _ c.args.address
-    (g.met.D.SectorDevice.lawful c.args.device.now) c.requires.above (search rules)))
+pub returns-then-address-sectors-clause-ends : goal.returns-then-address-sectors-clause-ends
+returns-then-address-sectors-clause-ends g c = record {
+  full = search rules;
+  failed = λ is. let d = g.D.SectorDevice.state c.args.device.now in
+      bring_unread d d c.args.memory.now _ c.file.result c.args.address
+      (file_is c.args.key.code c.file.result c.file.ensures.file) (omega (arith, c.file.ensures.few)) c.requires.at c.requires.above
+      (λ keeps. inr (past_missing d (blocks_of c.args.memory.now.dirty) _ c.args.address
+      (g.met.D.SectorDevice.lawful c.args.device.now) c.requires.above (search rules)));
+  no_failure = search rules;
+}
 
 pub returns-in-Err-clause-prepares : goal.returns-in-Err-clause-prepares
 returns-in-Err-clause-prepares g c =
@@ -56,14 +63,17 @@ returns-in-Err-clause-prepares g c =
     prepares_at_most old new c.args.memory.now c.args.memory.now 0 1 (omega arith)
     (prepares_looks old new c.args.memory.now (g.met.D.SectorDevice.lawful c.args.device.now) c.requires.memory looks)
 
-pub returns-in-Err-clause-failed : goal.returns-in-Err-clause-failed
-returns-in-Err-clause-failed g c is =
-    let old = g.D.SectorDevice.state c.args.device.now in
-    let new = g.D.SectorDevice.state c.read_ref.follows.lender-at-none in
-    let lends = subst (Lends old new c.args.address) c.in-Err.is c.read_ref.follows.holds-at-none in
-    bring_unread old new c.args.memory.now _ c.file.result c.args.address
-    (file_is c.args.key.code c.file.result c.file.ensures.file) (omega (arith, c.file.ensures.few)) c.requires.at c.requires.above
-    (lent_missing old new (blocks_of c.args.memory.now.dirty) _ c.args.address _ c.requires.above lends.reads)
+pub returns-in-Err-clause-ends : goal.returns-in-Err-clause-ends
+returns-in-Err-clause-ends g c = record {
+  full = search rules;
+  failed = λ is. let old = g.D.SectorDevice.state c.args.device.now in
+      let new = g.D.SectorDevice.state c.read_ref.follows.lender-at-none in
+      let lends = subst (Lends old new c.args.address) c.in-Err.is c.read_ref.follows.holds-at-none in
+      bring_unread old new c.args.memory.now _ c.file.result c.args.address
+      (file_is c.args.key.code c.file.result c.file.ensures.file) (omega (arith, c.file.ensures.few)) c.requires.at c.requires.above
+      (lent_missing old new (blocks_of c.args.memory.now.dirty) _ c.args.address _ c.requires.above lends.reads);
+  no_failure = search rules;
+}
 
 pub returns-in-Ok-clause-prepares : goal.returns-in-Ok-clause-prepares
 returns-in-Ok-clause-prepares g c =

@@ -18,13 +18,20 @@ pub returns-then-address-eq-IN_MEMORY-clause-prepares : goal.returns-then-addres
 returns-then-address-eq-IN_MEMORY-clause-prepares g c = prepares_none (g.D.SectorDevice.state c.args.device.now) c.args.memory.now
     c.args.memory.now 1 refl (g.met.D.SectorDevice.lawful c.args.device.now) c.requires.memory
 
-pub returns-then-address-eq-IN_MEMORY-clause-failed : goal.returns-then-address-eq-IN_MEMORY-clause-failed
-returns-then-address-eq-IN_MEMORY-clause-failed g c is =
-    not_inside (g.D.SectorDevice.state c.args.device.now) c.args.memory.now _ _ (file_is c.args.key.code _ refl)
-    (subst (IsAtAddress _ _ _) c.if-address-eq-IN_MEMORY.true c.known_pointer-address.ensures) (c.if-has_block.ensures.no (search rules))
+pub returns-then-address-eq-IN_MEMORY-clause-ends : goal.returns-then-address-eq-IN_MEMORY-clause-ends
+returns-then-address-eq-IN_MEMORY-clause-ends g c = record {
+  full = search rules;
+  failed = λ is. not_inside (g.D.SectorDevice.state c.args.device.now) c.args.memory.now _ _ (file_is c.args.key.code _ refl)
+      (subst (IsAtAddress _ _ _) c.if-address-eq-IN_MEMORY.true c.known_pointer-address.ensures) (c.if-has_block.ensures.no (search rules));
+  no_failure = search rules;
+}
 
-pub returns-in-Err-clause-failed : goal.returns-in-Err-clause-failed
-returns-in-Err-clause-failed g c is = c.in-Err.ensures.failed (search rules)
+pub returns-in-Err-clause-ends : goal.returns-in-Err-clause-ends
+returns-in-Err-clause-ends g c = record {
+  full = λ is. c.in-Err.ensures.ends.full (search rules);
+  failed = λ is. c.in-Err.ensures.ends.failed (search rules);
+  no_failure = search rules;
+}
 
 pub returns-then-address-eq0-clause-gathers : goal.returns-then-address-eq0-clause-gathers
 returns-then-address-eq0-clause-gathers g c = gathers_looks (g.D.SectorDevice.state c.args.device.now)

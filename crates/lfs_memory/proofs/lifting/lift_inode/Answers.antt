@@ -23,20 +23,27 @@ pub returns-then-address-eq-IN_MEMORY-clause-prepares : goal.returns-then-addres
 returns-then-address-eq-IN_MEMORY-clause-prepares g c = prepares_none (g.D.SectorDevice.state c.args.device.now) c.args.memory.now
     c.args.memory.now 1 refl (g.met.D.SectorDevice.lawful c.args.device.now) c.requires.memory
 
-pub returns-then-address-eq-IN_MEMORY-clause-failed : goal.returns-then-address-eq-IN_MEMORY-clause-failed
-returns-then-address-eq-IN_MEMORY-clause-failed g c is =
-    not_inside (g.D.SectorDevice.state c.args.device.now) c.args.memory.now _ _ (file_is c.inode-key.result.code _ refl) (inode_stands
-    c.args.memory.now _ c.args.number 1 c.inode-key.ensures
-    (sym (c.inode_pointer-address.ensures.some c.if-address-eq0.false).1 ∙ c.if-address-eq-IN_MEMORY.true))
-    (c.if-has_block.ensures.no (search rules))
+pub returns-then-address-eq-IN_MEMORY-clause-ends : goal.returns-then-address-eq-IN_MEMORY-clause-ends
+returns-then-address-eq-IN_MEMORY-clause-ends g c = record {
+  full = search rules;
+  failed = λ is.
+      not_inside (g.D.SectorDevice.state c.args.device.now) c.args.memory.now _ _ (file_is c.inode-key.result.code _ refl) (inode_stands
+      c.args.memory.now _ c.args.number 1 c.inode-key.ensures
+      (sym (c.inode_pointer-address.ensures.some c.if-address-eq0.false).1 ∙ c.if-address-eq-IN_MEMORY.true))
+      (c.if-has_block.ensures.no (search rules));
+  no_failure = search rules;
+}
 
 pub returns-in-Err-clause-prepares : goal.returns-in-Err-clause-prepares
 returns-in-Err-clause-prepares g c = prepares_none (g.D.SectorDevice.state c.args.device.now) c.args.memory.now c.lift_map_of.new.memory 1
     c.in-Err.ensures.same (g.met.D.SectorDevice.lawful c.args.device.now) c.requires.memory
 
-pub returns-in-Err-clause-failed : goal.returns-in-Err-clause-failed
-returns-in-Err-clause-failed g c is =
-    map_lost (g.D.SectorDevice.state c.args.device.now) c.args.memory.now (c.args.number / 128) c.in-Err.ensures.lost
+pub returns-in-Err-clause-ends : goal.returns-in-Err-clause-ends
+returns-in-Err-clause-ends g c = record {
+  full = search rules;
+  failed = λ is. map_lost (g.D.SectorDevice.state c.args.device.now) c.args.memory.now (c.args.number / 128) c.in-Err.ensures.lost;
+  no_failure = search rules;
+}
 
 pub returns-in-Ok-lift-clause-prepares : goal.returns-in-Ok-lift-clause-prepares
 returns-in-Ok-lift-clause-prepares g c =
@@ -52,13 +59,16 @@ returns-in-Err-lift-clause-prepares g c =
     (map_of_prepares (g.D.SectorDevice.state c.args.device.now) c.args.memory.now c.lift_map_of.new.memory (c.args.number / 128)
     (g.met.D.SectorDevice.lawful c.args.device.now) c.requires.memory c.in-Ok.ensures.done) c.lift.ensures.prepares
 
-pub returns-in-Err-lift-clause-failed : goal.returns-in-Err-lift-clause-failed
-returns-in-Err-lift-clause-failed g c is =
-    prepares_excused (g.D.SectorDevice.state c.args.device.now) (g.D.SectorDevice.state c.args.device.now)
-    (g.D.SectorDevice.state c.lift.new.device) c.args.memory.now c.lift_map_of.new.memory 0
-    (map_of_prepares (g.D.SectorDevice.state c.args.device.now) c.args.memory.now c.lift_map_of.new.memory (c.args.number / 128)
-    (g.met.D.SectorDevice.lawful c.args.device.now) c.requires.memory c.in-Ok.ensures.done) c.lift.ensures.prepares.looks
-    (c.in-Err-lift.ensures.failed (search rules))
+pub returns-in-Err-lift-clause-ends : goal.returns-in-Err-lift-clause-ends
+returns-in-Err-lift-clause-ends g c = record {
+  full = λ is. c.in-Err-lift.ensures.ends.full (search rules);
+  failed = λ is. prepares_excused (g.D.SectorDevice.state c.args.device.now) (g.D.SectorDevice.state c.args.device.now)
+      (g.D.SectorDevice.state c.lift.new.device) c.args.memory.now c.lift_map_of.new.memory 0
+      (map_of_prepares (g.D.SectorDevice.state c.args.device.now) c.args.memory.now c.lift_map_of.new.memory (c.args.number / 128)
+      (g.met.D.SectorDevice.lawful c.args.device.now) c.requires.memory c.in-Ok.ensures.done) c.lift.ensures.prepares.looks
+      (c.in-Err-lift.ensures.ends.failed (search rules));
+  no_failure = search rules;
+}
 
 pub returns-then-address-eq0-clause-gathers : goal.returns-then-address-eq0-clause-gathers
 returns-then-address-eq0-clause-gathers g c = gathers_looks (g.D.SectorDevice.state c.args.device.now)

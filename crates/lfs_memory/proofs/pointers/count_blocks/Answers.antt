@@ -1,5 +1,5 @@
-use Rattle.std.proofs.Common.{◌≡◌, arith}
-use Rattle.lfs_memory.proofs.Going.{on_err}
+use Rattle.std.proofs.Common.{◌≡◌, arith, rules}
+use Rattle.lfs_memory.proofs.Going.{err_ok, on_err}
 use Rattle.lfs_memory.proofs.PointerRuns.{counted_none, counted_more, counted_fault, counted_all}
 use Rattle.lfs_memory.proofs.pointers.count_blocks.Goals as goal
 
@@ -28,12 +28,15 @@ loop-at-preserved g c =
           part.answer;
     }
 
-pub returns-in_err-part-clause-failed : goal.returns-in_err-part-clause-failed
-returns-in_err-part-clause-failed g c =
-    on_err c.from_residual.result _
-    (counted_fault (g.D.SectorDevice.state c.args.device.now) (g.D.SectorDevice.state c.loop-at.device)
-    (g.D.SectorDevice.state c.count_part.new.device) c.args.memory.now c.args.number
-    c.args.from c.loop-at.at c.loop-at.count c.loop-at.invariant.counted c.in_err-part.ensures.looks.failed)
+pub returns-in_err-part-clause-looks : goal.returns-in_err-part-clause-looks
+returns-in_err-part-clause-looks g c = record {
+  failed = on_err c.from_residual.result _
+      (counted_fault (g.D.SectorDevice.state c.args.device.now) (g.D.SectorDevice.state c.loop-at.device)
+      (g.D.SectorDevice.state c.count_part.new.device) c.args.memory.now c.args.number
+      c.args.from c.loop-at.at c.loop-at.count c.loop-at.invariant.counted c.in_err-part.ensures.looks.failed);
+  no_failure = err_ok c.from_residual.result _ _ c.from_residual.ensures;
+  looks = search rules;
+}
 
 pub returns-clause-answer : goal.returns-clause-answer
 returns-clause-answer g c =

@@ -16,4 +16,4 @@ returns-then-is_kept_for-clause-some g c some =
 pub returns-clause-kept : goal.returns-clause-kept
 returns-clause-kept g c =
     run_still (g.D.SectorDevice.state c.args.device.now) (g.D.SectorDevice.state c.locate_block.new.device) c.args.memory.now
-    c.args.kept.now c.locate_block.ensures.looks c.requires.kept
+    c.args.kept.now c.locate_block.ensures.looks.looks c.requires.kept

@@ -1,4 +1,5 @@
-use Rattle.lfs_memory.proofs.Going.{on_err}
+use Rattle.std.proofs.Common.{rules}
+use Rattle.lfs_memory.proofs.Going.{err_ok, on_err}
 use Rattle.lfs_memory.proofs.Presents.{block_absent, block_answered, block_failed}
 use Rattle.lfs_memory.proofs.PointerRuns.{run_still}
 use Rattle.lfs_memory.proofs.pointers.read_block.Goals as goal
@@ -13,25 +14,30 @@ pub returns-clause-answer : goal.returns-clause-answer
 returns-clause-answer g c =
     block_answered (g.D.SectorDevice.state c.args.device.now) (g.D.SectorDevice.state c.find_by_run.new.device)
     (g.D.SectorDevice.state c.read_present.new.device) c.args.memory.now
-    c.args.number c.args.index c.in_ok-address.address _ c.in_ok-address.ensures.looks.looks c.read_present.ensures.looks c.data-key.ensures
+    c.args.number c.args.index c.in_ok-address.address _ c.in_ok-address.ensures.looks.looks c.read_present.ensures.ends.looks
+    c.data-key.ensures
     c.in_ok-address.ensures.answer
     c.read_present.new.out c.if-address-eq0.false c.in_ok-read_present.ensures.read
 
-pub returns-in_err-read_present-clause-failed : goal.returns-in_err-read_present-clause-failed
-returns-in_err-read_present-clause-failed g c =
-    on_err c.from_residual-in_err-read_present.result _
-    (block_failed (g.D.SectorDevice.state c.args.device.now) (g.D.SectorDevice.state c.find_by_run.new.device)
-    (g.D.SectorDevice.state c.read_present.new.device) c.args.memory.now
-    c.args.number c.args.index c.in_ok-address.address _ c.in_ok-address.ensures.looks.looks c.read_present.ensures.looks c.data-key.ensures
-    c.in_ok-address.ensures.answer
-    c.if-address-eq0.false c.in_err-read_present.ensures.unread)
+pub returns-in_err-read_present-clause-looks : goal.returns-in_err-read_present-clause-looks
+returns-in_err-read_present-clause-looks g c = record {
+  failed = on_err c.from_residual-in_err-read_present.result _
+      (block_failed (g.D.SectorDevice.state c.args.device.now) (g.D.SectorDevice.state c.find_by_run.new.device)
+      (g.D.SectorDevice.state c.read_present.new.device) c.args.memory.now
+      c.args.number c.args.index c.in_ok-address.address _ c.in_ok-address.ensures.looks.looks c.read_present.ensures.ends.looks
+      c.data-key.ensures
+      c.in_ok-address.ensures.answer
+      c.if-address-eq0.false c.in_err-read_present.ensures.ends.unread);
+  no_failure = err_ok c.from_residual-in_err-read_present.result _ _ c.from_residual-in_err-read_present.ensures;
+  looks = search rules;
+}
 
 pub returns-clause-kept : goal.returns-clause-kept
 returns-clause-kept g c =
     run_still (g.D.SectorDevice.state c.find_by_run.new.device) (g.D.SectorDevice.state c.read_present.new.device) c.args.memory.now
-    c.find_by_run.new.kept c.read_present.ensures.looks c.find_by_run.ensures.kept
+    c.find_by_run.new.kept c.read_present.ensures.ends.looks c.find_by_run.ensures.kept
 
 pub returns-in_err-read_present-clause-kept : goal.returns-in_err-read_present-clause-kept
 returns-in_err-read_present-clause-kept g c =
     run_still (g.D.SectorDevice.state c.find_by_run.new.device) (g.D.SectorDevice.state c.read_present.new.device) c.args.memory.now
-    c.find_by_run.new.kept c.read_present.ensures.looks c.find_by_run.ensures.kept
+    c.find_by_run.new.kept c.read_present.ensures.ends.looks c.find_by_run.ensures.kept

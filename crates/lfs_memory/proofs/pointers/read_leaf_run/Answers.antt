@@ -11,7 +11,7 @@ returns-in-Ok-clause-read g c =
     let read = c.in_ok-first.ensures.read in
     leaf_run (g.D.SectorDevice.state c.args.device.now) (g.D.SectorDevice.state c.present_word.new.device)
     (g.D.SectorDevice.state c.leaf_pointers.new.device) c.args.memory.now c.args.number c.args.leaf
-    c.args.address c.in_ok-first.first _ read.shown c.in_ok-first.ensures.looks
+    c.args.address c.in_ok-first.first _ read.shown c.in_ok-first.ensures.ends.looks
     (record {
       untouched = c.leaf_pointers.ensures.follows.looks.untouched;
       carries = c.leaf_pointers.ensures.follows.looks.carries;
@@ -30,9 +30,9 @@ returns-in_err-first-clause-looks g c =
           (inode_failed (g.D.SectorDevice.state c.args.device.now) (g.D.SectorDevice.state c.present_word.new.device) c.args.memory.now
           c.args.number c.args.address _
           c.requires.inode.is c.inode-inode.ensures (let some = c.requires.inode.there in λ none. omega (arith, some, none))
-          c.in_err-first.ensures.unread);
+          c.in_err-first.ensures.ends.unread);
       no_failure = err_ok c.from_residual.result _ _ c.from_residual.ensures;
-      looks = c.present_word.ensures.looks;
+      looks = c.present_word.ensures.ends.looks;
     }
 
 pub returns-in-Err-clause-looks : goal.returns-in-Err-clause-looks
@@ -42,7 +42,7 @@ returns-in-Err-clause-looks g c =
       failed =
           leaf_run_failed (g.D.SectorDevice.state c.args.device.now) (g.D.SectorDevice.state c.present_word.new.device)
           (g.D.SectorDevice.state c.leaf_pointers.new.device) c.args.memory.now c.args.number c.args.leaf
-          c.args.address c.in_ok-first.first _ read.shown c.in_ok-first.ensures.looks
+          c.args.address c.in_ok-first.first _ read.shown c.in_ok-first.ensures.ends.looks
           (record {
             untouched = c.leaf_pointers.ensures.follows.looks.untouched;
             carries = c.leaf_pointers.ensures.follows.looks.carries;

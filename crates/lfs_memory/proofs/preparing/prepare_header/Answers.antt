@@ -25,5 +25,5 @@ returns-in_err-lift_inode-clause-failed g c is =
     named_excused (g.D.SectorDevice.state c.args.device.now) (g.D.SectorDevice.state c.lift_inode.new.device) c.args.memory.now
     c.prepare_name.new.memory c.lift_inode.new.memory (c.args.number / 128)
     (g.met.D.SectorDevice.lawful c.args.device.now) c.requires.memory c.in-Ok.ensures.done c.lift_inode.ensures.prepares
-    (c.in_err-lift_inode.ensures.failed
+    (c.in_err-lift_inode.ensures.ends.failed
     (passed_on c.from_residual.result c.in_err-lift_inode.field-0.0 _ c.from_residual.ensures is))

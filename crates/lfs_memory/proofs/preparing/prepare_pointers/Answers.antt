@@ -5,8 +5,8 @@ use Rattle.lfs_memory.proofs.preparing.prepare_pointers.Goals as goal
 
 pub returns-in-Err-clause-ends : goal.returns-in-Err-clause-ends
 returns-in-Err-clause-ends g c = record {
-  full = λ is. c.in-Err.ensures.full (other_result c.in-Err.fault _ is);
-  failed = λ is. c.in-Err.ensures.failed (other_result c.in-Err.fault _ is);
+  full = λ is. c.in-Err.ensures.ends.full (other_result c.in-Err.fault _ is);
+  failed = λ is. c.in-Err.ensures.ends.failed (other_result c.in-Err.fault _ is);
   no_failure = tt;
 }
 

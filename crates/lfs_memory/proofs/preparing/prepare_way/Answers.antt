@@ -8,13 +8,13 @@ use Rattle.lfs_memory.proofs.preparing.prepare_way.Goals as goal
 pub returns-in_err-found-clause-failed : goal.returns-in_err-found-clause-failed
 returns-in_err-found-clause-failed g c is =
     excused_within (g.D.SectorDevice.state c.args.device.now) (g.D.SectorDevice.state c.lift_inode.new.device) c.args.memory.now
-    c.args.number c.args.index (c.in_err-found.ensures.failed
+    c.args.edit.now.number c.args.edit.now.index (c.in_err-found.ensures.ends.failed
     (passed_on c.from_residual.result c.in_err-found.field-0.0 _ c.from_residual.ensures is))
 
 pub returns-then-not-found-clause-failed : goal.returns-then-not-found-clause-failed
 returns-then-not-found-clause-failed g c _ =
     absent_within (g.D.SectorDevice.state c.args.device.now) (g.D.SectorDevice.state c.lift_inode.new.device) c.args.memory.now
-    c.args.number c.args.index c.if-index-lt-DIRECT_BLOCKS.false
+    c.args.edit.now.number c.args.edit.now.index c.if-edit-lt-DIRECT_BLOCKS.false
     (c.in_ok-found.ensures.absent (search rules))
 
 pub returns-clause-prepares : goal.returns-clause-prepares
@@ -26,13 +26,14 @@ returns-clause-prepares g c =
 
 pub returns-clause-ready : goal.returns-clause-ready
 returns-clause-ready g c =
-    ok_then c.prepare_leaf.result _ _ (way_high c.prepare_leaf.new.memory c.args.number c.args.index c.if-index-lt-DIRECT_BLOCKS.false)
+    ok_then c.prepare_leaf.result _ _
+    (way_high c.prepare_leaf.new.memory c.args.edit.now.number c.args.edit.now.index c.if-edit-lt-DIRECT_BLOCKS.false)
     c.prepare_leaf.ensures.inside
 
 pub returns-clause-failed : goal.returns-clause-failed
 returns-clause-failed g c is =
     excused_within (g.D.SectorDevice.state c.args.device.now) (g.D.SectorDevice.state c.prepare_leaf.new.device) c.args.memory.now
-    c.args.number c.args.index
+    c.args.edit.now.number c.args.edit.now.index
     (prepares_excused (g.D.SectorDevice.state c.args.device.now) (g.D.SectorDevice.state c.lift_inode.new.device)
     (g.D.SectorDevice.state c.prepare_leaf.new.device) c.args.memory.now
     c.lift_inode.new.memory 1 c.lift_inode.ensures.prepares c.prepare_leaf.ensures.prepares.looks (c.prepare_leaf.ensures.ends.failed is))

@@ -1,4 +1,4 @@
-use Rattle.std.proofs.Common.{refl}
+use Rattle.std.proofs.Common.{refl, rules}
 use Rattle.lfs_model.specs.Memory.{IsOfFile}
 use Rattle.lfs_inodes.specs.Key.{entry_of}
 use Rattle.lfs_memory.proofs.Going.{err_then, if_ok_then}
@@ -23,7 +23,7 @@ returns-clause-answer g t c =
     if_ok_then c.present_word.result _ _
     (λ found read. located_found (g.D.SectorDevice.state c.args.device.now) (g.D.SectorDevice.state c.locate.new.device)
     (g.D.SectorDevice.state c.present_word.new.device) c.args.memory.now
-    (entry_of c.in-Some.above) c.in_ok-address.address c.in_ok-address.ensures.looks c.present_word.ensures.looks file
+    (entry_of c.in-Some.above) c.in_ok-address.address c.in_ok-address.ensures.looks.looks c.present_word.ensures.ends.looks file
     c.in_ok-address.ensures.answer c.if-address-eq0.false
     (entry_of c.args.key) c.pointer.result found c.in-Some.ensures.some.0
     (below_above c.args.key.code c.in-Some.above.code c.args.key.formed c.in-Some.above.formed c.in-Some.ensures.some.1
@@ -31,12 +31,15 @@ returns-clause-answer g t c =
     (leaf_low c.args.key.code c.args.key.formed) c.pointer.ensures.pointer read)
     c.present_word.ensures.read
 
-pub returns-clause-failed : goal.returns-clause-failed
-returns-clause-failed g t c =
-    let file : IsOfFile (entry_of c.in-Some.above) = (_, file_is c.in-Some.above.code _ refl) in
-    err_then c.present_word.result _ _
-    (located_failed (g.D.SectorDevice.state c.args.device.now) (g.D.SectorDevice.state c.locate.new.device)
-    (g.D.SectorDevice.state c.present_word.new.device) c.args.memory.now
-    (entry_of c.in-Some.above) c.in_ok-address.address c.in_ok-address.ensures.looks c.present_word.ensures.looks file
-    c.in_ok-address.ensures.answer c.if-address-eq0.false)
-    c.present_word.ensures.unread
+pub returns-clause-looks : goal.returns-clause-looks
+returns-clause-looks g t c = record {
+  failed = let file : IsOfFile (entry_of c.in-Some.above) = (_, file_is c.in-Some.above.code _ refl) in
+      err_then c.present_word.result _ _
+      (located_failed (g.D.SectorDevice.state c.args.device.now) (g.D.SectorDevice.state c.locate.new.device)
+      (g.D.SectorDevice.state c.present_word.new.device) c.args.memory.now
+      (entry_of c.in-Some.above) c.in_ok-address.address c.in_ok-address.ensures.looks.looks c.present_word.ensures.ends.looks file
+      c.in_ok-address.ensures.answer c.if-address-eq0.false)
+      c.present_word.ensures.ends.unread;
+  no_failure = search rules;
+  looks = search rules;
+}

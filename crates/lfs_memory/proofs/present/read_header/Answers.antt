@@ -1,5 +1,5 @@
-use Rattle.std.proofs.Common.{refl, true}
-use Rattle.lfs_memory.proofs.Going.{on_err}
+use Rattle.std.proofs.Common.{refl, true, rules}
+use Rattle.lfs_memory.proofs.Going.{err_ok, on_err}
 use Rattle.lfs_memory.proofs.Presents.{header_absent, header_read, inode_answered, inode_failed}
 use Rattle.lfs_memory.proofs.present.read_header.Goals as goal
 
@@ -18,9 +18,13 @@ returns-clause-answer g c =
     (c.inode_pointer-address.ensures.some c.if-address-eq0.false).1 c.inode.ensures c.if-address-eq0.false read.shown read.value) refl
     read.is
 
-pub returns-in_err-header-clause-failed : goal.returns-in_err-header-clause-failed
-returns-in_err-header-clause-failed g c =
-    on_err c.from_residual.result _
-    (inode_failed (g.D.SectorDevice.state c.args.device.now) (g.D.SectorDevice.state c.present_header.new.device) c.args.memory.now
-    c.args.number c.inode_pointer-address.result _
-    (c.inode_pointer-address.ensures.some c.if-address-eq0.false).1 c.inode.ensures c.if-address-eq0.false c.in_err-header.ensures.unread)
+pub returns-in_err-header-clause-looks : goal.returns-in_err-header-clause-looks
+returns-in_err-header-clause-looks g c = record {
+  failed = on_err c.from_residual.result _
+      (inode_failed (g.D.SectorDevice.state c.args.device.now) (g.D.SectorDevice.state c.present_header.new.device) c.args.memory.now
+      c.args.number c.inode_pointer-address.result _
+      (c.inode_pointer-address.ensures.some c.if-address-eq0.false).1 c.inode.ensures c.if-address-eq0.false
+      c.in_err-header.ensures.ends.unread);
+  no_failure = err_ok c.from_residual.result _ _ c.from_residual.ensures;
+  looks = search rules;
+}

@@ -1,4 +1,5 @@
-use Rattle.lfs_memory.proofs.Going.{on_err}
+use Rattle.std.proofs.Common.{rules}
+use Rattle.lfs_memory.proofs.Going.{err_ok, on_err}
 use Rattle.lfs_memory.proofs.Presents.{header_absent, inode_answered, inode_failed}
 use Rattle.lfs_memory.proofs.present.read_inode.Goals as goal
 
@@ -13,9 +14,12 @@ returns-clause-answer g c =
     c.args.number c.inode_pointer-address.result _ (c.inode_pointer-address.ensures.some c.if-address-eq0.false).1 c.inode.ensures
     c.if-address-eq0.false c.read_present.new.out c.in_ok-read_present.ensures.read
 
-pub returns-in_err-read_present-clause-failed : goal.returns-in_err-read_present-clause-failed
-returns-in_err-read_present-clause-failed g c =
-    on_err c.from_residual.result _
-    (inode_failed (g.D.SectorDevice.state c.args.device.now) (g.D.SectorDevice.state c.read_present.new.device) c.args.memory.now
-    c.args.number c.inode_pointer-address.result _ (c.inode_pointer-address.ensures.some c.if-address-eq0.false).1 c.inode.ensures
-    c.if-address-eq0.false c.in_err-read_present.ensures.unread)
+pub returns-in_err-read_present-clause-looks : goal.returns-in_err-read_present-clause-looks
+returns-in_err-read_present-clause-looks g c = record {
+  failed = on_err c.from_residual.result _
+      (inode_failed (g.D.SectorDevice.state c.args.device.now) (g.D.SectorDevice.state c.read_present.new.device) c.args.memory.now
+      c.args.number c.inode_pointer-address.result _ (c.inode_pointer-address.ensures.some c.if-address-eq0.false).1 c.inode.ensures
+      c.if-address-eq0.false c.in_err-read_present.ensures.ends.unread);
+  no_failure = err_ok c.from_residual.result _ _ c.from_residual.ensures;
+  looks = search rules;
+}

@@ -25,7 +25,7 @@ returns-in_err-count_file-clause-prepares g c =
     (prepares_then old old new c.args.memory.now c.lift_map_of.new.memory c.lift_map_of.new.memory 0 0
     (g.met.D.SectorDevice.lawful c.args.device.now) first
     (prepares_looks old new c.lift_map_of.new.memory (g.met.D.SectorDevice.lawful c.args.device.now) first.memory
-    c.count_file.ensures.looks))
+    c.count_file.ensures.looks.looks))
 
 pub returns-in_err-count_file-clause-failed : goal.returns-in_err-count_file-clause-failed
 returns-in_err-count_file-clause-failed g c =
@@ -34,8 +34,8 @@ returns-in_err-count_file-clause-failed g c =
     let first = map_of_prepares old c.args.memory.now c.lift_map_of.new.memory (c.args.number / 128)
     (g.met.D.SectorDevice.lawful c.args.device.now) c.requires.memory c.in_ok-lift_map_of.ensures.done in
     on_err c.from_residual-in_err-count_file.result _
-    (prepares_excused old old new c.args.memory.now c.lift_map_of.new.memory 0 first c.count_file.ensures.looks
-    c.in_err-count_file.ensures.failed)
+    (prepares_excused old old new c.args.memory.now c.lift_map_of.new.memory 0 first c.count_file.ensures.looks.looks
+    c.in_err-count_file.ensures.looks.failed)
 
 pub returns-then-not-are_covered-clause-prepares : goal.returns-then-not-are_covered-clause-prepares
 returns-then-not-are_covered-clause-prepares g c =
@@ -46,7 +46,7 @@ returns-then-not-are_covered-clause-prepares g c =
     prepares_then old old new c.args.memory.now c.lift_map_of.new.memory c.lift_map_of.new.memory 0 0
     (g.met.D.SectorDevice.lawful c.args.device.now) first
     (prepares_looks old new c.lift_map_of.new.memory (g.met.D.SectorDevice.lawful c.args.device.now) first.memory
-    c.count_file.ensures.looks)
+    c.count_file.ensures.looks.looks)
 
 pub returns-then-not-are_covered-clause-failed : goal.returns-then-not-are_covered-clause-failed
 returns-then-not-are_covered-clause-failed g c =
@@ -56,7 +56,7 @@ returns-then-not-are_covered-clause-failed g c =
     (g.met.D.SectorDevice.lawful c.args.device.now) c.requires.memory c.in_ok-lift_map_of.ensures.done in
     uncovered_excused old new c.args.memory.now c.lift_map_of.new.memory c.args.number
     (not c.is_hidden-lives.result) c.count_file.new.counts (g.met.D.SectorDevice.lawful c.args.device.now) first
-    c.count_file.ensures.looks c.requires.number (ap not c.is_hidden-lives.ensures) c.in_ok-count_file.ensures.counted
+    c.count_file.ensures.looks.looks c.requires.number (ap not c.is_hidden-lives.ensures) c.in_ok-count_file.ensures.counted
     (c.if-not-are_covered.ensures.no (search rules))
 
 pub returns-clause-removed : goal.returns-clause-removed
@@ -67,5 +67,5 @@ returns-clause-removed g c =
     (g.met.D.SectorDevice.lawful c.args.device.now) c.requires.memory c.in_ok-lift_map_of.ensures.done in
     file_removed old new c.args.memory.now c.lift_map_of.new.memory c.args.number (not c.is_hidden-lives.result) c.count_file.new.counts
     (g.met.D.SectorDevice.lawful c.args.device.now) first
-    c.count_file.ensures.looks c.requires.number (ap not c.is_hidden-lives.ensures) c.in_ok-count_file.ensures.counted
+    c.count_file.ensures.looks.looks c.requires.number (ap not c.is_hidden-lives.ensures) c.in_ok-count_file.ensures.counted
     c.drop_file.new.memory c.drop_file.ensures c.in_ok-lift_map_of.ensures.mapped

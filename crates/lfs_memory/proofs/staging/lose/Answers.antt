@@ -16,7 +16,7 @@ returns-in-Blocks-clause-done g c =
 pub returns-in-Blocks-clause-failed : goal.returns-in-Blocks-clause-failed
 returns-in-Blocks-clause-failed g c is =
     loss_excused (g.D.SectorDevice.state c.args.device.now) (g.D.SectorDevice.state c.cut_file.new.device) c.args.memory.now c.args.loss
-    (c.cut_file.ensures.failed is)
+    (c.cut_file.ensures.ends.failed is)
 
 pub returns-in-Link-clause-done : goal.returns-in-Link-clause-done
 returns-in-Link-clause-done g c =

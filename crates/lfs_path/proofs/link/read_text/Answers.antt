@@ -13,7 +13,7 @@ loop-index-preserved g c =
     read_goes_on c.args.link.number.value c.args.link.header.size (g.F.Files.state c.args.files.now) (g.F.Files.state c.loop-index.files)
     (g.F.Files.state c.read_block.new.files)
     c.loop-index.index c.min-count.result c.loop-index.text.items c.read_block.new.text.items low is c.loop-index.invariant
-    (g.met.F.Files.lawful c.args.files.now) c.read_block.ensures.reads c.in_ok-read_block.ensures.done
+    (g.met.F.Files.lawful c.args.files.now) c.read_block.ensures.walks.reads c.in_ok-read_block.ensures.done
 
 pub returns-clause-answer : goal.returns-clause-answer
 returns-clause-answer g c =

@@ -4,14 +4,13 @@ use Rattle.lfs_model.specs.Objects.{is_stored}
 use Rattle.lfs_files.specs.declared.fault.LogFault.{LogFault}
 use Rattle.lfs_store.specs.Keeping.{ReadsLog}
 use Rattle.lfs_store.proofs.Endings.{same_exit}
-use Rattle.lfs_store.proofs.Keepings.{looked_at, looked_done, looked_fails}
-use Rattle.lfs_store.proofs.Measured.{log_count, counted_more, counts_stored}
+use Rattle.lfs_store.proofs.Keepings.{looked_done, looked_fails}
+use Rattle.lfs_store.proofs.Measured.{log_count, counted_more, counted_none, counts_stored}
 use Rattle.lfs_store.proofs.measuring.count_stored.Goals as goal
 
 pub returns-then-not-changes_blocks-clause-reads : goal.returns-then-not-changes_blocks-clause-reads
 returns-then-not-changes_blocks-clause-reads g c =
-    looked_at g.D.SectorDevice.state c.args.log.now c.count_blocks.new.self c.count_blocks.result c.count_blocks.ensures.reads
-    c.count_blocks.ensures.failed c.count_blocks.ensures.halted c.count_blocks.ensures.other
+    c.count_blocks.ensures.keeps
 
 pub returns-then-not-changes_blocks-clause-answer : goal.returns-then-not-changes_blocks-clause-answer
 returns-then-not-changes_blocks-clause-answer g c =
@@ -24,6 +23,10 @@ returns-in_err-is_stored-clause-reads g c =
     (λ (r : Result ℕ LogFault). ReadsLog g.D.SectorDevice.state c.args.log.now c.is_stored.new.log r) c.from_residual.ensures
     (looked_fails g.D.SectorDevice.state Bool ℕ c.args.log.now c.loop-index.log c.is_stored.new.log c.in_err-is_stored.field-0.0
     (g.met.D.SectorDevice.lawful c.args.log.now.device) c.loop-index.invariant.reads c.in_err-is_stored.ensures.reads)
+
+pub loop-index-init : goal.loop-index-init
+loop-index-init g c =
+    counted_none g.D.SectorDevice.state (λ m. is_stored m c.args.number.value) c.args.log.now c.args.draft.now.changes c.args.from
 
 pub loop-index-preserved : goal.loop-index-preserved
 loop-index-preserved g c =

@@ -6,7 +6,7 @@ use Rattle.lfs_files.specs.declared.fault.LogFault.{LogFault}
 use Rattle.lfs_store.specs.Keeping.{ReadsLog}
 use Rattle.lfs_store.specs.Measuring.{TellsLeaf}
 use Rattle.lfs_store.proofs.Endings.{same_exit}
-use Rattle.lfs_store.proofs.Keepings.{looked_at, looked_done, looked_fails}
+use Rattle.lfs_store.proofs.Keepings.{looked_done, looked_fails}
 use Rattle.lfs_store.proofs.LogReads.{reads_more}
 use Rattle.lfs_store.proofs.Measured.{counted_more, counted_none, log_double}
 use Rattle.lfs_store.proofs.Measures.{double_missed, double_told}
@@ -15,8 +15,7 @@ use Rattle.lfs_store.proofs.measuring.has_double.Goals as goal
 
 pub returns-then-not-changes_blocks-clause-reads : goal.returns-then-not-changes_blocks-clause-reads
 returns-then-not-changes_blocks-clause-reads g c =
-    looked_at g.D.SectorDevice.state c.args.log.now c.has_double.new.self c.has_double.result c.has_double.ensures.reads
-    c.has_double.ensures.failed c.has_double.ensures.halted c.has_double.ensures.other
+    c.has_double.ensures.keeps
 
 pub returns-then-not-changes_blocks-clause-answer : goal.returns-then-not-changes_blocks-clause-answer
 returns-then-not-changes_blocks-clause-answer g c =

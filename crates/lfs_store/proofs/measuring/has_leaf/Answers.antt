@@ -4,7 +4,7 @@ use Rattle.lfs_files.specs.declared.fault.LogFault.{LogFault}
 use Rattle.lfs_store.specs.Keeping.{ReadsLog}
 use Rattle.lfs_store.specs.Measuring.{TellsStored}
 use Rattle.lfs_store.proofs.Endings.{same_exit}
-use Rattle.lfs_store.proofs.Keepings.{looked_at, looked_done, looked_fails, looked_more}
+use Rattle.lfs_store.proofs.Keepings.{looked_done, looked_fails}
 use Rattle.lfs_store.proofs.LogReads.{reads_more, reads_none}
 use Rattle.lfs_store.proofs.Measured.{log_leaf, searched_none, searched_more, leaf_found, leaf_empty}
 use Rattle.lfs_store.proofs.measuring.has_leaf.Goals as goal
@@ -18,8 +18,7 @@ returns-then-stores_leaf-clause-answer g c k m0 m keeps is = c.stores_leaf.ensur
 
 pub returns-then-not-changes_blocks-clause-reads : goal.returns-then-not-changes_blocks-clause-reads
 returns-then-not-changes_blocks-clause-reads g c =
-    looked_at g.D.SectorDevice.state c.args.log.now c.has_leaf.new.self c.has_leaf.result c.has_leaf.ensures.reads
-    c.has_leaf.ensures.failed c.has_leaf.ensures.halted c.has_leaf.ensures.other
+    c.has_leaf.ensures.keeps
 
 pub returns-then-not-changes_blocks-clause-answer : goal.returns-then-not-changes_blocks-clause-answer
 returns-then-not-changes_blocks-clause-answer g c =

@@ -1,4 +1,4 @@
-use Rattle.lfs_store.proofs.Keepings.{looked_at, looked_done}
+use Rattle.lfs_store.proofs.Keepings.{looked_done}
 use Rattle.lfs_store.proofs.LogReads.{reads_none}
 use Rattle.lfs_store.proofs.Measured.{log_stored}
 use Rattle.lfs_store.proofs.measuring.is_stored.Goals as goal
@@ -9,8 +9,7 @@ returns-in-Some-clause-reads g c =
 
 pub returns-in-None-clause-reads : goal.returns-in-None-clause-reads
 returns-in-None-clause-reads g c =
-    looked_at g.D.SectorDevice.state c.args.log.now c.has_block.new.self c.has_block.result c.has_block.ensures.reads
-    c.has_block.ensures.failed c.has_block.ensures.halted c.has_block.ensures.other
+    c.has_block.ensures.keeps
 
 pub returns-in-None-clause-answer : goal.returns-in-None-clause-answer
 returns-in-None-clause-answer g c =

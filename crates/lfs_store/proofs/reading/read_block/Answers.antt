@@ -1,4 +1,4 @@
-use Rattle.lfs_store.proofs.Keepings.{looked_at, looked_done}
+use Rattle.lfs_store.proofs.Keepings.{looked_done}
 use Rattle.lfs_store.proofs.LogReads.{reads_none}
 use Rattle.lfs_store.proofs.Readings.{log_block}
 use Rattle.lfs_store.proofs.reading.read_block.Goals as goal
@@ -12,8 +12,7 @@ returns-in-Some-clause-answer g c k m0 m keeps is = c.in-Some.ensures.says m
 
 pub returns-in-None-clause-reads : goal.returns-in-None-clause-reads
 returns-in-None-clause-reads g c =
-    looked_at g.D.SectorDevice.state c.args.log.now c.block-in-None.new.self c.block-in-None.result c.block-in-None.ensures.reads
-    c.block-in-None.ensures.failed c.block-in-None.ensures.halted c.block-in-None.ensures.other
+    c.block-in-None.ensures.keeps
 
 pub returns-in-None-clause-answer : goal.returns-in-None-clause-answer
 returns-in-None-clause-answer g c =

@@ -4,7 +4,8 @@ use Rattle.lfs_cleaner.specs.log.Held.{IsReadFault}
 use Rattle.lfs_files.specs.declared.fault.StoreFault.{StoreFault}
 use Rattle.lfs_files.specs.declared.fault.StoreFault.TheVariants.{NoMemory}
 use Rattle.lfs_store.proofs.Endings.{same_exit}
-use Rattle.lfs_store.proofs.ReadParts.{ReadUpTo, fault_then, read_more, reads_part}
+use Rattle.lfs_store.proofs.LogReads.{fault_more}
+use Rattle.lfs_store.proofs.ReadParts.{ReadUpTo, read_more, reads_part}
 use Rattle.lfs_store.proofs.reading.read_part.Goals as goal
 
 pub loop-at-preserved : goal.loop-at-preserved
@@ -24,7 +25,7 @@ returns-in_err-append-clause-failed g c =
     same_exit c.from_residual.result c.in_err-append.field-0.0
     (λ (r : Result _ StoreFault). IfErr r (λ (fault : StoreFault). (fault ≡ NoMemory → ⊥)
     → IsReadFault g.D.SectorDevice.state c.args.log.now c.append.new.log)) c.from_residual.ensures
-    (λ other. fault_then g.D.SectorDevice.state c.args.log.now c.loop-at.log c.append.new.log c.loop-at.invariant.1.reads
+    (λ other. fault_more g.D.SectorDevice.state c.args.log.now c.loop-at.log c.append.new.log c.loop-at.invariant.1.reads
     (c.in_err-append.ensures.failed other))
 
 pub returns-clause-answer : goal.returns-clause-answer

@@ -1,4 +1,4 @@
-use Rattle.std.proofs.Common.{◌+◌, List, Option, arith, subst, sym, ◌∙◌, refl}
+use Rattle.std.proofs.Common.{◌+◌, List, Option, arith, subst, sym, ◌∙◌}
 use Rattle.lfs_model.proofs.Exits.{any_error}
 use Rattle.lfs_files.specs.declared.header.Header.{Header}
 use Rattle.lfs_verify.proofs.Takes.{looks_then}

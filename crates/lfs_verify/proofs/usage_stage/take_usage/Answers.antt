@@ -1,6 +1,5 @@
-use Rattle.std.proofs.Common.{refl}
-use Rattle.lfs_verify.proofs.Takes.{read_in, unread}
-use Rattle.lfs_verify.proofs.UsageSteps.{read_bytes, usage_passed, says_passed, usage_extra, usage_missing, usage_refused, usage_unread}
+use Rattle.lfs_verify.proofs.Takes.{block_missed, block_taken}
+use Rattle.lfs_verify.proofs.UsageSteps.{read_bytes, usage_passed, says_passed, usage_extra, usage_missing, usage_missed}
 use Rattle.lfs_verify.proofs.UsageSteps.{usage_undecoded, usage_taken, says_taken, is_extra, is_needed}
 use Rattle.lfs_verify.proofs.usage_stage.take_usage.Goals as goal
 
@@ -29,33 +28,32 @@ returns-then-address-eq0-clause-goes g c = λ d reads w.
     usage_missing d c.args.checkpoint.now c.args.index c.requires.index _ c.segments_of-segments.ensures _ c.usage_address-address.ensures
     c.if-index-segments.false c.if-address-eq0.true
 
-pub returns-then-not-claim-clause-goes : goal.returns-then-not-claim-clause-goes
-returns-then-not-claim-clause-goes g c = λ d reads.
-    usage_refused d c.args.checkpoint.now c.args.index c.requires.index _ c.segments_of-segments.ensures _ c.usage_address-address.ensures
-    c.if-address-eq0.false c.args.marks.now c.args.marks.now
-    (λ o is. let e = c.if-not-claim.ensures.is_open.1 o in absurd (cc))
-
 pub returns-then-not-branch-clause-goes : goal.returns-then-not-branch-clause-goes
 returns-then-not-branch-clause-goes g c = λ d reads.
-    usage_unread d c.args.checkpoint.now c.args.index c.requires.index _ c.segments_of-segments.ensures _ c.usage_address-address.ensures
+    usage_missed d c.args.checkpoint.now c.args.index c.requires.index _ c.segments_of-segments.ensures _ c.usage_address-address.ensures
     c.if-address-eq0.false c.args.marks.now c.args.marks.now
-    (unread d _ _ _ (c.in_ok-fetch.ensures.block d reads) c.if-not-branch.true)
+    (block_missed d c.args.marks.now c.take_block.new.marks _ c.args.index c.take_block.new.out _
+    (c.in_ok-take_block.ensures.takes d reads) c.if-not-branch.true)
 
 pub returns-in_default-clause-goes : goal.returns-in_default-clause-goes
 returns-in_default-clause-goes g c = λ d reads.
-    let read = read_in d _ _ _ (c.in_ok-fetch.ensures.block d reads) c.if-not-branch.false in
-    let bytes = read_bytes _ _ d _ _ (g.met.D.SectorDevice.lawful c.args.device.now).now reads read in
+    let taken = block_taken d c.args.marks.now c.take_block.new.marks _ c.args.index c.take_block.new.out _
+    (c.in_ok-take_block.ensures.takes d reads) c.if-not-branch.false in
+    let bytes = read_bytes _ _ d _ _ (g.met.D.SectorDevice.lawful c.args.device.now).now reads taken.1 in
     usage_undecoded d c.args.checkpoint.now c.args.index c.requires.index _ c.segments_of-segments.ensures _ c.usage_address-address.ensures
     _
-    read c.fetch.array_long bytes c.if-address-eq0.false c.args.marks.now c.args.marks.now c.in_default.ensures.exact
+    taken.1 (c.in_ok-take_block.ensures.long c.if-not-branch.false) bytes c.if-address-eq0.false c.args.marks.now c.args.marks.now
+    c.in_default.ensures.exact
 
 pub returns-clause-goes : goal.returns-clause-goes
 returns-clause-goes g c = λ d reads.
-    let read = read_in d _ _ _ (c.in_ok-fetch.ensures.block d reads) c.if-not-branch.false in
-    let bytes = read_bytes _ _ d _ _ (g.met.D.SectorDevice.lawful c.args.device.now).now reads read in
+    let taken = block_taken d c.args.marks.now c.take_block.new.marks _ c.args.index c.take_block.new.out _
+    (c.in_ok-take_block.ensures.takes d reads) c.if-not-branch.false in
+    let bytes = read_bytes _ _ d _ _ (g.met.D.SectorDevice.lawful c.args.device.now).now reads taken.1 in
     usage_taken d c.args.checkpoint.now c.args.index c.requires.index _ c.segments_of-segments.ensures _ c.usage_address-address.ensures _
-    read c.fetch.array_long bytes c.in-Some.block c.in-Some.ensures.exact c.args.marks.now c.claim.new.marks
-    (c.if-not-claim.ensures.is_open.0 refl) c.if-not-claim.ensures.marked
+    taken.1 (c.in_ok-take_block.ensures.long c.if-not-branch.false) bytes c.in-Some.block c.in-Some.ensures.exact c.args.marks.now
+    c.take_block.new.marks
+    taken.0 taken.2
 
 pub returns-clause-is_there : goal.returns-clause-is_there
 returns-clause-is_there g c = λ is.
@@ -64,8 +62,9 @@ returns-clause-is_there g c = λ is.
 
 pub returns-clause-says : goal.returns-clause-says
 returns-clause-says g c = λ is d reads.
-    let read = read_in d _ _ _ (c.in_ok-fetch.ensures.block d reads) c.if-not-branch.false in
-    let bytes = read_bytes _ _ d _ _ (g.met.D.SectorDevice.lawful c.args.device.now).now reads read in
+    let taken = block_taken d c.args.marks.now c.take_block.new.marks _ c.args.index c.take_block.new.out _
+    (c.in_ok-take_block.ensures.takes d reads) c.if-not-branch.false in
+    let bytes = read_bytes _ _ d _ _ (g.met.D.SectorDevice.lawful c.args.device.now).now reads taken.1 in
     says_taken d c.args.checkpoint.now c.args.index c.requires.index _ c.segments_of-segments.ensures _ c.usage_address-address.ensures _
-    read c.fetch.array_long bytes c.in-Some.block c.in-Some.ensures.exact
+    taken.1 (c.in_ok-take_block.ensures.long c.if-not-branch.false) bytes c.in-Some.block c.in-Some.ensures.exact
     c.args.used.now c.args.live.now c.copy_uses.new.used c.copy_uses.new.live c.requires.used c.copy_uses.ensures

@@ -1,6 +1,6 @@
 use Rattle.std.proofs.Common.{ap, Err}
-use Rattle.lfs_fs.proofs.WritingEnds.{turned_down}
-use Rattle.lfs_fs.proofs.GrownDrafts.{never_large}
+use Rattle.lfs_fs.proofs.write.Ends.{turned_down}
+use Rattle.lfs_fs.proofs.calls.DraftSizes.{never_large}
 use Rattle.lfs_fs.proofs.fs.Fs.accept.Goals as goal
 
 pub returns-in-Err-accept-clause-refused : goal.returns-in-Err-accept-clause-refused

@@ -1,7 +1,7 @@
 use Rattle.std.proofs.Common.{Err, ap}
-use Rattle.lfs_fs.proofs.NameLooks.{none_drafted}
-use Rattle.lfs_fs.proofs.StoreCalls.{log_adds, log_counts, store_failed}
-use Rattle.lfs_fs.proofs.GrownDrafts.{adds_grow}
+use Rattle.lfs_fs.proofs.paths.Looks.{none_drafted}
+use Rattle.lfs_fs.proofs.calls.StoreCalls.{log_adds, log_counts, store_failed}
+use Rattle.lfs_fs.proofs.calls.DraftSizes.{adds_grow}
 use Rattle.lfs_fs.proofs.fs.Fs.add_name.Goals as goal
 
 pub returns-in-Ok-clause-named : goal.returns-in-Ok-clause-named

@@ -1,7 +1,9 @@
 use Rattle.std.proofs.lemmas.Result.{err_from_is_err_and}
-use Rattle.std.proofs.Common.{ap, sym, ◌∙◌, inl, inr, arith}
-use Rattle.lfs_fs.proofs.RmdirLooks.{header_refuses, look_is, look_refuses, sees_entry}
+use Rattle.std.proofs.Common.{ap, subst, sym, ◌∙◌, inl, inr, arith}
+use Rattle.lfs_fs.proofs.rmdir.Looks.{header_refuses, look_is, look_refuses, sees_entry}
 use Rattle.lfs_path.specs.dirs.Finding.{value_of}
+use Rattle.lfs_fs.specs.declared.entries.Object.{Object}
+use Rattle.lfs_fs.specs.Removing.{HasEmpty}
 use Rattle.lfs_fs.proofs.fs.Fs.check_empty.Goals as goal
 
 -- ---- the name is looked up
@@ -112,7 +114,9 @@ returns-then-holder-lt-LEAST_LINKS-clause-refused g c =
 pub returns-clause-has : goal.returns-clause-has
 returns-clause-has g c =
     let none = c.if-header-gt0.false in
-    record {
+    subst (λ (o : Object). HasEmpty g.D.SectorDevice.state c.args.self.now c.header.new.self c.args.directory.value c.args.name.now
+    c.in_ok-holder.holder o.number.value o.header) (sym c.named_object-object.ensures)
+    (record {
       sees = sees_entry g.D.SectorDevice.state c.args.self.now c.look_in.new.self c.args.directory.value
           c.args.name.now c.in_ok-holder.ensures.reads c.header.new.self c.in_ok-header.ensures.reads
           c.in_ok-holder.holder c.in-Some.found.number.value
@@ -123,4 +127,4 @@ returns-clause-has g c =
       short = c.in_ok-holder.ensures.short;
       dir = c.is_directory.ensures.yes c.if-not-is_directory.false;
       empty = omega (arith, none);
-    }
+    })

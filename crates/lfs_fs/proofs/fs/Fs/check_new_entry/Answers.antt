@@ -3,7 +3,7 @@ use Rattle.std.proofs.Common.{◌≡◌, Option, Some, None, refl, sym, ◌∙�
 use Rattle.std.specs.Prelude.{is_some}
 use Rattle.lfs_path.specs.dirs.declared.searching.Found.{Found}
 use Rattle.lfs_path.specs.dirs.Finding.{value_of}
-use Rattle.lfs_fs.proofs.NameLooks.{new_unseen, none_is, some_is}
+use Rattle.lfs_fs.proofs.paths.Looks.{new_unseen, none_is, some_is}
 use Rattle.lfs_fs.proofs.fs.Fs.check_new_entry.Goals as goal
 
 same_some : (found : Option Found) → is_some (value_of found) ≡ is_some found

@@ -1,7 +1,9 @@
 use Rattle.std.proofs.lemmas.Result.{err_from_is_err_and}
-use Rattle.std.proofs.Common.{ap, None, Some, sym, ◌∙◌, inl, inr}
-use Rattle.lfs_fs.proofs.OldLooks.{looks_as, old_unseen, refuses_header, sees_entry}
+use Rattle.std.proofs.Common.{ap, None, Some, subst, sym, ◌∙◌, inl, inr}
+use Rattle.lfs_fs.proofs.old_entries.Looks.{looks_as, old_unseen, refuses_header, sees_entry}
 use Rattle.lfs_path.specs.dirs.Finding.{value_of}
+use Rattle.lfs_fs.specs.declared.entries.Object.{Object}
+use Rattle.lfs_fs.specs.Unlinking.{HasEntry}
 use Rattle.lfs_fs.proofs.fs.Fs.check_old_entry.Goals as goal
 
 -- the name isn't looked up
@@ -98,7 +100,9 @@ returns-then-last-clause-refused g c = (
 
 pub returns-clause-has : goal.returns-clause-has
 returns-clause-has g c =
-    record {
+    subst (λ (o : Object). HasEntry g.D.SectorDevice.state c.args.self.now c.header.new.self c.args.directory.value c.args.last.name.now
+    c.args.last.slash c.in_ok-holder.holder o.number.value o.header) (sym c.named_object-object.ensures)
+    (record {
       sees = sees_entry g.D.SectorDevice.state c.args.self.now c.look_in.new.self c.args.directory.value
           c.args.last.name.now c.in_ok-holder.ensures.reads c.in_ok-holder.holder c.in-Some.found.number.value
           (looks_as g.D.SectorDevice.state c.args.self.now c.look_in.new.self c.args.directory.value
@@ -111,4 +115,4 @@ returns-clause-has g c =
       short = c.in_ok-holder.ensures.short;
       plain = c.if-last.false;
       other = c.is_directory.ensures.no c.if-is_directory.false;
-    }
+    })

@@ -1,7 +1,7 @@
 use Rattle.std.proofs.lemmas.Result.{err_from_is_err_and}
 use Rattle.std.proofs.Common.{ℕ, refl, subst, sym, ◌∙◌}
 use Rattle.lfs_fs.specs.Renaming.{RefusesNext, of_second, of_target, of_within}
-use Rattle.lfs_fs.proofs.NamesBoth.{both_found, never_two, next_again, source_still}
+use Rattle.lfs_fs.proofs.rename.Both.{both_found, never_two, next_again, source_still}
 use Rattle.lfs_fs.proofs.fs.Fs.check_rename.Goals as goal
 
 pub returns-in_err-target-clause-refused : goal.returns-in_err-target-clause-refused

@@ -1,7 +1,7 @@
 use Rattle.std.proofs.Common.{Err, ap}
-use Rattle.lfs_fs.proofs.CleanEnds.{clean_fails, cleaned_serves, once_tells, worn_serves}
-use Rattle.lfs_fs.proofs.SavingEnds.{not_halted}
-use Rattle.lfs_fs.proofs.WritingExits.{begun, halted_begin, still_running}
+use Rattle.lfs_fs.proofs.clean.Ends.{clean_fails, cleaned_serves, once_tells, worn_serves}
+use Rattle.lfs_fs.proofs.save.Ends.{not_halted}
+use Rattle.lfs_fs.proofs.write.Exits.{begun, halted_begin, still_running}
 use Rattle.lfs_fs.specs.Seen.{seen}
 use Rattle.lfs_fs.proofs.fs.Fs.clean_once.Goals as goal
 

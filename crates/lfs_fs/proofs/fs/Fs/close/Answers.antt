@@ -1,26 +1,14 @@
 use Rattle.std.proofs.lemmas.Result.{err_from_is_err_and}
-use Rattle.std.proofs.Common.{◌≡◌, length, arith}
 use Rattle.lfs_fs.specs.Seen.{seen}
-use Rattle.lfs_fs.proofs.ClosingEnds.{close_shared, close_unopened}
-use Rattle.lfs_fs.proofs.HandleTables.{are_handles}
-use Rattle.lfs_fs.proofs.WritingExits.{begun, halted_begin, still_running}
+use Rattle.lfs_fs.proofs.open_files.Closes.{close_shared, close_unopened}
+use Rattle.lfs_fs.proofs.write.Exits.{begun, halted_begin, still_running}
 use Rattle.lfs_fs.proofs.fs.Fs.close.Goals as goal
 
 pub close-requires : goal.close-requires
-close-requires g c =
-    let whole : length c.begin.new.self.handles.numbers.items ≡ 64 = search in
-    let place =
-    (are_handles c.begin.new.self.handles.numbers.items).within c.args.handle c.in_ok-number.number.value c.in_ok-number.ensures.opens in
-    let low = place.0 in
-    omega (arith, whole, low)
+close-requires g c = c.in_ok-number.ensures.within
 
 pub close_last-requires-clause-place : goal.close_last-requires-clause-place
-close_last-requires-clause-place g c =
-    let whole : length c.begin.new.self.handles.numbers.items ≡ 64 = search in
-    let place =
-    (are_handles c.begin.new.self.handles.numbers.items).within c.args.handle c.in_ok-number.number.value c.in_ok-number.ensures.opens in
-    let low = place.0 in
-    omega (arith, whole, low)
+close_last-requires-clause-place g c = c.in_ok-number.ensures.within
 
 pub returns-in_err-begin : goal.returns-in_err-begin
 returns-in_err-begin g c =

@@ -1,61 +1,89 @@
+use Rattle.lfs_fs.proofs.new_entries.Refusals.{entry_refused, handle_allowed, handle_refused, no_piece_ends, number_refused}
+use Rattle.lfs_fs.proofs.new_entries.Outcomes.{create_made, create_unmade}
+use Rattle.lfs_fs.proofs.new_entries.Steps.{create_call}
+use Rattle.lfs_fs.proofs.paths.Steps.{create_refused}
+use Rattle.lfs_fs.proofs.paths.Places.{nowhere_serves, ready_after}
+use Rattle.lfs_fs.specs.Seen.{seen}
+use Rattle.lfs_fs.specs.Volume.{segments_of}
+use Rattle.lfs_model.specs.Call.{Create}
+use Rattle.std.proofs.Common.{Some, None, refl}
+use Rattle.std.proofs.Common.{arith}
 use Rattle.std.proofs.lemmas.Result.{err_from_is_err_and}
-use Rattle.std.proofs.Common.{ap, refl, Err, subst, sym}
-use Rattle.lfs_model.specs.Call.{Create, Handle, Refuse}
-use Rattle.lfs_path.specs.Reaching.{EndsParent}
-use Rattle.lfs_fs.specs.declared.fs.Fs.{Fs}
-use Rattle.lfs_fs.specs.Refusals.{refusal_of}
-use Rattle.lfs_fs.specs.Seen.{answer_by, seen}
-use Rattle.lfs_fs.proofs.CreateEnds.{bytes_of, reaches}
-use Rattle.lfs_fs.proofs.PathEnds.{path_without, store_reads}
-use Rattle.lfs_fs.proofs.PathSteps.{create_refused}
-use Rattle.lfs_fs.proofs.ReadingEnds.{begun_running, begun_serves, halted_serves}
-use Rattle.lfs_fs.proofs.StoreCalls.{ends_parent, ends_refused, log_reads, same_drafted, same_totals}
-use Rattle.lfs_store.specs.declared.draft.Draft.{Draft}
-use Rattle.lfs_store.specs.memory.Batch.{IsNoChange}
 use Rattle.lfs_fs.proofs.fs.Fs.create.Goals as goal
 
-pub returns-in_err-begin : goal.returns-in_err-begin
-returns-in_err-begin g c =
+-- the path is refused, or has no piece
+pub returns-in_err-directory : goal.returns-in_err-directory
+returns-in_err-directory g c =
     let p = err_from_is_err_and c.from_residual.result c.from_residual.ensures.1 in rw (p.1, p.2)
-    (halted_serves g.D.SectorDevice.state c.args.self.now c.begin.new.self (Create c.args.path.now) c.in_err-begin.field-0.0
-    (g.met.D.SectorDevice.lawful c.args.self.now.store.log.device) c.in_err-begin.ensures.same c.in_err-begin.ensures.halted
-    c.in_err-begin.ensures.fault)
+    (nowhere_serves g.D.SectorDevice.state g.met.D.SectorDevice.lawful c.args.self.now c.begin_at.new.self c.args.path.now
+    (Create c.args.path.now) refl refl refl
+    (λ k m0 m s keeps is r w. create_refused (segments_of (seen c.args.self.now)) s c.args.path.now r w) _ c.in_err-directory.field-0.0
+    c.in_err-directory.ensures.refused
+    (λ d reached running. no_piece_ends g.D.SectorDevice.state g.met.D.SectorDevice.lawful
+    (seen c.args.self.now) c.begin_at.new.self c.args.path.now d (create_call
+    c.args.self.now.store.log.version (segments_of (seen c.args.self.now)) c.args.path.now d reached.bytes) None reached running refl))
+
+pub returns-in_err-header : goal.returns-in_err-header
+returns-in_err-header g c =
+    let begun = c.in_ok-directory.ensures.begun in
+    let p = err_from_is_err_and c.from_residual-in_err-header.result c.from_residual-in_err-header.ensures.1 in rw (p.1, p.2)
+    (entry_refused g.D.SectorDevice.state g.met.D.SectorDevice.lawful (seen c.args.self.now) c.begin_at.new.self c.args.path.now
+    c.in_ok-directory.directory.value
+    (create_call c.args.self.now.store.log.version (segments_of (seen c.args.self.now)) c.args.path.now c.in_ok-directory.directory.value
+    begun.reached.bytes) (Some c.in_ok-directory.last) begun.reached begun.ready.running
+    c.in_ok-directory.last refl c.check_new_entry.new.self
+    c.in_err-header.ensures.reads c.in_err-header.field-0.0 c.in_err-header.ensures.refused)
+
+-- no handle is free
+pub returns-in_default : goal.returns-in_default
+returns-in_default g c =
+    let begun = c.in_ok-directory.ensures.begun in
+    handle_refused g.D.SectorDevice.state g.met.D.SectorDevice.lawful (seen c.args.self.now) c.begin_at.new.self c.args.path.now
+    c.in_ok-directory.directory.value (Some c.in_ok-directory.last) begun.reached
+    begun.ready.running c.in_ok-directory.last refl c.check_new_entry.new.self
+    c.in_ok-header.ensures.reads c.in_ok-header.header c.in_ok-header.ensures.taken c.in_default.ensures.full
+
+-- no number is free
+pub returns-in_default-least_free : goal.returns-in_default-least_free
+returns-in_default-least_free g c =
+    let begun = c.in_ok-directory.ensures.begun in
+    let first = c.in-Some.ensures.first in
+    let found = c.in-Some.ensures.within in
+    number_refused g.D.SectorDevice.state g.met.D.SectorDevice.lawful (seen c.args.self.now) c.begin_at.new.self c.args.path.now
+    c.in_ok-directory.directory.value
+    (create_call c.args.self.now.store.log.version (segments_of (seen c.args.self.now)) c.args.path.now c.in_ok-directory.directory.value
+    begun.reached.bytes) (Some c.in_ok-directory.last) begun.reached begun.ready.running
+    c.in_ok-directory.last refl c.check_new_entry.new.self
+    c.in_ok-header.ensures.reads c.in_ok-header.header c.in_ok-header.ensures.taken
+    (handle_allowed g.D.SectorDevice.state g.met.D.SectorDevice.lawful (seen c.args.self.now) c.begin_at.new.self c.args.path.now
+    c.in_ok-directory.directory.value (Some c.in_ok-directory.last) begun.reached
+    begun.ready.running c.in_ok-directory.last refl c.check_new_entry.new.self
+    c.in_ok-header.ensures.reads c.in_ok-header.header c.in_ok-header.ensures.taken (omega (arith, first, found)))
+    c.in_default-least_free.ensures.none
+
+pub returns-in_err-make_entry : goal.returns-in_err-make_entry
+returns-in_err-make_entry g c =
+    let begun = c.in_ok-directory.ensures.begun in
+    let p = err_from_is_err_and c.from_residual-in_err-make_entry.result c.from_residual-in_err-make_entry.ensures.1 in rw (p.1, p.2)
+    (create_unmade g.D.SectorDevice.state g.met.D.SectorDevice.lawful (seen c.args.self.now) c.begin_at.new.self c.check_new_entry.new.self
+    c.args.path.now
+    c.in_ok-directory.directory.value (Some c.in_ok-directory.last) begun.reached begun.ready.running c.in_ok-directory.last refl
+    c.in_ok-header.ensures.reads c.in_ok-header.header c.in_ok-header.ensures.taken c.in-Some.handle
+    c.in-Some.ensures.within
+    c.in-Some.ensures.first c.in-Some-least_free.file.value c.in-Some-least_free.ensures.some
+    c.make_entry.new.self c.in_err-make_entry.field-0.0 c.in_err-make_entry.ensures.refused)
 
 pub returns : goal.returns
 returns g c =
-    let state = g.D.SectorDevice.state in
-    let begun = c.in_ok-begin.ensures.done in
-    let walk = c.in_ok-place.ensures in
-    let reads = log_reads state c.begin.new.self.store c.parent.new.files walk.reads in
-    let totals = same_totals state c.begin.new.self.store c.parent.new.files walk.reads in
-    let drafted = same_drafted state c.begin.new.self.store c.parent.new.files walk.reads in
-    begun_serves state c.args.self.now c.begin.new.self (seen c.create_at.new.self) (Create c.args.path.now)
-    (answer_by Handle c.create_at.result) begun
-    (c.create_at.ensures (seen c.begin.new.self) c.args.path.now
-    (reaches state g.met.D.SectorDevice.lawful c.args.self.now c.begin.new.self begun c.parent.new.files reads walk.reads.saved totals
-    walk.reads.draft drafted
-    c.args.path.now (bytes_of c.args.path.now c.type_inv.path) c.directory.result.value c.in_ok-place.place.last walk.last
-    (ends_parent state c.begin.new.self.store c.parent.new.files c.args.path.now c.in_ok-place.place.chain c.directory.result.value
-    c.directory.ensures.value walk.answer)))
+    let begun = c.in_ok-directory.ensures.begun in
+    create_made g.D.SectorDevice.state g.met.D.SectorDevice.lawful (seen c.args.self.now) c.begin_at.new.self c.check_new_entry.new.self
+    c.args.path.now c.in_ok-directory.directory.value
+    (Some c.in_ok-directory.last) begun.reached begun.ready.running c.in_ok-directory.last refl
+    c.in_ok-header.ensures.reads c.in_ok-header.header c.in_ok-header.ensures.taken c.in-Some.handle
+    c.in-Some.ensures.within
+    c.in-Some.ensures.first c.in-Some-least_free.file.value c.in-Some-least_free.ensures.some
+    c.make_entry.new.self c.in_ok-make_entry.ensures.made c.open.new.self c.open.ensures
 
-pub returns-in_err-place : goal.returns-in_err-place
-returns-in_err-place g c =
-    let p = err_from_is_err_and c.from_residual-in_err-place.result c.from_residual-in_err-place.ensures.1 in rw (p.1)
-    (let state = g.D.SectorDevice.state in
-    let begun = c.in_ok-begin.ensures.done in
-    let walk = c.in_err-place.ensures in
-    let mid : Fs g.row.D.Denot =
-    record { alloc = c.begin.new.self.alloc; store = c.parent.new.files; handles = c.begin.new.self.handles } in
-    let first = store_reads state c.begin.new.self mid (log_reads state c.begin.new.self.store c.parent.new.files walk.reads)
-    walk.reads.draft walk.reads.saved (same_totals state c.begin.new.self.store c.parent.new.files walk.reads)
-    (same_drafted state c.begin.new.self.store c.parent.new.files walk.reads) refl in
-    begun_serves state c.args.self.now c.begin.new.self (seen mid) (Create c.args.path.now) (Refuse (refusal_of p.0)) begun
-    (path_without state c.begin.new.self mid (g.met.D.SectorDevice.lawful c.begin.new.self.store.log.device)
-    (begun_running state c.args.self.now c.begin.new.self begun) begun.empty first
-    (EndsParent c.args.path.now) (Create c.args.path.now) refl refl refl (λ N s r w. create_refused N s c.args.path.now r w)
-    c.in_err-place.field-0.0 p.0 p.2 (ends_refused state c.begin.new.self.store c.parent.new.files
-    (EndsParent c.args.path.now) c.in_err-place.field-0.0 walk.refused) (λ e. walk.halted (ap Err e)) (λ e. walk.other (ap Err e))))
-
-pub create_at-requires-clause-empty : goal.create_at-requires-clause-empty
-create_at-requires-clause-empty g c =
-    subst (λ (d : Draft). IsNoChange d.changes) (sym c.in_ok-place.ensures.reads.draft) c.in_ok-begin.ensures.done.empty
+pub make_entry-requires-clause-ready : goal.make_entry-requires-clause-ready
+make_entry-requires-clause-ready g c =
+    ready_after g.D.SectorDevice.state _ _ c.in_ok-directory.ensures.begun.ready c.in_ok-header.ensures.reads

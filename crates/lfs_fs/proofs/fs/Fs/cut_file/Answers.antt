@@ -3,26 +3,26 @@ use Rattle.std.proofs.Common.{ap, refl, sym, subst, Err}
 use Rattle.lfs_store.specs.declared.draft.Draft.{Draft}
 use Rattle.lfs_store.specs.log.verify.declared.totals.BlockTotals.{BlockTotals}
 use Rattle.lfs_store.specs.memory.Batch.{IsNoChange}
-use Rattle.lfs_fs.proofs.WritingDrafts.{cut_ends}
-use Rattle.lfs_fs.proofs.WritingEnds.{given_up_serves, headerless_serves}
-use Rattle.lfs_fs.proofs.GrownDrafts.{cut_fits}
+use Rattle.lfs_fs.proofs.write.Drafts.{cut_ends}
+use Rattle.lfs_fs.proofs.write.Ends.{given_up_serves, headerless_serves}
+use Rattle.lfs_fs.proofs.calls.DraftSizes.{cut_fits}
 use Rattle.lfs_fs.proofs.fs.Fs.cut_file.Goals as goal
 
 pub set_len-requires-clause-empty : goal.set_len-requires-clause-empty
-set_len-requires-clause-empty g c = subst (λ (d : Draft). IsNoChange d.changes) (sym c.header.ensures.reads.draft) c.requires.empty
+set_len-requires-clause-empty g c = subst (λ (d : Draft). IsNoChange d.changes) (sym c.header.ensures.reads.draft) c.requires.ready.empty
 
 pub returns-in_err-header : goal.returns-in_err-header
 returns-in_err-header g c handle opens =
     let p = err_from_is_err_and c.from_residual.result c.from_residual.ensures.1 in rw (p.1, p.2)
     (headerless_serves g.D.SectorDevice.state g.met.D.SectorDevice.lawful c.args.self.now c.header.new.self _ handle c.args.number.value
-    opens c.requires.running c.requires.empty
+    opens c.requires.ready.running c.requires.ready.empty
     c.in_err-header.ensures.reads.still refl c.in_err-header.field-0.0 c.in_err-header.ensures.missing)
 
 pub returns-in-Ok : goal.returns-in-Ok
 returns-in-Ok g c handle opens =
     cut_ends g.D.SectorDevice.state g.met.D.SectorDevice.lawful c.args.self.now c.header.new.self
     record { alloc = c.header.new.self.alloc; store = c.set_len.new.self; handles = c.header.new.self.handles }
-    handle c.args.number.value opens c.requires.running c.requires.empty c.requires.counted c.in_ok-header.ensures.reads
+    handle c.args.number.value opens c.requires.ready.running c.requires.ready.empty c.requires.counted c.in_ok-header.ensures.reads
     c.in_ok-header.header
     c.in_ok-header.ensures.answer
     record {
@@ -38,7 +38,7 @@ returns-in-Ok g c handle opens =
 pub returns-in-Err : goal.returns-in-Err
 returns-in-Err g c handle opens =
     given_up_serves g.D.SectorDevice.state g.met.D.SectorDevice.lawful c.args.self.now c.header.new.self c.set_len.new.self
-    c.give_up.new.self _ c.requires.running c.in_ok-header.ensures.reads.still
+    c.give_up.new.self _ c.requires.ready.running c.in_ok-header.ensures.reads.still
     c.in-Err.ensures.redrafts.reads c.in-Err.ensures.redrafts.saved c.give_up.ensures.keeps.log c.give_up.ensures.keeps.saved
     refl refl c.in-Err.fault c.in-Err.ensures.failed (λ on. c.in-Err.ensures.halted (ap Err on))
     (λ full. c.in-Err.ensures.other (ap Err full)) c.from.result c.from.ensures

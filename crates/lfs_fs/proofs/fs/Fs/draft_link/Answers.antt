@@ -4,9 +4,9 @@ use Rattle.lfs_store.specs.log.Held.{Held, IsReadFault}
 use Rattle.lfs_store.specs.Making.{first_header}
 use Rattle.lfs_store.specs.Recounting.{Counts}
 use Rattle.lfs_store.specs.Writing.{Writes}
-use Rattle.lfs_fs.proofs.NameLooks.{none_drafted}
+use Rattle.lfs_fs.proofs.paths.Looks.{none_drafted}
 use Rattle.lfs_store.proofs.Growths.{grows_then, makes_grows}
-use Rattle.lfs_fs.proofs.GrownDrafts.{text_grows}
+use Rattle.lfs_fs.proofs.calls.DraftSizes.{text_grows}
 use Rattle.lfs_fs.proofs.fs.Fs.draft_link.Goals as goal
 
 pub returns-in-Ok-write_at-clause-drafted : goal.returns-in-Ok-write_at-clause-drafted

@@ -5,8 +5,8 @@ use Rattle.lfs_files.specs.declared.header.Header.{Header}
 use Rattle.lfs_path.specs.dirs.Taking.{shrunk}
 use Rattle.lfs_fs.specs.Renaming.{DraftsTake, FailsName, FailsOver, NamesFound, of_name, of_take, second_holder}
 use Rattle.lfs_fs.specs.Unlinking.{TakesOut}
-use Rattle.lfs_fs.proofs.MoveDrafts.{later_fits, ok_then2}
-use Rattle.lfs_fs.proofs.NameLooks.{fault_then}
+use Rattle.lfs_fs.proofs.rename.StepDrafts.{later_fits, ok_then2}
+use Rattle.lfs_fs.proofs.paths.Looks.{fault_then}
 use Rattle.lfs_store.proofs.of_memory.Going.{ok_then}
 use Rattle.lfs_store.proofs.Growths.{grows_then}
 use Rattle.lfs_fs.proofs.fs.Fs.draft_move.Goals as goal

@@ -3,7 +3,7 @@ use Rattle.std.specs.Prelude.{OnOk}
 use Rattle.lfs_model.specs.declared.Kind.{Kind}
 use Rattle.lfs_model.specs.Image.{new_form}
 use Rattle.lfs_fs.specs.Naming.{DraftsEmpty, DraftsObject, new_kind}
-use Rattle.lfs_fs.proofs.NameLooks.{fault_then}
+use Rattle.lfs_fs.proofs.paths.Looks.{fault_then}
 use Rattle.lfs_store.proofs.of_memory.Going.{ok_then}
 use Rattle.lfs_store.proofs.Growths.{grows_weaker}
 use Rattle.lfs_fs.proofs.fs.Fs.draft_object.Goals as goal

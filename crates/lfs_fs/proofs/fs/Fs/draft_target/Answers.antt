@@ -1,9 +1,9 @@
 use Rattle.std.proofs.Common.{Option, subst, sym}
 use Rattle.std.specs.Prelude.{IfErr}
-use Rattle.lfs_fs.specs.declared.moving.Object.{Object}
+use Rattle.lfs_fs.specs.declared.entries.Object.{Object}
 use Rattle.lfs_fs.specs.Renaming.{FailsName}
-use Rattle.lfs_fs.proofs.MoveDrafts.{added_fails}
-use Rattle.lfs_fs.proofs.NameLooks.{fault_then}
+use Rattle.lfs_fs.proofs.rename.StepDrafts.{added_fails}
+use Rattle.lfs_fs.proofs.paths.Looks.{fault_then}
 use Rattle.lfs_fs.proofs.fs.Fs.draft_target.Goals as goal
 
 pub returns-in-None-clause-refused : goal.returns-in-None-clause-refused

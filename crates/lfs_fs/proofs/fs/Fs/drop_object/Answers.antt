@@ -1,7 +1,7 @@
 use Rattle.lfs_files.specs.declared.fault.StoreFault.TheVariants as store
 use Rattle.lfs_fs.specs.declared.fs.Fs.{Fs}
-use Rattle.lfs_fs.proofs.NameLooks.{none_drafted}
-use Rattle.lfs_fs.proofs.RmdirDrafts.{still_store}
+use Rattle.lfs_fs.proofs.paths.Looks.{none_drafted}
+use Rattle.lfs_fs.proofs.rmdir.Drafts.{still_store}
 use Rattle.lfs_store.proofs.Growths.{removes_grows}
 use Rattle.lfs_fs.proofs.fs.Fs.drop_object.Goals as goal
 
@@ -26,7 +26,7 @@ returns-in-Err-clause-refused g c =
       store = c.remove.new.self;
       handles = c.args.self.now.handles;
     } in
-    none_drafted g.D.SectorDevice.state c.args.self.now new c.requires.running
+    none_drafted g.D.SectorDevice.state c.args.self.now new c.requires.ready.running
     (store.Log c.in-Err.fault) (λ device. c.in-Err.ensures.failed)
     (λ on. c.in-Err.ensures.halted (cc)) (λ full. c.in-Err.ensures.other (cc)) c.from.result
     c.from.ensures

@@ -1,8 +1,8 @@
 use Rattle.std.proofs.lemmas.Result.{err_from_is_err_and}
 use Rattle.std.proofs.Common.{◌∙◌, ap, sym, length, arith}
 use Rattle.std.specs.Vec.Iter.{into_iter_items, into_iter_len}
-use Rattle.lfs_fs.proofs.PathEnds.{reads_again}
-use Rattle.lfs_fs.proofs.ListingEnds.{entries_all, entries_lack, entries_more, entries_none}
+use Rattle.lfs_fs.proofs.paths.Ends.{reads_again}
+use Rattle.lfs_fs.proofs.list.Ends.{entries_all, entries_lack, entries_more, entries_none}
 use Rattle.lfs_fs.proofs.fs.Fs.entries.Goals as goal
 
 pub loop-name-init : goal.loop-name-init

@@ -1,5 +1,5 @@
 use Rattle.std.specs.Vec.Iter.{into_iter_items, into_iter_len}
-use Rattle.lfs_fs.proofs.ListingEnds.{EntriesSoFar}
+use Rattle.lfs_fs.proofs.list.Ends.{EntriesSoFar}
 use Rattle.lfs_fs.proofs.fs.Fs.entries.Given as goal
 
 abbrev pub invariant-loop-name : goal.invariant-loop-name

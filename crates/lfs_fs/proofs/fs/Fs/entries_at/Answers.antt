@@ -1,8 +1,8 @@
 use Rattle.std.proofs.lemmas.Result.{err_from_is_err_and}
-use Rattle.lfs_fs.proofs.ListingEnds.{listing_lacks_node, no_directory, node_lacks, node_tells}
-use Rattle.lfs_fs.proofs.NameLooks.{fault_then}
-use Rattle.lfs_fs.proofs.PathEnds.{reads_again}
-use Rattle.lfs_fs.proofs.TreeEnds.{answer_then}
+use Rattle.lfs_fs.proofs.list.Ends.{listing_lacks_node, no_directory, node_lacks, node_tells}
+use Rattle.lfs_fs.proofs.paths.Looks.{fault_then}
+use Rattle.lfs_fs.proofs.paths.Ends.{reads_again}
+use Rattle.lfs_fs.proofs.list.Trees.{answer_then}
 use Rattle.lfs_fs.proofs.fs.Fs.entries_at.Goals as goal
 
 pub returns-in_err-header-clause-missing : goal.returns-in_err-header-clause-missing

@@ -1,8 +1,8 @@
 use Rattle.std.proofs.lemmas.Result.{err_from_is_err_and}
 use Rattle.std.proofs.Common.{◌∙◌, ap, sym, length, arith}
 use Rattle.std.specs.Vec.Iter.{into_iter_items, into_iter_len}
-use Rattle.lfs_fs.proofs.PathEnds.{reads_again}
-use Rattle.lfs_fs.proofs.RowLoops.{rows_all, rows_lack, rows_more, rows_none}
+use Rattle.lfs_fs.proofs.paths.Ends.{reads_again}
+use Rattle.lfs_fs.proofs.list.RowLoops.{rows_all, rows_lack, rows_more, rows_none}
 use Rattle.lfs_fs.proofs.fs.Fs.entry_rows.Goals as goal
 
 pub loop-entry-init : goal.loop-entry-init

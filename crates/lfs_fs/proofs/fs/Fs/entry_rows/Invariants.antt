@@ -1,5 +1,5 @@
 use Rattle.std.specs.Vec.Iter.{into_iter_items, into_iter_len}
-use Rattle.lfs_fs.proofs.RowLoops.{RowsSoFar}
+use Rattle.lfs_fs.proofs.list.RowLoops.{RowsSoFar}
 use Rattle.lfs_fs.proofs.fs.Fs.entry_rows.Given as goal
 
 abbrev pub invariant-loop-entry : goal.invariant-loop-entry

@@ -1,5 +1,5 @@
 use Rattle.std.proofs.Common.{ap, Err}
-use Rattle.lfs_fs.proofs.TreeEnds.{log_lacks}
+use Rattle.lfs_fs.proofs.list.Trees.{log_lacks}
 use Rattle.lfs_fs.proofs.fs.Fs.find_header.Goals as goal
 
 pub returns-in-Err-clause-missing : goal.returns-in-Err-clause-missing

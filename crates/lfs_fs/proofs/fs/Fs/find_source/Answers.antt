@@ -1,8 +1,8 @@
 use Rattle.std.proofs.lemmas.Result.{err_from_is_err_and}
 use Rattle.std.proofs.Common.{Option, subst, sym, ◌∙◌}
-use Rattle.lfs_fs.specs.declared.moving.Object.{Object}
+use Rattle.lfs_fs.specs.declared.entries.Object.{Object}
 use Rattle.lfs_fs.specs.Renaming.{FindsName}
-use Rattle.lfs_fs.proofs.NamesFound.{few_links, first_refused}
+use Rattle.lfs_fs.proofs.rename.Names.{few_links, first_refused}
 use Rattle.lfs_fs.proofs.fs.Fs.find_source.Goals as goal
 
 pub returns-in_err-holder-clause-refused : goal.returns-in_err-holder-clause-refused

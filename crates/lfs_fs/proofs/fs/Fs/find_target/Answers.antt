@@ -1,6 +1,6 @@
 use Rattle.std.proofs.lemmas.Result.{err_from_is_err_and}
 use Rattle.std.proofs.Common.{inr, refl, sym, ◌∙◌}
-use Rattle.lfs_fs.proofs.NamesFound.{next_refused}
+use Rattle.lfs_fs.proofs.rename.Names.{next_refused}
 use Rattle.lfs_fs.proofs.fs.Fs.find_target.Goals as goal
 
 pub returns-in_err-holder-clause-refused : goal.returns-in_err-holder-clause-refused

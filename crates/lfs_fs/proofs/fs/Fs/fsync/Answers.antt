@@ -1,6 +1,6 @@
 use Rattle.lfs_fs.specs.Seen.{seen}
-use Rattle.lfs_fs.proofs.ClosingEnds.{fsync_serves, fsync_unopened}
-use Rattle.lfs_fs.proofs.WritingExits.{begun, halted_begin, still_running}
+use Rattle.lfs_fs.proofs.open_files.Closes.{fsync_serves, fsync_unopened}
+use Rattle.lfs_fs.proofs.write.Exits.{begun, halted_begin, still_running}
 use Rattle.lfs_fs.proofs.fs.Fs.fsync.Goals as goal
 
 pub returns-in-Err : goal.returns-in-Err

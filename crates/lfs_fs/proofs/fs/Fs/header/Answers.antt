@@ -1,5 +1,5 @@
 use Rattle.std.proofs.Common.{ap, Err}
-use Rattle.lfs_fs.proofs.Looking.{has_header, has_none, has_fault}
+use Rattle.lfs_fs.proofs.calls.Looks.{has_header, has_none, has_fault}
 use Rattle.lfs_fs.proofs.fs.Fs.header.Goals as goal
 
 pub returns-in-Ok-Some-clause-answer : goal.returns-in-Ok-Some-clause-answer

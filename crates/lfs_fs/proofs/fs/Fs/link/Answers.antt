@@ -1,76 +1,71 @@
 use Rattle.std.proofs.lemmas.Result.{err_from_is_err_and}
-use Rattle.std.proofs.Common.{ap, refl, Err, subst, sym}
-use Rattle.lfs_model.specs.Call.{Done, LinkTo, Refuse}
-use Rattle.lfs_path.specs.Reaching.{EndsParent}
-use Rattle.lfs_fs.specs.declared.fs.Fs.{Fs}
-use Rattle.lfs_fs.specs.Refusals.{refusal_of}
-use Rattle.lfs_fs.specs.Seen.{answer_by, seen}
+use Rattle.std.proofs.Common.{None, Some, refl}
+use Rattle.lfs_model.specs.Call.{LinkTo}
+use Rattle.lfs_fs.specs.Seen.{seen}
 use Rattle.lfs_fs.specs.Volume.{segments_of}
-use Rattle.lfs_fs.proofs.CreateEnds.{bytes_of, reaches}
-use Rattle.lfs_fs.proofs.LaterPaths.{later_refused}
-use Rattle.lfs_fs.proofs.LinkSteps.{link_refused}
-use Rattle.lfs_fs.proofs.NameLooks.{only_none}
-use Rattle.lfs_fs.proofs.PathEnds.{store_reads}
-use Rattle.lfs_fs.proofs.ReadingEnds.{begun_running, begun_serves, halted_serves}
-use Rattle.lfs_fs.proofs.StoreCalls.{ends_parent, ends_refused, log_reads, same_drafted, same_totals}
-use Rattle.lfs_store.specs.declared.draft.Draft.{Draft}
-use Rattle.lfs_store.specs.memory.Batch.{IsNoChange}
+use Rattle.lfs_fs.proofs.new_entries.Ends.{bytes_of}
+use Rattle.lfs_fs.proofs.link.Refusals.{sees_object, unreached_ends, second_reaches}
+use Rattle.lfs_fs.proofs.link.Steps.{link_call, link_refused}
+use Rattle.lfs_fs.proofs.old_entries.Refusals.{entry_refused, no_piece_perm}
+use Rattle.lfs_fs.proofs.paths.Places.{nowhere_serves, ready_after}
 use Rattle.lfs_fs.proofs.fs.Fs.link.Goals as goal
 
-pub returns-in_err-begin : goal.returns-in_err-begin
-returns-in_err-begin g c =
+-- the first path is refused, or has no piece
+pub returns-in_err-directory : goal.returns-in_err-directory
+returns-in_err-directory g c =
     let p = err_from_is_err_and c.from_residual.result c.from_residual.ensures.1 in rw (p.1, p.2)
-    (halted_serves g.D.SectorDevice.state c.args.self.now c.begin.new.self
-    (LinkTo c.args.from.now c.args.to.now) c.in_err-begin.field-0.0
-    (g.met.D.SectorDevice.lawful c.args.self.now.store.log.device) c.in_err-begin.ensures.same
-    c.in_err-begin.ensures.halted
-    c.in_err-begin.ensures.fault)
+    (nowhere_serves g.D.SectorDevice.state g.met.D.SectorDevice.lawful c.args.self.now c.begin_at.new.self c.args.from.now
+    (LinkTo c.args.from.now c.args.to.now) refl refl refl
+    (λ k m0 m s keeps is r w. link_refused (segments_of (seen c.args.self.now)) s c.args.from.now c.args.to.now is.log.sound.named r w)
+    _ c.in_err-directory.field-0.0 c.in_err-directory.ensures.refused
+    (λ d reached running. no_piece_perm g.D.SectorDevice.state g.met.D.SectorDevice.lawful (seen c.args.self.now) c.begin_at.new.self
+    c.args.from.now d (LinkTo c.args.from.now c.args.to.now)
+    (link_call (segments_of (seen c.args.self.now)) c.args.from.now c.args.to.now d) None reached running refl))
+
+pub returns-in_err-entry : goal.returns-in_err-entry
+returns-in_err-entry g c =
+    let begun = c.in_ok-directory.ensures.begun in
+    let p = err_from_is_err_and c.from_residual-in_err-entry.result c.from_residual-in_err-entry.ensures.1 in rw (p.1, p.2)
+    (entry_refused g.D.SectorDevice.state g.met.D.SectorDevice.lawful (seen c.args.self.now) c.begin_at.new.self c.args.from.now
+    c.in_ok-directory.directory.value (LinkTo c.args.from.now c.args.to.now)
+    (link_call (segments_of (seen c.args.self.now)) c.args.from.now c.args.to.now c.in_ok-directory.directory.value)
+    (Some c.in_ok-directory.last) begun.reached begun.ready.running c.in_ok-directory.last refl c.check_old_entry.new.self
+    c.in_err-entry.ensures.reads c.in_err-entry.field-0.0 c.in_err-entry.ensures.refused)
+
+-- the second path is refused, or has no piece
+pub returns-in_err-parent : goal.returns-in_err-parent
+returns-in_err-parent g c =
+    let begun = c.in_ok-directory.ensures.begun in
+    let entry = c.in_ok-entry.entry in
+    let p = err_from_is_err_and c.from_residual-in_err-parent.result c.from_residual-in_err-parent.ensures.1 in rw (p.1, p.2)
+    (unreached_ends g.D.SectorDevice.state g.met.D.SectorDevice.lawful (seen c.args.self.now) c.begin_at.new.self c.args.from.now
+    c.in_ok-directory.directory.value (Some c.in_ok-directory.last) begun.reached begun.ready.running c.in_ok-directory.last refl
+    c.check_old_entry.new.self c.in_ok-entry.ensures.reads entry.holder entry.object.number.value entry.object.header
+    c.in_ok-entry.ensures.has c.reach.new.self c.in_err-parent.ensures.reads
+    c.args.to.now (bytes_of c.args.to.now c.type_inv.to) c.in_err-parent.field-0.0 c.in_err-parent.ensures.refused)
 
 pub returns : goal.returns
 returns g c =
-    let state = g.D.SectorDevice.state in
-    let begun = c.in_ok-begin.ensures.done in
-    let walk = c.in_ok-place.ensures in
-    let reads = log_reads state c.begin.new.self.store c.parent.new.files walk.reads in
-    let totals = same_totals state c.begin.new.self.store c.parent.new.files walk.reads in
-    let drafted = same_drafted state c.begin.new.self.store c.parent.new.files walk.reads in
-    begun_serves state c.args.self.now c.begin.new.self (seen c.link_from.new.self)
-    (LinkTo c.args.from.now c.args.to.now) (answer_by (λ _. Done) c.link_from.result) begun
-    (c.link_from.ensures (seen c.begin.new.self) c.args.from.now
-    (reaches state g.met.D.SectorDevice.lawful c.args.self.now c.begin.new.self begun
-    c.parent.new.files reads walk.reads.saved totals walk.reads.draft drafted
-    c.args.from.now (bytes_of c.args.from.now c.type_inv.from) c.directory.result.value
-    c.in_ok-place.place.last walk.last
-    (ends_parent state c.begin.new.self.store c.parent.new.files c.args.from.now
-    c.in_ok-place.place.chain c.directory.result.value c.directory.ensures.value walk.answer)))
+    let begun = c.in_ok-directory.ensures.begun in
+    let entry = c.in_ok-entry.entry in
+    let found = c.in_ok-parent.ensures in
+    c.link_to.ensures (seen c.args.self.now) c.args.from.now c.args.to.now c.in_ok-directory.directory.value
+    (sees_object g.D.SectorDevice.state g.met.D.SectorDevice.lawful (seen c.args.self.now) c.begin_at.new.self c.args.from.now
+    c.in_ok-directory.directory.value (Some c.in_ok-directory.last) begun.reached begun.ready.running c.in_ok-directory.last refl
+    c.check_old_entry.new.self c.in_ok-entry.ensures.reads entry.holder entry.object.number.value entry.object.header
+    c.in_ok-entry.ensures.has c.reach.new.self found.reads)
+    (second_reaches g.D.SectorDevice.state g.met.D.SectorDevice.lawful (seen c.args.self.now) c.begin_at.new.self c.args.from.now
+    c.in_ok-directory.directory.value (Some c.in_ok-directory.last) begun.reached begun.ready.running c.in_ok-directory.last refl
+    c.check_old_entry.new.self c.in_ok-entry.ensures.reads entry.holder entry.object.number.value entry.object.header
+    c.in_ok-entry.ensures.has c.reach.new.self found.reads
+    c.args.to.now (bytes_of c.args.to.now c.type_inv.to) c.in_ok-parent.parent.value (Some c.in_ok-parent.new) found.found.last
+    found.found.walks)
 
-pub returns-in_err-place : goal.returns-in_err-place
-returns-in_err-place g c =
-    let p = err_from_is_err_and c.from_residual-in_err-place.result c.from_residual-in_err-place.ensures.1 in rw (p.1)
-    (let state = g.D.SectorDevice.state in
-    let begun = c.in_ok-begin.ensures.done in
-    let walk = c.in_err-place.ensures in
-    let next : Fs g.row.D.Denot = record {
-      alloc = c.begin.new.self.alloc;
-      store = c.parent.new.files;
-      handles = c.begin.new.self.handles;
-    } in
-    let first = store_reads state c.begin.new.self next
-    (log_reads state c.begin.new.self.store c.parent.new.files walk.reads) walk.reads.draft
-    walk.reads.saved (same_totals state c.begin.new.self.store c.parent.new.files walk.reads)
-    (same_drafted state c.begin.new.self.store c.parent.new.files walk.reads) refl in
-    begun_serves state c.args.self.now c.begin.new.self (seen next)
-    (LinkTo c.args.from.now c.args.to.now) (Refuse (refusal_of p.0)) begun
-    (later_refused state g.met.D.SectorDevice.lawful (seen c.begin.new.self) c.begin.new.self next
-    (only_none state c.begin.new.self).still
-    (begun_running state c.args.self.now c.begin.new.self begun) begun.empty first
-    (EndsParent c.args.from.now) (LinkTo c.args.from.now c.args.to.now) refl refl refl
-    (λ k m0 m s keeps is r w. link_refused (segments_of (seen c.begin.new.self)) s c.args.from.now
-    c.args.to.now is.log.sound.named r w)
-    c.in_err-place.field-0.0 p.0 p.2
-    (ends_refused state c.begin.new.self.store c.parent.new.files (EndsParent c.args.from.now)
-    c.in_err-place.field-0.0 walk.refused) (λ e. walk.halted (ap Err e)) (λ e. walk.other (ap Err e))))
-
-pub link_from-requires-clause-empty : goal.link_from-requires-clause-empty
-link_from-requires-clause-empty g c =
-    subst (λ (d : Draft). IsNoChange d.changes) (sym c.in_ok-place.ensures.reads.draft) c.in_ok-begin.ensures.done.empty
+pub link_to-requires : goal.link_to-requires
+link_to-requires g c = record {
+  ready =
+      ready_after g.D.SectorDevice.state c.check_old_entry.new.self c.reach.new.self
+      (ready_after g.D.SectorDevice.state c.begin_at.new.self c.check_old_entry.new.self c.in_ok-directory.ensures.begun.ready
+      c.in_ok-entry.ensures.reads)
+      c.in_ok-parent.ensures.reads;
+}

@@ -1,6 +1,6 @@
 use Rattle.std.proofs.lemmas.Result.{err_from_is_err_and}
 use Rattle.std.proofs.Common.{ap, inr}
-use Rattle.lfs_fs.proofs.NamesFound.{look_large, look_missing, none_there, object_lost, some_there}
+use Rattle.lfs_fs.proofs.rename.Names.{look_large, look_missing, none_there, object_lost, some_there}
 use Rattle.lfs_path.specs.dirs.Finding.{value_of}
 use Rattle.lfs_fs.proofs.fs.Fs.look_at.Goals as goal
 

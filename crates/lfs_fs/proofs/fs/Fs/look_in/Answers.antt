@@ -1,9 +1,9 @@
 use Rattle.std.proofs.lemmas.Result.{err_from_is_err_and}
 use Rattle.std.proofs.Common.{ap, arith, inl, refl, Err}
 use Rattle.lfs_fs.specs.declared.fs.Fs.{Fs}
-use Rattle.lfs_fs.proofs.NameLooks.{looks_up, none_found, none_without}
-use Rattle.lfs_fs.proofs.PathEnds.{reads_again, store_reads}
-use Rattle.lfs_fs.proofs.StoreCalls.{each_drafted, log_reads, same_drafted, same_totals}
+use Rattle.lfs_fs.proofs.paths.Looks.{looks_up, none_found, none_without}
+use Rattle.lfs_fs.proofs.paths.Ends.{reads_again, store_reads}
+use Rattle.lfs_fs.proofs.calls.StoreCalls.{each_drafted, log_reads, same_drafted, same_totals}
 use Rattle.lfs_path.specs.dirs.Finding.{value_of}
 use Rattle.lfs_fs.proofs.fs.Fs.look_in.Goals as goal
 

@@ -1,6 +1,6 @@
 use Rattle.std.proofs.Common.{inl, inr, arith}
 use Rattle.lfs_store.proofs.of_memory.Going.{ok_then}
-use Rattle.lfs_fs.proofs.NameLooks.{fault_then, seen_same}
+use Rattle.lfs_fs.proofs.paths.Looks.{fault_then, seen_same}
 use Rattle.lfs_store.proofs.Growths.{grown_fits}
 use Rattle.lfs_fs.proofs.fs.Fs.move_entry.Goals as goal
 
@@ -38,4 +38,4 @@ returns-in-Err-clause-refused g c = inr (record {
 pub accept-requires-clause-room : goal.accept-requires-clause-room
 accept-requires-clause-room g c =
     grown_fits c.args.self.now.store.draft.changes c.draft_move.new.self.store.draft.changes 6 4
-    (omega arith) c.requires.empty c.in-Ok.ensures.small
+    (omega arith) c.requires.ready.empty c.in-Ok.ensures.small

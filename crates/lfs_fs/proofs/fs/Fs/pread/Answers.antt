@@ -3,7 +3,7 @@ use Rattle.lfs_model.specs.Call.{Pread, Data, Refuse}
 use Rattle.lfs_model.specs.Refusal.{Inval}
 use Rattle.lfs_fs.specs.Refusals.{refusal_of}
 use Rattle.lfs_fs.specs.Seen.{answer_by, seen}
-use Rattle.lfs_fs.proofs.ReadingEnds.{begun_running, begun_serves, halted_serves, pread_ends, pread_too_much, pread_without}
+use Rattle.lfs_fs.proofs.read.Ends.{begun_running, begun_serves, halted_serves, pread_ends, pread_too_much, pread_without}
 use Rattle.lfs_fs.proofs.fs.Fs.pread.Goals as goal
 
 pub returns-in_err-begin : goal.returns-in_err-begin

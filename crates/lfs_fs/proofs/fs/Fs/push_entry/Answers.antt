@@ -1,6 +1,6 @@
 use Rattle.std.proofs.lemmas.Result.{err_from_is_err_and}
 use Rattle.std.proofs.Common.{refl}
-use Rattle.lfs_fs.proofs.ListingEnds.{entry_lacks, entry_told, put_entry_lacks, put_entry_tells}
+use Rattle.lfs_fs.proofs.list.Ends.{entry_lacks, entry_told, put_entry_lacks, put_entry_tells}
 use Rattle.lfs_fs.proofs.fs.Fs.push_entry.Goals as goal
 
 pub returns-in_err-stat-clause-missing : goal.returns-in_err-stat-clause-missing

@@ -1,4 +1,4 @@
-use Rattle.lfs_fs.proofs.RowEnds.{put_lacks, put_tells}
+use Rattle.lfs_fs.proofs.list.RowEnds.{put_lacks, put_tells}
 use Rattle.lfs_fs.proofs.fs.Fs.push_row.Goals as goal
 
 pub returns-clause-answer : goal.returns-clause-answer

@@ -1,4 +1,4 @@
-use Rattle.lfs_fs.proofs.TreeEnds.{put_names, put_names_lack}
+use Rattle.lfs_fs.proofs.list.Trees.{put_names, put_names_lack}
 use Rattle.lfs_fs.proofs.fs.Fs.push_rows.Goals as goal
 
 pub returns-clause-answer : goal.returns-clause-answer

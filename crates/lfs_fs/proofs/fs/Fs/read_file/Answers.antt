@@ -1,5 +1,5 @@
 use Rattle.std.proofs.Common.{ap, Err, arith}
-use Rattle.lfs_fs.proofs.ReadingEnds.{lacks_bytes, reads_file}
+use Rattle.lfs_fs.proofs.read.Ends.{lacks_bytes, reads_file}
 use Rattle.lfs_fs.proofs.fs.Fs.read_file.Goals as goal
 
 pub returns-in-Ok-read_at-clause-answer : goal.returns-in-Ok-read_at-clause-answer

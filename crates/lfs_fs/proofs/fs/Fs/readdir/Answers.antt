@@ -6,10 +6,10 @@ use Rattle.lfs_fs.specs.declared.fs.Fs.{Fs}
 use Rattle.lfs_fs.specs.Answers.{entry_of}
 use Rattle.lfs_fs.specs.Refusals.{refusal_of}
 use Rattle.lfs_fs.specs.Seen.{answer_by, seen}
-use Rattle.lfs_fs.proofs.PathEnds.{path_without, readdir_ends, store_reads}
-use Rattle.lfs_fs.proofs.PathSteps.{readdir_refused}
-use Rattle.lfs_fs.proofs.ReadingEnds.{begun_running, begun_serves, halted_serves}
-use Rattle.lfs_fs.proofs.StoreCalls.{each_drafted, ends_refused, log_reads, same_drafted, same_totals}
+use Rattle.lfs_fs.proofs.paths.Ends.{path_without, readdir_ends, store_reads}
+use Rattle.lfs_fs.proofs.paths.Steps.{readdir_refused}
+use Rattle.lfs_fs.proofs.read.Ends.{begun_running, begun_serves, halted_serves}
+use Rattle.lfs_fs.proofs.calls.StoreCalls.{each_drafted, ends_refused, log_reads, same_drafted, same_totals}
 use Rattle.lfs_fs.proofs.fs.Fs.readdir.Goals as goal
 
 pub returns-in_err-begin : goal.returns-in_err-begin

@@ -1,20 +1,19 @@
 use Rattle.std.proofs.lemmas.Result.{err_from_is_err_and}
-use Rattle.std.proofs.Common.{ap, refl, subst, sym, Err}
+use Rattle.std.proofs.Common.{ap, refl, Err}
 use Rattle.lfs_model.specs.Call.{Done, Refuse, Rename}
-use Rattle.lfs_store.specs.declared.draft.Draft.{Draft}
-use Rattle.lfs_store.specs.memory.Batch.{IsNoChange}
 use Rattle.lfs_path.specs.Reaching.{EndsParent}
 use Rattle.lfs_fs.specs.declared.fs.Fs.{Fs}
 use Rattle.lfs_fs.specs.Refusals.{refusal_of}
 use Rattle.lfs_fs.specs.Seen.{answer_by, seen}
 use Rattle.lfs_fs.specs.Volume.{segments_of}
-use Rattle.lfs_fs.proofs.CreateEnds.{bytes_of, reaches}
-use Rattle.lfs_fs.proofs.LaterPaths.{later_refused}
-use Rattle.lfs_fs.proofs.NameLooks.{only_none}
-use Rattle.lfs_fs.proofs.PathEnds.{store_reads}
-use Rattle.lfs_fs.proofs.ReadingEnds.{begun_running, begun_serves, halted_serves}
-use Rattle.lfs_fs.proofs.RenamePaths.{first_refused}
-use Rattle.lfs_fs.proofs.StoreCalls.{ends_parent, ends_refused, log_reads, same_drafted, same_totals}
+use Rattle.lfs_fs.proofs.new_entries.Ends.{bytes_of, reaches}
+use Rattle.lfs_fs.proofs.paths.Later.{later_refused}
+use Rattle.lfs_fs.proofs.paths.Looks.{only_none}
+use Rattle.lfs_fs.proofs.paths.Ends.{store_reads}
+use Rattle.lfs_fs.proofs.paths.Places.{begun_ready, path_read, ready_after}
+use Rattle.lfs_fs.proofs.read.Ends.{begun_running, begun_serves, halted_serves}
+use Rattle.lfs_fs.proofs.rename.Paths.{first_refused}
+use Rattle.lfs_fs.proofs.calls.StoreCalls.{ends_parent, ends_refused, log_reads, same_drafted, same_totals}
 use Rattle.lfs_fs.proofs.fs.Fs.rename.Goals as goal
 
 pub returns-in_err-begin : goal.returns-in_err-begin
@@ -71,7 +70,10 @@ returns-in_err-place g c =
     (ends_refused state c.begin.new.self.store c.parent.new.files (EndsParent c.args.from.now)
     c.in_err-place.field-0.0 walk.refused) (λ e. walk.halted (ap Err e)) (λ e. walk.other (ap Err e))))
 
-pub rename_from-requires-clause-empty : goal.rename_from-requires-clause-empty
-rename_from-requires-clause-empty g c =
-    subst (λ (x : Draft). IsNoChange x.changes) (sym c.in_ok-place.ensures.reads.draft)
-    c.in_ok-begin.ensures.done.empty
+pub rename_from-requires : goal.rename_from-requires
+rename_from-requires g c = record {
+  ready =
+      ready_after g.D.SectorDevice.state _ _
+      (begun_ready g.D.SectorDevice.state c.args.self.now c.begin.new.self c.in_ok-begin.ensures.done)
+      (path_read g.D.SectorDevice.state c.begin.new.self c.parent.new.files c.in_ok-place.ensures.reads);
+}

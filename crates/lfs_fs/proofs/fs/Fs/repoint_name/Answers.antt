@@ -1,7 +1,7 @@
 use Rattle.std.proofs.Common.{Err, ap}
-use Rattle.lfs_fs.proofs.MoveDrafts.{log_repoints, never_lacks, over_fails}
-use Rattle.lfs_fs.proofs.StoreCalls.{log_counts}
-use Rattle.lfs_fs.proofs.GrownDrafts.{adds_grow}
+use Rattle.lfs_fs.proofs.rename.StepDrafts.{log_repoints, never_lacks, over_fails}
+use Rattle.lfs_fs.proofs.calls.StoreCalls.{log_counts}
+use Rattle.lfs_fs.proofs.calls.DraftSizes.{adds_grow}
 use Rattle.lfs_fs.proofs.fs.Fs.repoint_name.Goals as goal
 
 pub returns-in-Ok-true-clause-named : goal.returns-in-Ok-true-clause-named

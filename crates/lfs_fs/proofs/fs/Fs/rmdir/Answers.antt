@@ -1,68 +1,76 @@
+use Rattle.lfs_fs.proofs.calls.DraftSizes.{begun_fits}
+use Rattle.lfs_fs.proofs.paths.Looks.{seen_same}
+use Rattle.lfs_fs.proofs.paths.Places.{nowhere_serves, ready_after}
+use Rattle.lfs_fs.proofs.rmdir.Ends.{rmdir_ends, rmdir_undrafted}
+use Rattle.lfs_fs.proofs.rmdir.Refusals.{empty_refused, root_busy}
+use Rattle.lfs_fs.proofs.rmdir.Steps.{rmdir_refused}
+use Rattle.lfs_fs.specs.Seen.{seen}
+use Rattle.lfs_fs.specs.Volume.{segments_of}
+use Rattle.lfs_model.specs.Call.{Rmdir}
+use Rattle.std.proofs.Common.{Some, None, refl}
+use Rattle.std.proofs.Common.{◌∙◌, arith}
 use Rattle.std.proofs.lemmas.Result.{err_from_is_err_and}
-use Rattle.std.proofs.Common.{ap, refl, Err}
-use Rattle.lfs_model.specs.Call.{Done, Rmdir, Refuse}
-use Rattle.lfs_path.specs.Reaching.{EndsParent}
-use Rattle.lfs_fs.specs.declared.fs.Fs.{Fs}
-use Rattle.lfs_fs.specs.Refusals.{refusal_of}
-use Rattle.lfs_fs.specs.Seen.{answer_by, seen}
-use Rattle.lfs_fs.proofs.CreateEnds.{bytes_of, reaches}
-use Rattle.lfs_fs.proofs.PathEnds.{path_without, store_reads}
-use Rattle.lfs_fs.proofs.RmdirSteps.{rmdir_refused}
-use Rattle.lfs_fs.proofs.ReadingEnds.{begun_running, begun_serves, halted_serves}
-use Rattle.lfs_fs.proofs.StoreCalls.{ends_parent, ends_refused, log_reads, same_drafted, same_totals}
 use Rattle.lfs_fs.proofs.fs.Fs.rmdir.Goals as goal
 
-pub returns-in_err-begin : goal.returns-in_err-begin
-returns-in_err-begin g c =
+-- the path is refused, or has no piece
+pub returns-in_err-directory : goal.returns-in_err-directory
+returns-in_err-directory g c =
     let p = err_from_is_err_and c.from_residual.result c.from_residual.ensures.1 in rw (p.1, p.2)
-    (halted_serves g.D.SectorDevice.state c.args.self.now c.begin.new.self (Rmdir c.args.path.now)
-    c.in_err-begin.field-0.0 (g.met.D.SectorDevice.lawful c.args.self.now.store.log.device)
-    c.in_err-begin.ensures.same c.in_err-begin.ensures.halted
-    c.in_err-begin.ensures.fault)
+    (nowhere_serves g.D.SectorDevice.state g.met.D.SectorDevice.lawful c.args.self.now c.begin_at.new.self c.args.path.now
+    (Rmdir c.args.path.now) refl refl refl
+    (λ k m0 m s keeps is r w. rmdir_refused (segments_of (seen c.args.self.now)) s c.args.path.now r w) _ c.in_err-directory.field-0.0
+    c.in_err-directory.ensures.refused
+    (λ d reached running. root_busy g.D.SectorDevice.state g.met.D.SectorDevice.lawful
+    (seen c.args.self.now) c.begin_at.new.self c.args.path.now d None reached running refl))
 
-pub returns : goal.returns
-returns g c =
-    let state = g.D.SectorDevice.state in
-    let begun = c.in_ok-begin.ensures.done in
-    let walk = c.in_ok-place.ensures in
-    let reads = log_reads state c.begin.new.self.store c.parent.new.files walk.reads in
-    let totals = same_totals state c.begin.new.self.store c.parent.new.files walk.reads in
-    let drafted = same_drafted state c.begin.new.self.store c.parent.new.files walk.reads in
-    begun_serves state c.args.self.now c.begin.new.self (seen c.rmdir_at.new.self)
-    (Rmdir c.args.path.now) (answer_by (λ _. Done) c.rmdir_at.result) begun
-    (c.rmdir_at.ensures (seen c.begin.new.self) c.args.path.now
-    (reaches state g.met.D.SectorDevice.lawful c.args.self.now c.begin.new.self begun
-    c.parent.new.files reads walk.reads.saved totals walk.reads.draft drafted
-    c.args.path.now (bytes_of c.args.path.now c.type_inv.path) c.directory.result.value
-    c.in_ok-place.place.last walk.last
-    (ends_parent state c.begin.new.self.store c.parent.new.files c.args.path.now
-    c.in_ok-place.place.chain c.directory.result.value c.directory.ensures.value walk.answer)))
+pub returns-in_err-entry : goal.returns-in_err-entry
+returns-in_err-entry g c =
+    let begun = c.in_ok-directory.ensures.begun in
+    let p = err_from_is_err_and c.from_residual-in_err-entry.result c.from_residual-in_err-entry.ensures.1 in rw (p.1, p.2)
+    (empty_refused g.D.SectorDevice.state g.met.D.SectorDevice.lawful (seen c.args.self.now) c.begin_at.new.self c.args.path.now
+    c.in_ok-directory.directory.value (Some c.in_ok-directory.last) begun.reached begun.ready.running c.in_ok-directory.last refl
+    c.check_empty.new.self c.in_err-entry.ensures.reads c.in_err-entry.field-0.0 c.in_err-entry.ensures.refused)
 
-pub returns-in_err-place : goal.returns-in_err-place
-returns-in_err-place g c =
-    let p = err_from_is_err_and c.from_residual-in_err-place.result c.from_residual-in_err-place.ensures.1 in rw (p.1)
-    (let state = g.D.SectorDevice.state in
-    let begun = c.in_ok-begin.ensures.done in
-    let walk = c.in_err-place.ensures in
-    let mid : Fs g.row.D.Denot = record {
-      alloc = c.begin.new.self.alloc;
-      store =
-          c.parent.new.files;
-      handles = c.begin.new.self.handles;
-    } in
-    let first = store_reads state c.begin.new.self mid
-    (log_reads state c.begin.new.self.store c.parent.new.files walk.reads) walk.reads.draft
-    walk.reads.saved (same_totals state c.begin.new.self.store c.parent.new.files
-    walk.reads) (same_drafted state c.begin.new.self.store c.parent.new.files
-    walk.reads) refl in
-    begun_serves state c.args.self.now c.begin.new.self (seen mid) (Rmdir c.args.path.now)
-    (Refuse (refusal_of p.0)) begun
-    (path_without state c.begin.new.self mid (g.met.D.SectorDevice.lawful
-    c.begin.new.self.store.log.device) (begun_running state c.args.self.now c.begin.new.self
-    begun) begun.empty first
-    (EndsParent c.args.path.now) (Rmdir c.args.path.now) refl refl refl
-    (λ N s r w. rmdir_refused N s c.args.path.now r w)
-    c.in_err-place.field-0.0 p.0 p.2
-    (ends_refused state c.begin.new.self.store c.parent.new.files (EndsParent c.args.path.now)
-    c.in_err-place.field-0.0 walk.refused) (λ e. walk.halted (ap Err e))
-    (λ e. walk.other (ap Err e))))
+pub draft_rmdir-requires-clause-ready : goal.draft_rmdir-requires-clause-ready
+draft_rmdir-requires-clause-ready g c =
+    ready_after g.D.SectorDevice.state _ _ c.in_ok-directory.ensures.begun.ready c.in_ok-entry.ensures.reads
+
+pub accept-requires-clause-running : goal.accept-requires-clause-running
+accept-requires-clause-running g c =
+    let begun = c.in_ok-directory.ensures.begun in
+    c.in-Ok.ensures.still.reads.halted
+    ∙ c.in_ok-entry.ensures.reads.still.reads.halted ∙ begun.ready.running
+
+pub accept-requires-clause-room : goal.accept-requires-clause-room
+accept-requires-clause-room g c =
+    let begun = c.in_ok-directory.ensures.begun in
+    begun_fits c.begin_at.new.self.store.draft c.check_empty.new.self.store.draft
+    c.draft_rmdir.new.self.store.draft.changes 3 2 (omega arith) begun.ready.empty
+    c.in_ok-entry.ensures.reads.draft c.in-Ok.ensures.small
+
+pub returns-in-Ok : goal.returns-in-Ok
+returns-in-Ok g c =
+    let begun = c.in_ok-directory.ensures.begun in
+    rmdir_ends g.D.SectorDevice.state g.met.D.SectorDevice.lawful (seen c.args.self.now) c.begin_at.new.self
+    c.check_empty.new.self c.args.path.now c.in_ok-directory.directory.value (Some c.in_ok-directory.last) begun.reached begun.ready.running
+    c.in_ok-directory.last refl c.in_ok-entry.ensures.reads c.in_ok-entry.entry.holder c.in_ok-entry.entry.object.number.value
+    c.in_ok-entry.entry.object.header c.in_ok-entry.ensures.has c.draft_rmdir.new.self
+    c.in-Ok.ensures.still c.in-Ok.ensures.drafted c.accept.new.self
+    c.accept.ensures.rest c.accept.result c.accept.ensures.done c.accept.ensures.refused
+
+pub returns-in-Err : goal.returns-in-Err
+returns-in-Err g c =
+    let begun = c.in_ok-directory.ensures.begun in
+    rmdir_undrafted g.D.SectorDevice.state g.met.D.SectorDevice.lawful (seen c.args.self.now) c.begin_at.new.self
+    c.check_empty.new.self c.args.path.now c.in_ok-directory.directory.value (Some c.in_ok-directory.last) begun.reached begun.ready.running
+    c.in_ok-directory.last refl c.in_ok-entry.ensures.reads c.in_ok-entry.entry.holder c.in_ok-entry.entry.object.number.value
+    c.in_ok-entry.entry.object.header c.in_ok-entry.ensures.has c.draft_rmdir.new.self
+    c.in-Err.ensures.still
+    (seen record {
+      alloc = c.draft_rmdir.new.self.alloc;
+      store = c.give_up.new.self;
+      handles = c.draft_rmdir.new.self.handles;
+    })
+    (seen_same g.D.SectorDevice.state c.draft_rmdir.new.self c.give_up.new.self
+    c.give_up.ensures.keeps.log c.give_up.ensures.keeps.saved)
+    c.in-Err.fault c.in-Err.ensures.refused

@@ -1,7 +1,7 @@
 use Rattle.std.proofs.lemmas.Result.{err_from_is_err_and}
 use Rattle.std.proofs.Common.{inr}
-use Rattle.lfs_fs.proofs.PathEnds.{lacks_bytes_again}
-use Rattle.lfs_fs.proofs.RowEnds.{lacks_row, row_is}
+use Rattle.lfs_fs.proofs.paths.Ends.{lacks_bytes_again}
+use Rattle.lfs_fs.proofs.list.RowEnds.{lacks_row, row_is}
 use Rattle.lfs_fs.proofs.fs.Fs.row.Goals as goal
 
 pub returns-in_err-stat-clause-missing : goal.returns-in_err-stat-clause-missing

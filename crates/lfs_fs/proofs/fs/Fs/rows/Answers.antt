@@ -1,7 +1,7 @@
 use Rattle.std.proofs.lemmas.Result.{err_from_is_err_and}
 use Rattle.std.proofs.Common.{arith}
-use Rattle.lfs_fs.proofs.PathEnds.{reads_again}
-use Rattle.lfs_fs.proofs.RowLoops.{tree_all, tree_lacks, tree_more, tree_none}
+use Rattle.lfs_fs.proofs.paths.Ends.{reads_again}
+use Rattle.lfs_fs.proofs.list.RowLoops.{tree_all, tree_lacks, tree_more, tree_none}
 use Rattle.lfs_fs.proofs.fs.Fs.rows.Goals as goal
 
 pub loop-number-init : goal.loop-number-init

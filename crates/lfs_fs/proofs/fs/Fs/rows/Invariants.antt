@@ -1,4 +1,4 @@
-use Rattle.lfs_fs.proofs.RowLoops.{TreeSoFar}
+use Rattle.lfs_fs.proofs.list.RowLoops.{TreeSoFar}
 use Rattle.lfs_fs.proofs.fs.Fs.rows.Given as goal
 
 abbrev pub invariant-loop-number : goal.invariant-loop-number

@@ -1,9 +1,9 @@
 use Rattle.std.proofs.Common.{◌≡◌, subst, sym}
 use Rattle.lfs_model.specs.declared.Kind.TheVariants as kind
 use Rattle.lfs_fs.specs.Reading.{TellsNames}
-use Rattle.lfs_fs.proofs.NameLooks.{fault_then}
-use Rattle.lfs_fs.proofs.PathEnds.{reads_again}
-use Rattle.lfs_fs.proofs.TreeEnds.{answer_lacks, answer_then, leaf_tells, names_lack, names_tell, nothing_tells}
+use Rattle.lfs_fs.proofs.paths.Looks.{fault_then}
+use Rattle.lfs_fs.proofs.paths.Ends.{reads_again}
+use Rattle.lfs_fs.proofs.list.Trees.{answer_lacks, answer_then, leaf_tells, names_lack, names_tell, nothing_tells}
 use Rattle.lfs_fs.proofs.fs.Fs.rows_at.Goals as goal
 
 pub returns-in-Directory-clause-reads : goal.returns-in-Directory-clause-reads

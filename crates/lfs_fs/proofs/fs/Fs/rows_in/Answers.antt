@@ -1,9 +1,9 @@
 use Rattle.std.proofs.Common.{ap, refl, Err}
 use Rattle.lfs_fs.specs.declared.fs.Fs.{Fs}
-use Rattle.lfs_fs.proofs.NameLooks.{fault_then}
-use Rattle.lfs_fs.proofs.PathEnds.{reads_again, store_reads}
-use Rattle.lfs_fs.proofs.StoreCalls.{each_drafted, log_reads, same_drafted, same_totals}
-use Rattle.lfs_fs.proofs.TreeEnds.{answer_then, directory_lacks, directory_tells, list_lacks}
+use Rattle.lfs_fs.proofs.paths.Looks.{fault_then}
+use Rattle.lfs_fs.proofs.paths.Ends.{reads_again, store_reads}
+use Rattle.lfs_fs.proofs.calls.StoreCalls.{each_drafted, log_reads, same_drafted, same_totals}
+use Rattle.lfs_fs.proofs.list.Trees.{answer_then, directory_lacks, directory_tells, list_lacks}
 use Rattle.lfs_fs.proofs.fs.Fs.rows_in.Goals as goal
 
 pub returns-in-Ok-clause-reads : goal.returns-in-Ok-clause-reads

@@ -1,17 +1,16 @@
 use Rattle.std.proofs.lemmas.Result.{err_from_is_err_and}
-use Rattle.std.proofs.Common.{ap, refl, Err, subst, sym}
-use Rattle.lfs_model.specs.Call.{Done, Refuse, Symlink}
-use Rattle.lfs_path.specs.Reaching.{EndsParent}
-use Rattle.lfs_fs.specs.declared.fs.Fs.{Fs}
+use Rattle.std.proofs.Common.{None, Some, refl}
+use Rattle.lfs_model.specs.Call.{Refuse, Symlink}
 use Rattle.lfs_fs.specs.Refusals.{refusal_of}
-use Rattle.lfs_fs.specs.Seen.{answer_by, seen}
-use Rattle.lfs_fs.proofs.CreateEnds.{bytes_of, reaches, text_ends}
-use Rattle.lfs_fs.proofs.PathEnds.{path_without, store_reads}
-use Rattle.lfs_fs.proofs.PathSteps.{symlink_refused}
-use Rattle.lfs_fs.proofs.ReadingEnds.{begun_running, begun_serves, halted_serves}
-use Rattle.lfs_fs.proofs.StoreCalls.{ends_parent, ends_refused, log_reads, same_drafted, same_totals}
-use Rattle.lfs_store.specs.declared.draft.Draft.{Draft}
-use Rattle.lfs_store.specs.memory.Batch.{IsNoChange}
+use Rattle.lfs_fs.specs.Seen.{seen}
+use Rattle.lfs_fs.specs.Volume.{segments_of}
+use Rattle.lfs_fs.proofs.new_entries.Ends.{bytes_of, text_ends}
+use Rattle.lfs_fs.proofs.new_entries.Refusals.{entry_refused, no_piece_ends, number_refused}
+use Rattle.lfs_fs.proofs.new_entries.Outcomes.{symlink_ends}
+use Rattle.lfs_fs.proofs.new_entries.Steps.{symlink_call}
+use Rattle.lfs_fs.proofs.paths.Steps.{symlink_refused}
+use Rattle.lfs_fs.proofs.paths.Places.{nowhere_serves, place_lacks, place_reached, place_ready, ready_after}
+use Rattle.lfs_fs.proofs.read.Ends.{begun_serves, halted_serves}
 use Rattle.lfs_fs.proofs.fs.Fs.symlink.Goals as goal
 
 pub returns-in_err-begin : goal.returns-in_err-begin
@@ -33,43 +32,88 @@ returns-in_err-check_link_text g c =
     c.args.text.now
     c.args.path.now (refusal_of c.in_err-check_link_text.field-0.0) c.in_err-check_link_text.ensures.refused))
 
+-- the path is refused, or has no piece
+pub returns-in_err-directory : goal.returns-in_err-directory
+returns-in_err-directory g c =
+    let bytes = bytes_of c.args.path.now c.type_inv.path in
+    let p = err_from_is_err_and c.from_residual-in_err-directory.result c.from_residual-in_err-directory.ensures.1 in rw (p.1, p.2)
+    (nowhere_serves g.D.SectorDevice.state g.met.D.SectorDevice.lawful c.args.self.now c.reach.new.self c.args.path.now
+    (Symlink c.args.text.now c.args.path.now) refl refl refl
+    (λ k m0 m s keeps is r w.
+    symlink_refused (segments_of (seen c.args.self.now)) s c.args.path.now c.args.text.now c.in_ok-check_link_text.ensures.good r w)
+    _ c.in_err-directory.field-0.0
+    (place_lacks g.D.SectorDevice.state g.met.D.SectorDevice.lawful c.args.self.now c.reach.new.self c.args.path.now c.begin.new.self
+    c.in_ok-begin.ensures.done
+    c.in_err-directory.ensures.reads bytes _ c.in_err-directory.field-0.0 c.in_err-directory.ensures.refused)
+    (λ d reached running.
+    no_piece_ends g.D.SectorDevice.state g.met.D.SectorDevice.lawful (seen c.args.self.now) c.reach.new.self c.args.path.now d
+    (symlink_call c.args.self.now.store.log.version (segments_of (seen c.args.self.now)) c.args.path.now d bytes
+    c.args.text.now (bytes_of c.args.text.now c.type_inv.text) c.in_ok-check_link_text.ensures.good) None reached running refl))
+
+pub returns-in_err-header : goal.returns-in_err-header
+returns-in_err-header g c =
+    let bytes = bytes_of c.args.path.now c.type_inv.path in
+    let reads = c.in_ok-directory.ensures.reads in
+    let reached =
+    place_reached g.D.SectorDevice.state g.met.D.SectorDevice.lawful c.args.self.now c.reach.new.self c.args.path.now c.begin.new.self
+    c.in_ok-begin.ensures.done reads bytes c.in_ok-directory.directory.value (Some c.in_ok-directory.last)
+    c.in_ok-directory.ensures.found in
+    let ready =
+    place_ready g.D.SectorDevice.state g.met.D.SectorDevice.lawful c.args.self.now c.reach.new.self c.args.path.now c.begin.new.self
+    c.in_ok-begin.ensures.done reads in
+    let p = err_from_is_err_and c.from_residual-in_err-header.result c.from_residual-in_err-header.ensures.1 in rw (p.1, p.2)
+    (entry_refused g.D.SectorDevice.state g.met.D.SectorDevice.lawful (seen c.args.self.now) c.reach.new.self c.args.path.now
+    c.in_ok-directory.directory.value
+    (symlink_call c.args.self.now.store.log.version (segments_of (seen c.args.self.now)) c.args.path.now c.in_ok-directory.directory.value
+    bytes
+    c.args.text.now (bytes_of c.args.text.now c.type_inv.text) c.in_ok-check_link_text.ensures.good)
+    (Some c.in_ok-directory.last) reached ready.running c.in_ok-directory.last refl c.check_new_entry.new.self
+    c.in_err-header.ensures.reads c.in_err-header.field-0.0 c.in_err-header.ensures.refused)
+
+-- no number is free
+pub returns-in_default : goal.returns-in_default
+returns-in_default g c =
+    let bytes = bytes_of c.args.path.now c.type_inv.path in
+    let reads = c.in_ok-directory.ensures.reads in
+    let reached =
+    place_reached g.D.SectorDevice.state g.met.D.SectorDevice.lawful c.args.self.now c.reach.new.self c.args.path.now c.begin.new.self
+    c.in_ok-begin.ensures.done reads bytes c.in_ok-directory.directory.value (Some c.in_ok-directory.last)
+    c.in_ok-directory.ensures.found in
+    let ready =
+    place_ready g.D.SectorDevice.state g.met.D.SectorDevice.lawful c.args.self.now c.reach.new.self c.args.path.now c.begin.new.self
+    c.in_ok-begin.ensures.done reads in
+    number_refused g.D.SectorDevice.state g.met.D.SectorDevice.lawful (seen c.args.self.now) c.reach.new.self c.args.path.now
+    c.in_ok-directory.directory.value
+    (symlink_call c.args.self.now.store.log.version (segments_of (seen c.args.self.now)) c.args.path.now c.in_ok-directory.directory.value
+    bytes
+    c.args.text.now (bytes_of c.args.text.now c.type_inv.text) c.in_ok-check_link_text.ensures.good)
+    (Some c.in_ok-directory.last) reached ready.running c.in_ok-directory.last refl c.check_new_entry.new.self
+    c.in_ok-header.ensures.reads c.in_ok-header.header c.in_ok-header.ensures.taken
+    (λ k m0 m s keeps is walk. refl) c.in_default.ensures.none
+
 pub returns : goal.returns
 returns g c =
-    let state = g.D.SectorDevice.state in
-    let begun = c.in_ok-begin.ensures.done in
-    let walk = c.in_ok-place.ensures in
-    let reads = log_reads state c.begin.new.self.store c.parent.new.files walk.reads in
-    let totals = same_totals state c.begin.new.self.store c.parent.new.files walk.reads in
-    let drafted = same_drafted state c.begin.new.self.store c.parent.new.files walk.reads in
-    begun_serves state c.args.self.now c.begin.new.self (seen c.symlink_at.new.self) (Symlink c.args.text.now c.args.path.now)
-    (answer_by (λ _. Done) c.symlink_at.result) begun
-    (c.symlink_at.ensures (seen c.begin.new.self) c.args.path.now
-    (reaches state g.met.D.SectorDevice.lawful c.args.self.now c.begin.new.self begun c.parent.new.files reads walk.reads.saved totals
-    walk.reads.draft drafted
-    c.args.path.now (bytes_of c.args.path.now c.type_inv.path) c.directory.result.value c.in_ok-place.place.last walk.last
-    (ends_parent state c.begin.new.self.store c.parent.new.files c.args.path.now c.in_ok-place.place.chain c.directory.result.value
-    c.directory.ensures.value walk.answer)))
+    let bytes = bytes_of c.args.path.now c.type_inv.path in
+    let reads = c.in_ok-directory.ensures.reads in
+    let reached =
+    place_reached g.D.SectorDevice.state g.met.D.SectorDevice.lawful c.args.self.now c.reach.new.self c.args.path.now c.begin.new.self
+    c.in_ok-begin.ensures.done reads bytes c.in_ok-directory.directory.value (Some c.in_ok-directory.last)
+    c.in_ok-directory.ensures.found in
+    let ready =
+    place_ready g.D.SectorDevice.state g.met.D.SectorDevice.lawful c.args.self.now c.reach.new.self c.args.path.now c.begin.new.self
+    c.in_ok-begin.ensures.done reads in
+    symlink_ends g.D.SectorDevice.state g.met.D.SectorDevice.lawful (seen c.args.self.now) c.reach.new.self c.check_new_entry.new.self
+    c.args.path.now
+    c.in_ok-directory.directory.value (Some c.in_ok-directory.last) reached ready.running c.in_ok-directory.last refl
+    c.in_ok-header.ensures.reads c.in_ok-header.header c.in_ok-header.ensures.taken c.args.text.now
+    (bytes_of c.args.text.now c.type_inv.text) c.in_ok-check_link_text.ensures.good
+    c.in-Some.number.value c.in-Some.ensures.some c.make_entry.new.self
+    c.make_entry.result c.make_entry.ensures.made c.make_entry.ensures.refused
 
-pub returns-in_err-place : goal.returns-in_err-place
-returns-in_err-place g c =
-    let p = err_from_is_err_and c.from_residual-in_err-place.result c.from_residual-in_err-place.ensures.1 in rw (p.1)
-    (let state = g.D.SectorDevice.state in
-    let begun = c.in_ok-begin.ensures.done in
-    let walk = c.in_err-place.ensures in
-    let mid : Fs g.row.D.Denot =
-    record { alloc = c.begin.new.self.alloc; store = c.parent.new.files; handles = c.begin.new.self.handles } in
-    let first = store_reads state c.begin.new.self mid (log_reads state c.begin.new.self.store c.parent.new.files walk.reads)
-    walk.reads.draft walk.reads.saved (same_totals state c.begin.new.self.store c.parent.new.files walk.reads)
-    (same_drafted state c.begin.new.self.store c.parent.new.files walk.reads) refl in
-    begun_serves state c.args.self.now c.begin.new.self (seen mid) (Symlink c.args.text.now c.args.path.now)
-    (Refuse (refusal_of p.0)) begun
-    (path_without state c.begin.new.self mid (g.met.D.SectorDevice.lawful c.begin.new.self.store.log.device)
-    (begun_running state c.args.self.now c.begin.new.self begun) begun.empty first
-    (EndsParent c.args.path.now) (Symlink c.args.text.now c.args.path.now) refl refl refl
-    (λ N s r w. symlink_refused N s c.args.path.now c.args.text.now c.in_ok-check_link_text.ensures.good r w)
-    c.in_err-place.field-0.0 p.0 p.2 (ends_refused state c.begin.new.self.store c.parent.new.files
-    (EndsParent c.args.path.now) c.in_err-place.field-0.0 walk.refused) (λ e. walk.halted (ap Err e)) (λ e. walk.other (ap Err e))))
-
-pub symlink_at-requires-clause-empty : goal.symlink_at-requires-clause-empty
-symlink_at-requires-clause-empty g c =
-    subst (λ (d : Draft). IsNoChange d.changes) (sym c.in_ok-place.ensures.reads.draft) c.in_ok-begin.ensures.done.empty
+pub make_entry-requires-clause-ready : goal.make_entry-requires-clause-ready
+make_entry-requires-clause-ready g c =
+    ready_after g.D.SectorDevice.state c.reach.new.self c.check_new_entry.new.self
+    (place_ready g.D.SectorDevice.state g.met.D.SectorDevice.lawful c.args.self.now c.reach.new.self c.args.path.now c.begin.new.self
+    c.in_ok-begin.ensures.done
+    c.in_ok-directory.ensures.reads)
+    c.in_ok-header.ensures.reads

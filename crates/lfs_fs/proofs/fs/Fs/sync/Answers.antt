@@ -1,27 +1,30 @@
+use Rattle.std.proofs.lemmas.Result.{err_from_is_err_and}
 use Rattle.std.proofs.Common.{Err, ap}
-use Rattle.lfs_fs.proofs.SavingEnds.{not_halted, sync_done_serves, sync_fails}
-use Rattle.lfs_fs.proofs.WritingExits.{begun, halted_begin, still_running}
+use Rattle.lfs_fs.proofs.save.Ends.{not_halted, sync_done_serves, sync_fails}
+use Rattle.lfs_fs.proofs.write.Exits.{begun, halted_begin, still_running}
 use Rattle.lfs_fs.proofs.fs.Fs.sync.Goals as goal
+
+pub returns-in_err-begin : goal.returns-in_err-begin
+returns-in_err-begin g c =
+    let p = err_from_is_err_and c.from_residual.result c.from_residual.ensures.1 in rw (p.1, p.2)
+    (halted_begin g.D.SectorDevice.state g.met.D.SectorDevice.lawful c.args.self.now c.begin.new.self _ c.in_err-begin.field-0.0
+    c.in_err-begin.ensures.same c.in_err-begin.ensures.halted c.in_err-begin.ensures.fault)
+
+pub returns-in-Ok : goal.returns-in-Ok
+returns-in-Ok g c =
+    begun g.D.SectorDevice.state g.met.D.SectorDevice.lawful c.args.self.now c.begin.new.self
+    record { alloc = c.begin.new.self.alloc; store = c.commit.new.self; handles = c.begin.new.self.handles } _ _ c.in_ok-begin.ensures.done
+    (sync_done_serves g.D.SectorDevice.state g.met.D.SectorDevice.lawful c.begin.new.self c.commit.new.self
+    (still_running g.D.SectorDevice.state g.met.D.SectorDevice.lawful c.args.self.now c.begin.new.self c.in_ok-begin.ensures.done)
+    c.in-Ok.ensures.keeps.totals c.in-Ok.ensures.told c.in-Ok.ensures.done c.in-Ok.ensures.saved)
 
 pub returns-in-Err : goal.returns-in-Err
 returns-in-Err g c =
-    halted_begin g.D.SectorDevice.state g.met.D.SectorDevice.lawful c.args.self.now c.begin.new.self _ c.in-Err.fault c.in-Err.ensures.same
-    c.in-Err.ensures.halted c.in-Err.ensures.fault
-
-pub returns-in-Ok-commit : goal.returns-in-Ok-commit
-returns-in-Ok-commit g c =
+    let running =
+    still_running g.D.SectorDevice.state g.met.D.SectorDevice.lawful c.args.self.now c.begin.new.self c.in_ok-begin.ensures.done in
     begun g.D.SectorDevice.state g.met.D.SectorDevice.lawful c.args.self.now c.begin.new.self
-    record { alloc = c.begin.new.self.alloc; store = c.commit.new.self; handles = c.begin.new.self.handles } _ _ c.in-Ok.ensures.done
-    (sync_done_serves g.D.SectorDevice.state g.met.D.SectorDevice.lawful c.begin.new.self c.commit.new.self
-    (still_running g.D.SectorDevice.state g.met.D.SectorDevice.lawful c.args.self.now c.begin.new.self c.in-Ok.ensures.done)
-    c.in-Ok-commit.ensures.keeps.totals c.in-Ok-commit.ensures.told c.in-Ok-commit.ensures.done c.in-Ok-commit.ensures.saved)
-
-pub returns-in-Err-commit : goal.returns-in-Err-commit
-returns-in-Err-commit g c =
-    let running = still_running g.D.SectorDevice.state g.met.D.SectorDevice.lawful c.args.self.now c.begin.new.self c.in-Ok.ensures.done in
-    begun g.D.SectorDevice.state g.met.D.SectorDevice.lawful c.args.self.now c.begin.new.self
-    record { alloc = c.begin.new.self.alloc; store = c.commit.new.self; handles = c.begin.new.self.handles } _ _ c.in-Ok.ensures.done
+    record { alloc = c.begin.new.self.alloc; store = c.commit.new.self; handles = c.begin.new.self.handles } _ _ c.in_ok-begin.ensures.done
     (sync_fails g.D.SectorDevice.state g.met.D.SectorDevice.lawful c.begin.new.self c.commit.new.self running
-    c.in-Err-commit.ensures.keeps.totals c.in-Err-commit.ensures.told c.in-Err-commit.ensures.same c.in-Err-commit.fault c.from.result
-    c.from.ensures (λ e. c.in-Err-commit.ensures.full (ap Err e)) (λ e. c.in-Err-commit.ensures.unsaved (ap Err e))
-    (λ e. c.in-Err-commit.ensures.halted (ap Err e) (not_halted c.begin.new.self running)) (λ e. c.in-Err-commit.ensures.other (ap Err e)))
+    c.in-Err.ensures.keeps.totals c.in-Err.ensures.told c.in-Err.ensures.same c.in-Err.fault c.from.result
+    c.from.ensures (λ e. c.in-Err.ensures.full (ap Err e)) (λ e. c.in-Err.ensures.unsaved (ap Err e))
+    (λ e. c.in-Err.ensures.halted (ap Err e) (not_halted c.begin.new.self running)) (λ e. c.in-Err.ensures.other (ap Err e)))

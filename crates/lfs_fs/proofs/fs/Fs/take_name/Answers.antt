@@ -1,7 +1,7 @@
 use Rattle.std.proofs.Common.{Err, ap}
-use Rattle.lfs_fs.proofs.MoveDrafts.{apart_still, never_lacks, over_fails}
-use Rattle.lfs_fs.proofs.UnlinkDrafts.{log_takes}
-use Rattle.lfs_fs.proofs.GrownDrafts.{takes_grow}
+use Rattle.lfs_fs.proofs.rename.StepDrafts.{apart_still, never_lacks, over_fails}
+use Rattle.lfs_fs.proofs.unlink.Drafts.{log_takes}
+use Rattle.lfs_fs.proofs.calls.DraftSizes.{takes_grow}
 use Rattle.lfs_fs.proofs.fs.Fs.take_name.Goals as goal
 
 pub returns-in-Ok-true-clause-taken : goal.returns-in-Ok-true-clause-taken

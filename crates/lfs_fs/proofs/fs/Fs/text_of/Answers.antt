@@ -1,9 +1,9 @@
 use Rattle.std.proofs.lemmas.Result.{err_from_is_err_and}
 use Rattle.std.proofs.Common.{inr}
-use Rattle.lfs_fs.proofs.NameLooks.{fault_then}
-use Rattle.lfs_fs.proofs.PathEnds.{reads_again}
-use Rattle.lfs_fs.proofs.TextEnds.{no_text, text_lacks, text_tells}
-use Rattle.lfs_fs.proofs.TreeEnds.{answer_then}
+use Rattle.lfs_fs.proofs.paths.Looks.{fault_then}
+use Rattle.lfs_fs.proofs.paths.Ends.{reads_again}
+use Rattle.lfs_fs.proofs.read.Texts.{no_text, text_lacks, text_tells}
+use Rattle.lfs_fs.proofs.list.Trees.{answer_then}
 use Rattle.lfs_fs.proofs.fs.Fs.text_of.Goals as goal
 
 pub returns-in_err-stat-clause-missing : goal.returns-in_err-stat-clause-missing

@@ -3,8 +3,8 @@ use Rattle.std.proofs.Common.{map}
 use Rattle.lfs_model.specs.Call.{ListTree, Rows}
 use Rattle.lfs_fs.specs.Answers.{row_of}
 use Rattle.lfs_fs.specs.Seen.{answer_by, seen}
-use Rattle.lfs_fs.proofs.ReadingEnds.{begun_running, begun_serves, halted_serves}
-use Rattle.lfs_fs.proofs.TreeEnds.{tree_ends}
+use Rattle.lfs_fs.proofs.read.Ends.{begun_running, begun_serves, halted_serves}
+use Rattle.lfs_fs.proofs.list.Trees.{tree_ends}
 use Rattle.lfs_fs.proofs.fs.Fs.tree.Goals as goal
 
 pub returns-in_err-begin : goal.returns-in_err-begin

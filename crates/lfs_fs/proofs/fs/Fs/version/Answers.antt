@@ -1,6 +1,6 @@
 use Rattle.std.proofs.lemmas.Result.{err_from_is_err_and}
 use Rattle.lfs_model.specs.Call as call
-use Rattle.lfs_fs.proofs.ReadingEnds.{begun_version, halted_serves}
+use Rattle.lfs_fs.proofs.read.Ends.{begun_version, halted_serves}
 use Rattle.lfs_fs.proofs.fs.Fs.version.Goals as goal
 
 pub returns-in_err-begin : goal.returns-in_err-begin

@@ -7,10 +7,10 @@ use Rattle.lfs_store.specs.declared.draft.Draft.{Draft}
 use Rattle.lfs_store.specs.memory.Batch.{IsNoChange}
 use Rattle.lfs_fs.specs.Refusals.{refusal_of}
 use Rattle.lfs_fs.specs.Seen.{answer_by, seen}
-use Rattle.lfs_fs.proofs.PathEnds.{path_without, store_reads, walks_in}
-use Rattle.lfs_fs.proofs.ReadingEnds.{begun_running, begun_serves, halted_serves}
-use Rattle.lfs_fs.proofs.StoreCalls.{each_drafted, ends_refused, log_reads, same_drafted, same_totals}
-use Rattle.lfs_fs.proofs.WideSteps.{widen_refused}
+use Rattle.lfs_fs.proofs.paths.Ends.{path_without, store_reads, walks_in}
+use Rattle.lfs_fs.proofs.read.Ends.{begun_running, begun_serves, halted_serves}
+use Rattle.lfs_fs.proofs.calls.StoreCalls.{each_drafted, ends_refused, log_reads, same_drafted, same_totals}
+use Rattle.lfs_fs.proofs.widen.Steps.{widen_refused}
 use Rattle.lfs_fs.proofs.fs.Fs.widen.Goals as goal
 
 pub returns-in_err-begin : goal.returns-in_err-begin

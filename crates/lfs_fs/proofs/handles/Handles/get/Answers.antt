@@ -1,17 +1,14 @@
-use Rattle.std.proofs.Common.{sym, arith, ◌≡◌, ◌≢◌, refl, length, get_or}
-use Rattle.lfs_fs.proofs.HandleTables.{find_open, find_closed, find_past}
+use Rattle.std.proofs.Common.{◌≡◌, ◌≤◌, None, get_or, sym, subst, ◌∙◌, ap, length}
+use Rattle.lfs_fs.specs.Handles.{number_in}
+use Rattle.lfs_fs.proofs.open_files.Tables.{Places, find_handle, find_past}
 use Rattle.lfs_fs.proofs.handles.Handles.get.Goals as goal
 
-pub returns-then-handle-ge-MOST_HANDLES-clause-file : goal.returns-then-handle-ge-MOST_HANDLES-clause-file
-returns-then-handle-ge-MOST_HANDLES-clause-file c =
-    let whole : length c.args.self.now.numbers.items ≡ 64 = search in
-    let past = c.if-handle-ge-MOST_HANDLES.true in
-    sym (find_past c.args.handle c.args.self.now.numbers.items (omega arith))
-
-pub returns-in-0-clause-file : goal.returns-in-0-clause-file
-returns-in-0-clause-file c = sym (find_closed c.args.handle c.args.self.now.numbers.items (rw (← c.deref.ensures.0) c.in-0.is))
-
 pub returns-in_default-clause-file : goal.returns-in_default-clause-file
-returns-in_default-clause-file c =
-    let some : get_or c.deref.result.now c.args.handle 0 ≢ 0 = search in
-    sym (find_open c.args.handle (get_or c.deref.result.now c.args.handle 0) c.args.self.now.numbers.items some (rw c.deref.ensures.0 refl))
+returns-in_default-clause-file c = rw (← c.self.view_is) (sym (find_past c.args.handle c.self.inside.files.items
+    (subst (λ (fs : Places). length fs ≤ c.args.handle) c.deref.ensures.0 c.in_default.ensures.lookup.3)))
+
+pub returns-clause-file : goal.returns-clause-file
+returns-clause-file c =
+    let read = subst (λ (fs : Places). c.in-Some.file.now ≡ get_or fs c.args.handle None) c.deref.ensures.0
+    (c.in-Some.ensures.lookup.3.1 None) in
+    rw (← c.self.view_is) (ap number_in read ∙ sym (find_handle c.args.handle c.self.inside.files.items))

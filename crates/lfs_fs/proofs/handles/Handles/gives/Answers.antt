@@ -1,17 +1,20 @@
-use Rattle.std.proofs.Common.{arith, ◌≡◌, ◌≢◌, length, sym}
-use Rattle.lfs_fs.proofs.ClosedTables.{is_open, is_shut}
+use Rattle.std.proofs.Common.{Option, arith, subst}
+use Rattle.lfs_model.specs.declared.number.FileNumber.{FileNumber}
+use Rattle.lfs_fs.specs.Handles.{HasNumber}
+use Rattle.lfs_fs.proofs.open_files.FreedPlaces.{is_open, is_shut}
+use Rattle.lfs_fs.proofs.open_files.Tables.{place_read}
 use Rattle.lfs_fs.proofs.handles.Handles.gives.Goals as goal
 
-pub returns-then-deref-handle-clause-open : goal.returns-then-deref-handle-clause-open
-returns-then-deref-handle-clause-open c is =
-    let some : c.args.number.value ≢ 0 = λ zero. (let first = c.args.number.some in absurd (omega (arith, zero, first))) in
-    is_open c.args.self.now.numbers.items c.args.number.value some c.loop-handle.handle
-    (sym (rw (← c.deref.ensures.0) c.if-deref-handle.true))
+pub returns-then-is_file-clause-open : goal.returns-then-is_file-clause-open
+returns-then-is_file-clause-open c is =
+    let read = place_read c.self.inside.files.items c.deref.result.now c.loop-handle.handle 64 c.index-deref-handle.result c.deref.ensures.0
+    c.self.invariant c.loop-handle-test.true c.index-deref-handle.is in
+    rw (← c.self.view_is) (is_open c.self.inside.files.items c.args.file.value c.loop-handle.handle
+    (subst (λ (place : Option FileNumber). HasNumber place c.args.file.value) read (c.is_file.ensures.yes c.if-is_file.true)))
 
 pub returns-clause-shut : goal.returns-clause-shut
 returns-clause-shut c is =
-    let some : c.args.number.value ≢ 0 = λ zero. (let first = c.args.number.some in absurd (omega (arith, zero, first))) in
-    let whole : length c.args.self.now.numbers.items ≡ 64 = search in
+    let whole = c.self.invariant in
     let end = c.loop-handle-test.false in
-    is_shut c.args.self.now.numbers.items c.args.number.value some
-    (λ k lt. c.loop-handle.invariant k (omega (arith, whole, end, lt)))
+    rw (← c.self.view_is) (is_shut c.self.inside.files.items c.args.file.value
+    (λ k lt. c.loop-handle.invariant k (omega (arith, whole, end, lt))))

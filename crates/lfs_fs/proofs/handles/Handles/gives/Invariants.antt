@@ -1,5 +1,6 @@
-use Rattle.std.proofs.Common.{◌≡◌, ◌<◌, ℕ, get_or}
+use Rattle.std.proofs.Common.{◌<◌, ℕ, None, get_or}
+use Rattle.lfs_fs.specs.Handles.{HasNumber}
 use Rattle.lfs_fs.proofs.handles.Handles.gives.Given as goal
 
 abbrev pub invariant-loop-handle : goal.invariant-loop-handle
-invariant-loop-handle l = (k : ℕ) → k < l.handle → get_or l.self.numbers.items k 0 ≡ l.number.value → ⊥
+invariant-loop-handle l = (k : ℕ) → k < l.handle → HasNumber (get_or l.self-inside.files.items k None) l.file.value → ⊥

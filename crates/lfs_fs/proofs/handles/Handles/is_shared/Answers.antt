@@ -1,17 +1,20 @@
-use Rattle.std.proofs.Common.{arith, ◌≡◌, ◌≢◌, length, sym}
-use Rattle.lfs_fs.proofs.ClosedTables.{no_other_open, other_open}
+use Rattle.std.proofs.Common.{Option, arith, subst}
+use Rattle.lfs_model.specs.declared.number.FileNumber.{FileNumber}
+use Rattle.lfs_fs.specs.Handles.{HasNumber}
+use Rattle.lfs_fs.proofs.open_files.FreedPlaces.{no_other_open, other_open}
+use Rattle.lfs_fs.proofs.open_files.Tables.{place_read}
 use Rattle.lfs_fs.proofs.handles.Handles.is_shared.Goals as goal
 
-pub returns-then-deref-other-clause-shared : goal.returns-then-deref-other-clause-shared
-returns-then-deref-other-clause-shared c is =
-    let some : c.args.number.value ≢ 0 = λ zero. (let first = c.args.number.some in absurd (omega (arith, zero, first))) in
-    other_open c.args.handle c.args.self.now.numbers.items c.args.number.value some c.loop-other.other c.if-other-handle.true
-    (sym (rw (← c.deref.ensures.0) c.if-deref-other.true))
+pub returns-then-is_file-clause-shared : goal.returns-then-is_file-clause-shared
+returns-then-is_file-clause-shared c is =
+    let read = place_read c.self.inside.files.items c.deref.result.now c.loop-other.other 64 c.index-deref-other.result c.deref.ensures.0
+    c.self.invariant c.loop-other-test.true c.index-deref-other.is in
+    rw (← c.self.view_is) (other_open c.args.handle c.self.inside.files.items c.args.file.value c.loop-other.other c.if-other-handle.true
+    (subst (λ (place : Option FileNumber). HasNumber place c.args.file.value) read (c.is_file.ensures.yes c.if-is_file.true)))
 
 pub returns-clause-single : goal.returns-clause-single
 returns-clause-single c is =
-    let some : c.args.number.value ≢ 0 = λ zero. (let first = c.args.number.some in absurd (omega (arith, zero, first))) in
-    let whole : length c.args.self.now.numbers.items ≡ 64 = search in
+    let whole = c.self.invariant in
     let end = c.loop-other-test.false in
-    no_other_open c.args.handle c.args.self.now.numbers.items c.args.number.value some
-    (λ k lt ne. c.loop-other.invariant k (omega (arith, whole, end, lt)) ne)
+    rw (← c.self.view_is) (no_other_open c.args.handle c.self.inside.files.items c.args.file.value
+    (λ k lt ne. c.loop-other.invariant k (omega (arith, whole, end, lt)) ne))

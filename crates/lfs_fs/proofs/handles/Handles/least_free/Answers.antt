@@ -1,15 +1,17 @@
-use Rattle.std.proofs.Common.{arith, ◌≡◌, length}
-use Rattle.lfs_fs.proofs.HandleTables.{least_is, least_past}
+use Rattle.std.proofs.Common.{◌≡◌, None, arith, sym, ◌∙◌}
+use Rattle.lfs_fs.proofs.open_files.Tables.{least_is, least_past, place_read}
 use Rattle.lfs_fs.proofs.handles.Handles.least_free.Goals as goal
 
-pub returns-then-deref-handle-eq0-clause-first : goal.returns-then-deref-handle-eq0-clause-first
-returns-then-deref-handle-eq0-clause-first c =
-    least_is c.loop-handle.handle c.args.self.now.numbers.items c.loop-handle.invariant
-    (rw (← c.deref.ensures.0) c.if-deref-handle-eq0.true)
+pub returns-then-is_none-clause-first : goal.returns-then-is_none-clause-first
+returns-then-is_none-clause-first c =
+    let none : c.index-deref-handle.result ≡ None = grind (arith, c.is_none.ensures, c.if-is_none.true) in
+    let read = place_read c.self.inside.files.items c.deref.result.now c.loop-handle.handle 64 c.index-deref-handle.result c.deref.ensures.0
+    c.self.invariant c.loop-handle-test.true c.index-deref-handle.is in
+    rw (← c.self.view_is) (least_is c.loop-handle.handle c.self.inside.files.items c.loop-handle.invariant (sym read ∙ none))
 
 pub returns-clause-full : goal.returns-clause-full
 returns-clause-full c =
-    let whole : length c.args.self.now.numbers.items ≡ 64 = search in
+    let whole = c.self.invariant in
     let end = c.loop-handle-test.false in
-    let is = least_past c.args.self.now.numbers.items (λ k lt. c.loop-handle.invariant k (omega arith)) in
-    omega arith
+    let is = least_past c.self.inside.files.items (λ k lt. c.loop-handle.invariant k (omega (arith, whole, end, lt))) in
+    rw (← c.self.view_is) (omega (arith, is, whole))

@@ -1,6 +1,6 @@
 use Rattle.std.proofs.Common.{◌∙◌, ap}
 use Rattle.lfs_fs.specs.Handles.{handles_of}
-use Rattle.lfs_fs.proofs.HandleTables.{none_open}
+use Rattle.lfs_fs.proofs.open_files.Tables.{none_open}
 use Rattle.lfs_fs.proofs.handles.Handles.new.Goals as goal
 
 pub returns : goal.returns

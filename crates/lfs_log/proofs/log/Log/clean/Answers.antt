@@ -15,6 +15,7 @@ returns-in-Err-Device-clause-failed g c is =
       number = c.self.inside.number;
       version = number_of c.self.inside.version;
       upgraded = c.self.inside.upgraded;
+      saved = c.self.inside.saved;
       halted = c.self.inside.halted;
       totals = c.self.inside.totals;
     } in
@@ -24,6 +25,7 @@ returns-in-Err-Device-clause-failed g c is =
       number = c.self.inside.number;
       version = number_of c.self.inside.version;
       upgraded = c.self.inside.upgraded;
+      saved = c.self.inside.saved;
       halted = c.self.inside.halted;
       totals = c.self.inside.totals;
     } in
@@ -46,6 +48,7 @@ returns-clause-done g c =
       number = c.self.inside.number;
       version = number_of c.self.inside.version;
       upgraded = c.self.inside.upgraded;
+      saved = c.self.inside.saved;
       halted = c.self.inside.halted;
       totals = c.self.inside.totals;
     } in
@@ -61,6 +64,7 @@ returns-clause-done g c =
       number = c.self.inside.number + 1;
       version = number_of c.self.inside.version;
       upgraded = false;
+      saved = true;
       halted = c.self.inside.halted;
       totals = c.self.inside.totals;
     } in
@@ -81,6 +85,7 @@ returns-in_default-clause-halted g c is ne =
       number = c.self.inside.number;
       version = number_of c.self.inside.version;
       upgraded = c.self.inside.upgraded;
+      saved = c.self.inside.saved;
       halted = c.self.inside.halted;
       totals = c.self.inside.totals;
     } in
@@ -90,6 +95,7 @@ returns-in_default-clause-halted g c is ne =
       number = c.self.inside.number;
       version = number_of c.self.inside.version;
       upgraded = c.self.inside.upgraded;
+      saved = false;
       halted = true;
       totals = c.self.inside.totals;
     } in

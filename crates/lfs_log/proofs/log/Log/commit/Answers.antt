@@ -13,6 +13,7 @@ returns-in-Ok-clause-done g c =
       number = c.self.inside.number;
       version = number_of c.self.inside.version;
       upgraded = c.self.inside.upgraded;
+      saved = c.self.inside.saved;
       halted = c.self.inside.halted;
       totals = c.self.inside.totals;
     } in
@@ -22,11 +23,12 @@ returns-in-Ok-clause-done g c =
       number = c.self.inside.number + 1;
       version = number_of c.self.inside.version;
       upgraded = false;
+      saved = true;
       halted = c.self.inside.halted;
       totals = c.self.inside.totals;
     } in
     subst (λ (h : Held g.row.D.Denot). Saves g.D.SectorDevice.state h after) c.self.view_is
-    (saves g.D.SectorDevice.state before after (c.self.invariant.0 c.if-self.false).running.few c.in-Ok.ensures.done refl refl refl
+    (saves g.D.SectorDevice.state before after (c.self.invariant.0 c.if-self.false).running.few c.in-Ok.ensures.done refl refl refl refl
     c.if-self.false)
 
 -- src/log.rt:168:5
@@ -38,6 +40,7 @@ returns-in-Err-clause-halted g c is ne =
       number = c.self.inside.number;
       version = number_of c.self.inside.version;
       upgraded = c.self.inside.upgraded;
+      saved = c.self.inside.saved;
       halted = c.self.inside.halted;
       totals = c.self.inside.totals;
     } in
@@ -47,8 +50,9 @@ returns-in-Err-clause-halted g c is ne =
       number = c.self.inside.number;
       version = number_of c.self.inside.version;
       upgraded = c.self.inside.upgraded;
+      saved = false;
       halted = true;
       totals = c.self.inside.totals;
     } in
     subst (λ (h : Held g.row.D.Denot). Halts g.D.SectorDevice.state h after) c.self.view_is
-    (halts g.D.SectorDevice.state before after c.in-Err.ensures.stopped refl refl)
+    (halts g.D.SectorDevice.state before after c.in-Err.ensures.stopped refl refl refl)

@@ -1,32 +1,27 @@
-use Rattle.std.proofs.Common.{subst}
+use Rattle.std.proofs.Common.{ℕ, subst}
 use Rattle.lfs_log.specs.Versions.{number_of}
-use Rattle.lfs_log.specs.Held.{Held, CountsBlocks, IsReadFault}
+use Rattle.lfs_log.specs.Held.{Held, CountsBlocks, ReadsLog}
 use Rattle.lfs_log.proofs.log.Log.count_blocks.Goals as goal
 use Rattle.lfs_log.proofs.StoredBlocks.{counts_blocks}
-use Rattle.lfs_log.proofs.Volumes.{read_fault}
+use Rattle.lfs_log.proofs.Volumes.{device_fails, looked_fails}
 
-pub returns-in_default-clause-failed : goal.returns-in_default-clause-failed
-returns-in_default-clause-failed g c =
+pub returns-in_default-clause-keeps : goal.returns-in_default-clause-keeps
+returns-in_default-clause-keeps g c =
     let before : Held g.row.D.Denot = record {
       device = c.self.inside.device;
       memory = c.self.inside.memory;
       number = c.self.inside.number;
       version = number_of c.self.inside.version;
       upgraded = c.self.inside.upgraded;
+      saved = c.self.inside.saved;
       halted = c.self.inside.halted;
       totals = c.self.inside.totals;
     } in
-    let after : Held g.row.D.Denot = record {
-      device = c.count_blocks.new.device;
-      memory = c.self.inside.memory;
-      number = c.self.inside.number;
-      version = number_of c.self.inside.version;
-      upgraded = c.self.inside.upgraded;
-      halted = c.self.inside.halted;
-      totals = c.self.inside.totals;
-    } in
-    subst (λ (h : Held g.row.D.Denot). IsReadFault g.D.SectorDevice.state h after) c.self.view_is
-    (read_fault g.D.SectorDevice.state before after c.in_default.ensures.failed)
+    subst (λ (h : Held g.row.D.Denot).
+    ReadsLog g.D.SectorDevice.state h (record before { device = c.count_blocks.new.device }) (device_fails ℕ))
+    c.self.view_is
+    (looked_fails g.D.SectorDevice.state before c.count_blocks.new.device c.count_blocks.ensures.looks.looks ℕ
+    c.in_default.ensures.looks.failed)
 
 pub returns-clause-answer : goal.returns-clause-answer
 returns-clause-answer g c =
@@ -36,6 +31,7 @@ returns-clause-answer g c =
       number = c.self.inside.number;
       version = number_of c.self.inside.version;
       upgraded = c.self.inside.upgraded;
+      saved = c.self.inside.saved;
       halted = c.self.inside.halted;
       totals = c.self.inside.totals;
     } in
@@ -45,6 +41,7 @@ returns-clause-answer g c =
       number = c.self.inside.number;
       version = number_of c.self.inside.version;
       upgraded = c.self.inside.upgraded;
+      saved = c.self.inside.saved;
       halted = c.self.inside.halted;
       totals = c.self.inside.totals;
     } in

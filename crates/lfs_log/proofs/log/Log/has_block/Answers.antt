@@ -1,33 +1,28 @@
-use Rattle.std.proofs.Common.{subst, ◌==◌}
+use Rattle.std.proofs.Common.{Bool, subst, ◌==◌}
 use Rattle.std.specs.Prelude.{not}
 use Rattle.lfs_log.specs.Versions.{number_of}
-use Rattle.lfs_log.specs.Held.{Held, TellsBlock, IsReadFault}
+use Rattle.lfs_log.specs.Held.{Held, TellsBlock, ReadsLog}
 use Rattle.lfs_log.proofs.log.Log.has_block.Goals as goal
 use Rattle.lfs_log.proofs.StoredBlocks.{tells_block}
-use Rattle.lfs_log.proofs.Volumes.{read_fault}
+use Rattle.lfs_log.proofs.Volumes.{device_fails, looked_fails}
 
-pub returns-in_default-clause-failed : goal.returns-in_default-clause-failed
-returns-in_default-clause-failed g c =
+pub returns-in_default-clause-keeps : goal.returns-in_default-clause-keeps
+returns-in_default-clause-keeps g c =
     let before : Held g.row.D.Denot = record {
       device = c.self.inside.device;
       memory = c.self.inside.memory;
       number = c.self.inside.number;
       version = number_of c.self.inside.version;
       upgraded = c.self.inside.upgraded;
+      saved = c.self.inside.saved;
       halted = c.self.inside.halted;
       totals = c.self.inside.totals;
     } in
-    let after : Held g.row.D.Denot = record {
-      device = c.find_block.new.device;
-      memory = c.self.inside.memory;
-      number = c.self.inside.number;
-      version = number_of c.self.inside.version;
-      upgraded = c.self.inside.upgraded;
-      halted = c.self.inside.halted;
-      totals = c.self.inside.totals;
-    } in
-    subst (λ (h : Held g.row.D.Denot). IsReadFault g.D.SectorDevice.state h after) c.self.view_is
-    (read_fault g.D.SectorDevice.state before after c.in_default.ensures.failed)
+    subst (λ (h : Held g.row.D.Denot).
+    ReadsLog g.D.SectorDevice.state h (record before { device = c.find_block.new.device }) (device_fails Bool))
+    c.self.view_is
+    (looked_fails g.D.SectorDevice.state before c.find_block.new.device c.find_block.ensures.looks.looks Bool
+    c.in_default.ensures.looks.failed)
 
 pub returns-clause-answer : goal.returns-clause-answer
 returns-clause-answer g c =
@@ -37,6 +32,7 @@ returns-clause-answer g c =
       number = c.self.inside.number;
       version = number_of c.self.inside.version;
       upgraded = c.self.inside.upgraded;
+      saved = c.self.inside.saved;
       halted = c.self.inside.halted;
       totals = c.self.inside.totals;
     } in
@@ -46,6 +42,7 @@ returns-clause-answer g c =
       number = c.self.inside.number;
       version = number_of c.self.inside.version;
       upgraded = c.self.inside.upgraded;
+      saved = c.self.inside.saved;
       halted = c.self.inside.halted;
       totals = c.self.inside.totals;
     } in

@@ -1,34 +1,29 @@
-use Rattle.std.proofs.Common.{subst, ◌==◌}
+use Rattle.std.proofs.Common.{Bool, subst, ◌==◌}
 use Rattle.std.specs.Prelude.{not}
 use Rattle.lfs_log.specs.Versions.{number_of}
-use Rattle.lfs_log.specs.Held.{Held, TellsLeaf, IsReadFault}
+use Rattle.lfs_log.specs.Held.{Held, TellsLeaf, ReadsLog}
 use Rattle.lfs_log.proofs.KeptRuns.{kept_still}
 use Rattle.lfs_log.proofs.log.Log.has_leaf.Goals as goal
 use Rattle.lfs_log.proofs.StoredBlocks.{tells_leaf}
-use Rattle.lfs_log.proofs.Volumes.{read_fault}
+use Rattle.lfs_log.proofs.Volumes.{device_fails, looked_fails}
 
-pub returns-in_default-clause-failed : goal.returns-in_default-clause-failed
-returns-in_default-clause-failed g c =
+pub returns-in_default-clause-keeps : goal.returns-in_default-clause-keeps
+returns-in_default-clause-keeps g c =
     let before : Held g.row.D.Denot = record {
       device = c.self.inside.device;
       memory = c.self.inside.memory;
       number = c.self.inside.number;
       version = number_of c.self.inside.version;
       upgraded = c.self.inside.upgraded;
+      saved = c.self.inside.saved;
       halted = c.self.inside.halted;
       totals = c.self.inside.totals;
     } in
-    let after : Held g.row.D.Denot = record {
-      device = c.locate_leaf.new.device;
-      memory = c.self.inside.memory;
-      number = c.self.inside.number;
-      version = number_of c.self.inside.version;
-      upgraded = c.self.inside.upgraded;
-      halted = c.self.inside.halted;
-      totals = c.self.inside.totals;
-    } in
-    subst (λ (h : Held g.row.D.Denot). IsReadFault g.D.SectorDevice.state h after) c.self.view_is
-    (read_fault g.D.SectorDevice.state before after c.in_default.ensures.failed)
+    subst (λ (h : Held g.row.D.Denot).
+    ReadsLog g.D.SectorDevice.state h (record before { device = c.locate_leaf.new.device }) (device_fails Bool))
+    c.self.view_is
+    (looked_fails g.D.SectorDevice.state before c.locate_leaf.new.device c.locate_leaf.ensures.looks.looks Bool
+    c.in_default.ensures.looks.failed)
 
 pub returns-clause-answer : goal.returns-clause-answer
 returns-clause-answer g c =
@@ -38,6 +33,7 @@ returns-clause-answer g c =
       number = c.self.inside.number;
       version = number_of c.self.inside.version;
       upgraded = c.self.inside.upgraded;
+      saved = c.self.inside.saved;
       halted = c.self.inside.halted;
       totals = c.self.inside.totals;
     } in
@@ -47,6 +43,7 @@ returns-clause-answer g c =
       number = c.self.inside.number;
       version = number_of c.self.inside.version;
       upgraded = c.self.inside.upgraded;
+      saved = c.self.inside.saved;
       halted = c.self.inside.halted;
       totals = c.self.inside.totals;
     } in
@@ -57,11 +54,11 @@ returns-clause-answer g c =
 pub invariant_of-self : goal.invariant_of-self
 invariant_of-self g c =
     kept_still (g.D.SectorDevice.state c.self.inside.device) (g.D.SectorDevice.state c.locate_leaf.new.device) c.self.inside.memory
-    c.self.inside.before.usage c.self.inside.halted c.self.inside.pointers
-    c.locate_leaf.ensures.looks c.self.invariant
+    c.self.inside.before.usage c.self.inside.upgraded c.self.inside.saved c.self.inside.halted c.self.inside.pointers
+    c.locate_leaf.ensures.looks.looks c.self.invariant
 
 pub invariant_of-self-2 : goal.invariant_of-self-2
 invariant_of-self-2 g c =
     kept_still (g.D.SectorDevice.state c.self.inside.device) (g.D.SectorDevice.state c.locate_leaf.new.device) c.self.inside.memory
-    c.self.inside.before.usage c.self.inside.halted c.self.inside.pointers
-    c.locate_leaf.ensures.looks c.self.invariant
+    c.self.inside.before.usage c.self.inside.upgraded c.self.inside.saved c.self.inside.halted c.self.inside.pointers
+    c.locate_leaf.ensures.looks.looks c.self.invariant

@@ -1,32 +1,28 @@
-use Rattle.std.proofs.Common.{subst}
+use Rattle.std.proofs.Common.{Option, subst}
+use Rattle.lfs_memory.specs.files.declared.header.Header.{Header}
 use Rattle.lfs_log.specs.Versions.{number_of}
-use Rattle.lfs_log.specs.Held.{Held, ReadsHeader, IsReadFault}
+use Rattle.lfs_log.specs.Held.{Held, ReadsHeader, ReadsLog}
 use Rattle.lfs_log.proofs.KeptRuns.{kept_still}
 use Rattle.lfs_log.proofs.log.Log.header.Goals as goal
-use Rattle.lfs_log.proofs.Volumes.{reads_header, read_fault}
+use Rattle.lfs_log.proofs.Volumes.{device_fails, reads_header, looked_fails}
 
-pub returns-in_default-clause-failed : goal.returns-in_default-clause-failed
-returns-in_default-clause-failed g c =
+pub returns-in_default-clause-keeps : goal.returns-in_default-clause-keeps
+returns-in_default-clause-keeps g c =
     let before : Held g.row.D.Denot = record {
       device = c.self.inside.device;
       memory = c.self.inside.memory;
       number = c.self.inside.number;
       version = number_of c.self.inside.version;
       upgraded = c.self.inside.upgraded;
+      saved = c.self.inside.saved;
       halted = c.self.inside.halted;
       totals = c.self.inside.totals;
     } in
-    let after : Held g.row.D.Denot = record {
-      device = c.read_header.new.device;
-      memory = c.self.inside.memory;
-      number = c.self.inside.number;
-      version = number_of c.self.inside.version;
-      upgraded = c.self.inside.upgraded;
-      halted = c.self.inside.halted;
-      totals = c.self.inside.totals;
-    } in
-    subst (λ (h : Held g.row.D.Denot). IsReadFault g.D.SectorDevice.state h after) c.self.view_is
-    (read_fault g.D.SectorDevice.state before after c.in_default.ensures.failed)
+    subst (λ (h : Held g.row.D.Denot).
+    ReadsLog g.D.SectorDevice.state h (record before { device = c.read_header.new.device }) (device_fails (Option Header)))
+    c.self.view_is
+    (looked_fails g.D.SectorDevice.state before c.read_header.new.device c.read_header.ensures.looks.looks
+    (Option Header) c.in_default.ensures.looks.failed)
 
 pub returns-clause-answer : goal.returns-clause-answer
 returns-clause-answer g c =
@@ -36,6 +32,7 @@ returns-clause-answer g c =
       number = c.self.inside.number;
       version = number_of c.self.inside.version;
       upgraded = c.self.inside.upgraded;
+      saved = c.self.inside.saved;
       halted = c.self.inside.halted;
       totals = c.self.inside.totals;
     } in
@@ -45,6 +42,7 @@ returns-clause-answer g c =
       number = c.self.inside.number;
       version = number_of c.self.inside.version;
       upgraded = c.self.inside.upgraded;
+      saved = c.self.inside.saved;
       halted = c.self.inside.halted;
       totals = c.self.inside.totals;
     } in
@@ -54,11 +52,11 @@ returns-clause-answer g c =
 pub invariant_of-self : goal.invariant_of-self
 invariant_of-self g c =
     kept_still (g.D.SectorDevice.state c.self.inside.device) (g.D.SectorDevice.state c.read_header.new.device) c.self.inside.memory
-    c.self.inside.before.usage c.self.inside.halted c.self.inside.pointers
-    c.read_header.ensures.looks c.self.invariant
+    c.self.inside.before.usage c.self.inside.upgraded c.self.inside.saved c.self.inside.halted c.self.inside.pointers
+    c.read_header.ensures.looks.looks c.self.invariant
 
 pub invariant_of-self-2 : goal.invariant_of-self-2
 invariant_of-self-2 g c =
     kept_still (g.D.SectorDevice.state c.self.inside.device) (g.D.SectorDevice.state c.read_header.new.device) c.self.inside.memory
-    c.self.inside.before.usage c.self.inside.halted c.self.inside.pointers
-    c.read_header.ensures.looks c.self.invariant
+    c.self.inside.before.usage c.self.inside.upgraded c.self.inside.saved c.self.inside.halted c.self.inside.pointers
+    c.read_header.ensures.looks.looks c.self.invariant

@@ -13,6 +13,7 @@ returns-clause-some g c =
       number = c.self.inside.number;
       version = number_of c.self.inside.version;
       upgraded = c.self.inside.upgraded;
+      saved = c.self.inside.saved;
       halted = c.self.inside.halted;
       totals = c.self.inside.totals;
     } in
@@ -28,6 +29,7 @@ returns-clause-none g c =
       number = c.self.inside.number;
       version = number_of c.self.inside.version;
       upgraded = c.self.inside.upgraded;
+      saved = c.self.inside.saved;
       halted = c.self.inside.halted;
       totals = c.self.inside.totals;
     } in

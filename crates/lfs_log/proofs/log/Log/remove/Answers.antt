@@ -1,4 +1,4 @@
-use Rattle.std.proofs.Common.{refl, subst}
+use Rattle.std.proofs.Common.{◌&&◌, Bool, ap, refl, subst}
 use Rattle.lfs_log.specs.Versions.{number_of}
 use Rattle.lfs_log.specs.Held.{Held, IsReadFault, IsRemoved, IsKept}
 use Rattle.lfs_log.proofs.Volumes.{is_removed, is_kept, read_fault}
@@ -12,6 +12,7 @@ returns-in_default-clause-kept g c =
       number = c.self.inside.number;
       version = number_of c.self.inside.version;
       upgraded = c.self.inside.upgraded;
+      saved = c.self.inside.saved;
       halted = c.self.inside.halted;
       totals = c.self.inside.totals;
     } in
@@ -21,11 +22,12 @@ returns-in_default-clause-kept g c =
       number = c.self.inside.number;
       version = number_of c.self.inside.version;
       upgraded = c.self.inside.upgraded;
+      saved = c.self.inside.saved;
       halted = c.self.inside.halted;
       totals = c.self.inside.totals;
     } in
     subst (λ (h : Held g.row.D.Denot). IsKept g.D.SectorDevice.state h after) c.self.view_is
-    (is_kept g.D.SectorDevice.state before after c.in_default.ensures.kept.0 refl refl c.in_default.ensures.kept.2 refl refl
+    (is_kept g.D.SectorDevice.state before after c.in_default.ensures.kept.0 refl refl c.in_default.ensures.kept.2 refl refl refl
     c.in_default.ensures.kept.1)
 
 pub returns-in_default-clause-failed : goal.returns-in_default-clause-failed
@@ -36,6 +38,7 @@ returns-in_default-clause-failed g c =
       number = c.self.inside.number;
       version = number_of c.self.inside.version;
       upgraded = c.self.inside.upgraded;
+      saved = c.self.inside.saved;
       halted = c.self.inside.halted;
       totals = c.self.inside.totals;
     } in
@@ -45,6 +48,7 @@ returns-in_default-clause-failed g c =
       number = c.self.inside.number;
       version = number_of c.self.inside.version;
       upgraded = c.self.inside.upgraded;
+      saved = c.self.inside.saved;
       halted = c.self.inside.halted;
       totals = c.self.inside.totals;
     } in
@@ -59,6 +63,7 @@ returns-clause-done g c =
       number = c.self.inside.number;
       version = number_of c.self.inside.version;
       upgraded = c.self.inside.upgraded;
+      saved = c.self.inside.saved;
       halted = c.self.inside.halted;
       totals = c.self.inside.totals;
     } in
@@ -68,9 +73,11 @@ returns-clause-done g c =
       number = c.self.inside.number;
       version = number_of c.self.inside.version;
       upgraded = c.self.inside.upgraded;
+      saved = c.self.inside.saved && c.is_hidden-nameless.result;
       halted = c.self.inside.halted;
       totals = c.args.totals;
     } in
     subst (λ (h : Held g.row.D.Denot). IsRemoved g.D.SectorDevice.state h after c.args.number) c.self.view_is
     (is_removed g.D.SectorDevice.state before after c.in-Ok.ensures.done.0 refl refl c.in-Ok.ensures.done.2 refl refl c.args.number
-    c.in-Ok.ensures.done.1)
+    c.requires
+    (ap (λ (hidden : Bool). c.self.inside.saved && hidden) c.is_hidden-nameless.ensures) c.in-Ok.ensures.done.1)

@@ -1,4 +1,4 @@
-use Rattle.std.proofs.Common.{refl, subst}
+use Rattle.std.proofs.Common.{false, refl, subst}
 use Rattle.lfs_log.specs.Versions.{number_of}
 use Rattle.lfs_log.specs.Held.{Held, IsStaged, IsRefused, IsStageFault}
 use Rattle.lfs_log.proofs.Volumes.{is_staged, is_refused, is_stage_fault}
@@ -12,6 +12,7 @@ returns-in-Ok-clause-done g c =
       number = c.self.inside.number;
       version = number_of c.self.inside.version;
       upgraded = c.self.inside.upgraded;
+      saved = c.self.inside.saved;
       halted = c.self.inside.halted;
       totals = c.self.inside.totals;
     } in
@@ -21,13 +22,14 @@ returns-in-Ok-clause-done g c =
       number = c.self.inside.number;
       version = number_of c.version_after-self-inside.result;
       upgraded = c.is_raised_after-self-inside.result;
+      saved = false;
       halted = c.self.inside.halted;
       totals = c.args.totals;
     } in
     let go = c.in-Ok.ensures.done in
     subst (λ (h : Held g.row.D.Denot). IsStaged g.D.SectorDevice.state h after c.args.changes.now) c.self.view_is
     (is_staged g.D.SectorDevice.state before after go.0 refl refl go.2 c.args.changes.now c.version_after-self-inside.ensures
-    c.is_raised_after-self-inside.ensures go.1)
+    c.is_raised_after-self-inside.ensures refl go.1)
 
 pub returns-in-Err-clause-refused : goal.returns-in-Err-clause-refused
 returns-in-Err-clause-refused g c =
@@ -37,6 +39,7 @@ returns-in-Err-clause-refused g c =
       number = c.self.inside.number;
       version = number_of c.self.inside.version;
       upgraded = c.self.inside.upgraded;
+      saved = c.self.inside.saved;
       halted = c.self.inside.halted;
       totals = c.self.inside.totals;
     } in
@@ -46,12 +49,13 @@ returns-in-Err-clause-refused g c =
       number = c.self.inside.number;
       version = number_of c.self.inside.version;
       upgraded = c.self.inside.upgraded;
+      saved = false;
       halted = c.self.inside.halted;
       totals = c.self.inside.totals;
     } in
     let go = c.in-Err.ensures.refused in
     subst (λ (h : Held g.row.D.Denot). IsRefused g.D.SectorDevice.state h after c.args.changes.now) c.self.view_is
-    (is_refused g.D.SectorDevice.state before after go.0 refl refl go.2 c.args.changes.now refl refl go.1)
+    (is_refused g.D.SectorDevice.state before after go.0 refl refl go.2 c.args.changes.now refl refl refl go.1)
 
 pub returns-in-Err-clause-failed : goal.returns-in-Err-clause-failed
 returns-in-Err-clause-failed g c is =
@@ -61,6 +65,7 @@ returns-in-Err-clause-failed g c is =
       number = c.self.inside.number;
       version = number_of c.self.inside.version;
       upgraded = c.self.inside.upgraded;
+      saved = c.self.inside.saved;
       halted = c.self.inside.halted;
       totals = c.self.inside.totals;
     } in
@@ -70,6 +75,7 @@ returns-in-Err-clause-failed g c is =
       number = c.self.inside.number;
       version = number_of c.self.inside.version;
       upgraded = c.self.inside.upgraded;
+      saved = false;
       halted = c.self.inside.halted;
       totals = c.self.inside.totals;
     } in

@@ -1,10 +1,10 @@
-use Rattle.std.proofs.Common.{◌≡◌, ◌≤◌, ⊎_elim, inl, inr, true, length, refl, ap₂, subst}
+use Rattle.std.proofs.Common.{rules, arith, ◌≡◌, ◌≤◌, ⊎_elim, inl, inr, true, false, length, refl, ap₂, subst}
 use Rattle.lfs_memory.specs.segments.Table.{clean_in}
 use Rattle.lfs_memory.specs.declared.memory.LogMemory.{LogMemory}
 use Rattle.lfs_log.specs.Versions.{number_of}
 use Rattle.lfs_log.specs.Thresholds.{reserve_of}
 use Rattle.lfs_log.specs.Held.{Held, Halts, WritesEarly}
-use Rattle.lfs_log.proofs.EarlyWrites.{early_halts, writes_early}
+use Rattle.lfs_log.proofs.EarlyWrites.{early_halts, early_waits, writes_early}
 use Rattle.lfs_log.proofs.log.Log.write_early.Goals as goal
 
 pub returns-in-Ok-clause-done : goal.returns-in-Ok-clause-done
@@ -16,6 +16,7 @@ returns-in-Ok-clause-done g c =
       number = c.self.inside.number;
       version = number_of c.self.inside.version;
       upgraded = c.self.inside.upgraded;
+      saved = c.self.inside.saved;
       halted = c.self.inside.halted;
       totals = c.self.inside.totals;
     } in
@@ -23,7 +24,7 @@ returns-in-Ok-clause-done g c =
     let after = with_two c.write_chunks.new.device c.write_chunks.new.memory in
     let told = c.in-Ok.ensures in
     subst (λ (h : Held g.row.D.Denot). WritesEarly g.D.SectorDevice.state h after) c.self.view_is
-    (writes_early g.D.SectorDevice.state before after told.done refl refl refl c.if-self.false
+    (writes_early g.D.SectorDevice.state before after told.done refl refl refl refl c.if-self.false
     (⊎_elim (λ (same : (c.write_chunks.new.device ≡ c.self.inside.device) × (c.write_chunks.new.memory ≡ c.self.inside.memory)).
     inl (ap₂ with_two same.0 same.1))
     (λ (kept : reserve_of (length c.write_chunks.new.memory.usage.segments) ≤ clean_in c.write_chunks.new.memory.usage.segments). inr kept)
@@ -38,6 +39,7 @@ returns-in-Err-clause-halted g c is ne =
       number = c.self.inside.number;
       version = number_of c.self.inside.version;
       upgraded = c.self.inside.upgraded;
+      saved = c.self.inside.saved;
       halted = c.self.inside.halted;
       totals = c.self.inside.totals;
     } in
@@ -48,8 +50,17 @@ returns-in-Err-clause-halted g c is ne =
       number = c.self.inside.number;
       version = number_of c.self.inside.version;
       upgraded = c.self.inside.upgraded;
+      saved = false;
       halted = true;
       totals = c.self.inside.totals;
     } in
     subst (λ (h : Held g.row.D.Denot). Halts g.D.SectorDevice.state h after) c.self.view_is
-    (early_halts g.D.SectorDevice.state before after c.in-Err.ensures.stopped refl refl)
+    (early_halts g.D.SectorDevice.state before after c.in-Err.ensures.stopped refl refl refl)
+
+pub invariant_of-self : goal.invariant_of-self
+invariant_of-self g c = (
+  (λ on. search (rules, arith)),
+  rw c.drop_run.ensures tt,
+  early_waits c.self.inside.memory c.write_chunks.new.memory c.self.inside.upgraded c.self.inside.saved c.self.invariant.2
+      (λ few. (c.write_chunks.ensures.idle few).1),
+)

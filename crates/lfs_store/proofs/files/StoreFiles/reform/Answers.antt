@@ -10,7 +10,7 @@ returns-clause-redrafts g c =
     let still = subst (λ (log : Held _). Reads g.D.SectorDevice.state c.args.self.now.log log) (sym c.reform.ensures.keeps.log)
     (reads_none g.D.SectorDevice.state c.args.self.now.log) in
     seen_redraft g.D.SectorDevice.state c.args.self.now.log c.reform.new.self.log c.args.self.now.draft c.reform.new.self.draft
-    c.args.self.now.saved c.reform.new.self.saved c.args.self.now.drafted c.reform.new.self.drafted
+    c.args.self.now.log.saved c.reform.new.self.log.saved c.args.self.now.drafted c.reform.new.self.drafted
     still c.reform.ensures.keeps.saved
 
 pub returns-clause-done : goal.returns-clause-done
@@ -19,13 +19,13 @@ returns-clause-done g c =
     (reads_none g.D.SectorDevice.state c.args.self.now.log) in
     ok_then c.reform.result _ _
     (seen_reformed g.D.SectorDevice.state c.args.self.now.log c.reform.new.self.log c.args.self.now.draft c.reform.new.self.draft
-    c.args.self.now.saved c.reform.new.self.saved c.args.self.now.drafted c.reform.new.self.drafted
+    c.args.self.now.log.saved c.reform.new.self.log.saved c.args.self.now.drafted c.reform.new.self.drafted
     c.args.number.value c.args.header c.args.form c.args.size still) c.reform.ensures.done
 
 pub returns-clause-counted : goal.returns-clause-counted
 returns-clause-counted g c =
     ok_then c.reform.result _ _
     (seen_counts_reformed g.D.SectorDevice.state c.args.self.now.log c.reform.new.self.log c.args.self.now.draft c.reform.new.self.draft
-    c.args.self.now.saved c.reform.new.self.saved c.args.self.now.drafted c.reform.new.self.drafted
+    c.args.self.now.log.saved c.reform.new.self.log.saved c.args.self.now.drafted c.reform.new.self.drafted
     c.args.number.value c.args.header c.args.form c.args.size c.args.number.some c.args.number.few c.reform.ensures.keeps.drafted)
     c.reform.ensures.done

@@ -4,21 +4,21 @@ use Rattle.lfs_files.specs.declared.fault.LogFault.{LogFault}
 use Rattle.lfs_store.specs.Accepting.{Commits, Readies}
 use Rattle.lfs_store.specs.Outcomes.{Committed}
 use Rattle.lfs_store.proofs.Acceptings.{commits_log, readies_saves}
-use Rattle.lfs_store.proofs.Endings.{committed_halted, committed_saved, same_exit}
+use Rattle.lfs_store.proofs.Endings.{committed_halted, committed_saved, same_exit, still_unsaved}
 use Rattle.lfs_store.proofs.store.Store.commit.Goals as goal
 
 pub returns-then-is_halted : goal.returns-then-is_halted
 returns-then-is_halted g c = committed_halted g.D.SectorDevice.state c.args.self.now (sym c.is_halted.ensures ∙ c.if-is_halted.true)
 
-pub returns-then-self : goal.returns-then-self
-returns-then-self g c =
+pub returns-then-is_saved : goal.returns-then-is_saved
+returns-then-is_saved g c =
     committed_saved g.D.SectorDevice.state c.args.self.now (g.met.D.SectorDevice.lawful c.args.self.now.log.device)
-    (sym c.is_halted.ensures ∙ c.if-is_halted.false) c.if-self.true
+    (sym c.is_halted.ensures ∙ c.if-is_halted.false) (sym c.is_saved.ensures.value ∙ c.if-is_saved.true)
 
 pub returns-in_err-commit : goal.returns-in_err-commit
 returns-in_err-commit g c =
     let running : c.args.self.now.log.halted ≡ false = sym c.is_halted.ensures ∙ c.if-is_halted.false in
-    let unsaved = c.if-self.false in
+    let unsaved : c.args.self.now.log.saved ≡ false = sym c.is_saved.ensures.value ∙ c.if-is_saved.false in
     same_exit c.from_residual.result c.in_err-commit.field-0.0
     (λ (r : Result Unit LogFault). Committed g.D.SectorDevice.state c.args.self.now (record c.args.self.now { log = c.commit.new.self }) r)
     c.from_residual.ensures (record {
@@ -27,7 +27,10 @@ returns-in_err-commit g c =
       ready = tt;
       saved = tt;
       saves = tt;
-      same = refl;
+      same =
+          still_unsaved g.row.D.Denot c.args.self.now.log c.commit.new.self _ c.in_err-commit.field-0.0 unsaved c.in_err-commit.ensures.full
+          c.in_err-commit.ensures.other
+          (λ e. (c.in_err-commit.ensures.halted e (λ (t : c.args.self.now.log.halted ≡ true). absurd (cc))).unsaved);
       full = c.in_err-commit.ensures.full;
       unsaved = λ e. unsaved;
       other = c.in_err-commit.ensures.other;
@@ -41,16 +44,18 @@ returns-in_err-commit g c =
 pub returns : goal.returns
 returns g c =
     let running : c.args.self.now.log.halted ≡ false = sym c.is_halted.ensures ∙ c.if-is_halted.false in
-    let unsaved = c.if-self.false in
+    let unsaved : c.args.self.now.log.saved ≡ false = sym c.is_saved.ensures.value ∙ c.if-is_saved.false in
     record {
       keeps = record { draft = refl; totals = c.in_ok-commit.ensures.totals; drafted = refl };
-      done = subst (λ (saved : Bool). Commits g.D.SectorDevice.state c.args.self.now.log saved c.commit.new.self) (sym c.if-self.false)
+      done = subst (λ (saved : Bool). Commits g.D.SectorDevice.state c.args.self.now.log saved c.commit.new.self) (sym unsaved)
           (commits_log g.D.SectorDevice.state c.args.self.now.log c.commit.new.self running c.in_ok-commit.ensures.done);
       ready =
-          subst (λ (saved : Bool). Readies g.D.SectorDevice.state c.args.self.now.log saved c.commit.new.self true) (sym c.if-self.false)
-          (readies_saves g.D.SectorDevice.state c.args.self.now.log c.commit.new.self c.in_ok-commit.ensures.done
-          c.in_ok-commit.ensures.totals);
-      saved = refl;
+          subst (λ (saved : Bool). Readies g.D.SectorDevice.state c.args.self.now.log saved c.commit.new.self c.commit.new.self.saved)
+          (sym unsaved)
+          (subst (λ (saved : Bool). Readies g.D.SectorDevice.state c.args.self.now.log false c.commit.new.self saved)
+          (sym c.in_ok-commit.ensures.done.saved) (readies_saves g.D.SectorDevice.state c.args.self.now.log c.commit.new.self
+          c.in_ok-commit.ensures.done c.in_ok-commit.ensures.totals));
+      saved = c.in_ok-commit.ensures.done.saved;
       saves = λ was. c.in_ok-commit.ensures.done;
       same = tt;
       full = λ e. absurd (cc);

@@ -1,4 +1,4 @@
-use Rattle.std.proofs.Common.{◌≡◌, ◌≤◌, ◌+◌, ◌/◌, ◌∙◌, refl, rules, ℕ, length, sym, subst}
+use Rattle.std.proofs.Common.{◌≡◌, ◌≤◌, ◌+◌, ◌/◌, refl, rules, ℕ, length, sym, subst}
 use Rattle.lfs_cleaner.specs.log.Held.{Held, IsReadFault}
 use Rattle.std.specs.Prelude.{Result, Err, IfErr}
 use Rattle.lfs_files.specs.declared.fault.StoreFault.{StoreFault}

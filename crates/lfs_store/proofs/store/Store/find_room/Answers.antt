@@ -1,13 +1,9 @@
 use Rattle.std.specs.Prelude.{Result}
-use Rattle.std.proofs.Common.{rules, ◌≡◌, ◌≤◌, ◌+◌, true, false, length, sym, ◌∙◌, subst, arith}
 use Rattle.lfs_files.specs.declared.fault.LogFault.{LogFault}
-use Rattle.lfs_cleaner.specs.log.Held.{Held, IsFull}
-use Rattle.lfs_cleaner.specs.log.memory.Batch.{room_for}
 use Rattle.lfs_cleaner.proofs.of_log.of_memory.Going.{ok_then}
-use Rattle.lfs_store.specs.declared.draft.Draft.{Draft}
 use Rattle.lfs_store.specs.Outcomes.{RoomMade}
 use Rattle.lfs_store.proofs.Acceptings.{halts_first, readies_none}
-use Rattle.lfs_store.proofs.EarlyRoom.{clean_early, clean_saved, once_early, once_saved, readies_then, told_early, told_saved}
+use Rattle.lfs_store.proofs.EarlyRoom.{readies_then}
 use Rattle.lfs_store.proofs.Endings.{made_committed, made_none, made_ready, made_then, same_exit}
 use Rattle.lfs_store.proofs.store.Store.find_room.Goals as goal
 
@@ -17,7 +13,8 @@ returns-then-has_room-clause-makes g c =
 
 pub returns-then-has_room-clause-ready : goal.returns-then-has_room-clause-ready
 returns-then-has_room-clause-ready g c =
-    readies_none g.D.SectorDevice.state c.args.self.now.log c.args.self.now.saved (g.met.D.SectorDevice.lawful c.args.self.now.log.device)
+    readies_none g.D.SectorDevice.state c.args.self.now.log c.args.self.now.log.saved
+    (g.met.D.SectorDevice.lawful c.args.self.now.log.device)
     c.requires
 
 pub returns-in_err-write_early-clause-makes : goal.returns-in_err-write_early-clause-makes
@@ -31,7 +28,7 @@ returns-in_err-write_early-clause-makes g c =
       never = λ e. absurd (c.in_err-write_early.ensures.full e);
       kept = λ e. absurd (c.in_err-write_early.ensures.other e);
       failed = λ e. absurd (c.in_err-write_early.ensures.other e);
-      halted = λ e ne. halts_first g.D.SectorDevice.state c.args.self.now.log c.write_early.new.self.log c.args.self.now.saved
+      halted = λ e ne. halts_first g.D.SectorDevice.state c.args.self.now.log c.write_early.new.self.log c.args.self.now.log.saved
           (c.in_err-write_early.ensures.halted e);
     })
 
@@ -49,5 +46,6 @@ returns-clause-makes g c =
 pub returns-clause-ready : goal.returns-clause-ready
 returns-clause-ready g c =
     ok_then c.commit.result _ _
-    (λ ready. readies_then g.D.SectorDevice.state c.args.self.now.log c.write_early.new.self.log c.commit.new.self.log c.args.self.now.saved
-    c.write_early.new.self.saved c.commit.new.self.saved c.in_ok-write_early.ensures.done ready) c.commit.ensures.ready
+    (λ ready.
+    readies_then g.D.SectorDevice.state c.args.self.now.log c.write_early.new.self.log c.commit.new.self.log c.args.self.now.log.saved
+    c.write_early.new.self.log.saved c.commit.new.self.log.saved c.in_ok-write_early.ensures.done ready) c.commit.ensures.ready

@@ -12,7 +12,8 @@ returns-in-Ok-clause-makes g c =
       keeps = room.keeps;
       done = where_ok c.check_segments.result _ room.done;
       full = λ e. room.done;
-      never = λ e. cannot_lack g.D.SectorDevice.state c.args.self.now.log c.clean.new.self.log c.args.self.now.saved c.clean.new.self.saved
+      never = λ e.
+          cannot_lack g.D.SectorDevice.state c.args.self.now.log c.clean.new.self.log c.args.self.now.log.saved c.clean.new.self.log.saved
           (g.met.D.SectorDevice.lawful c.clean.new.self.log.device) room.done c.in-Ok.ensures.enough (c.check_segments.ensures.lacks e);
       kept = λ e. absurd (c.check_segments.ensures.device e);
       failed = λ e. absurd (c.check_segments.ensures.device e);

@@ -52,6 +52,6 @@ returns-clause-counted g c =
 
 pub returns-clause-stores : goal.returns-clause-stores
 returns-clause-stores g c =
-    forgets g.D.SectorDevice.state c.args.self.now.log c.remove.new.self c.args.self.now.saved c.args.number.value
+    forgets g.D.SectorDevice.state c.args.self.now.log c.remove.new.self c.args.self.now.log.saved c.args.number.value
     (removed_more g.D.SectorDevice.state c.args.self.now.log c.measure.new.self.log c.remove.new.self c.args.number.value
     (g.met.D.SectorDevice.lawful c.args.self.now.log.device) c.measure.ensures.reads.log c.in_ok-remove.ensures.done)

@@ -2,8 +2,7 @@ use Rattle.lfs_store.proofs.Mounted.{log_refused, mounts_store}
 use Rattle.lfs_store.proofs.store.Store.open.Goals as goal
 
 pub returns-clause-stores : goal.returns-clause-stores
-returns-clause-stores g c = mounts_store g.D.SectorDevice.state c.args.device c.in-Ok-open.log (g.met.D.SectorDevice.lawful c.args.device)
-    c.in-Ok-open.ensures.holds c.in-Ok-open.ensures.empty c.in-Ok-open.ensures.untaken c.in-Ok-open.ensures.many
+returns-clause-stores g c = mounts_store g.D.SectorDevice.state c.args.device c.in-Ok-open.log c.in-Ok-open.ensures.opened.holds
 
 pub returns-in-Err-clause-cause : goal.returns-in-Err-clause-cause
 returns-in-Err-clause-cause g c other =

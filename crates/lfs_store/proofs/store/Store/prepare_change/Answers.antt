@@ -7,7 +7,7 @@ use Rattle.lfs_cleaner.specs.log.memory.Batch.{room_for}
 use Rattle.lfs_cleaner.proofs.of_log.of_memory.Going.{ok_then}
 use Rattle.lfs_files.specs.declared.fault.LogFault.{LogFault}
 use Rattle.lfs_store.specs.declared.draft.Draft.{Draft}
-use Rattle.lfs_store.specs.Accepting.{HasClean, MakesRoom}
+use Rattle.lfs_store.specs.Accepting.{HasClean}
 use Rattle.lfs_store.specs.Outcomes.{RoomMade}
 use Rattle.lfs_store.proofs.EarlyRoom.{told_cleaned}
 use Rattle.lfs_store.proofs.Endings.{made_then, same_exit}
@@ -43,11 +43,12 @@ returns-clause-quiet g c fits clean =
     let same = c.find_room.ensures.quiet fits in
     let enough : length c.find_room.new.self.log.memory.usage.segments / 8 + 8 ≤ clean_in c.find_room.new.self.log.memory.usage.segments =
     subst (λ (h : Held g.row.D.Denot). HasClean h) (sym same) clean in
-    let lack = c.if-not-lacks_segments.ensures.lacks (search rules) in
+    let lack = c.if-may_commit.ensures.no (search rules) in
     absurd (omega (arith, enough, lack))
 
 pub returns-clause-told : goal.returns-clause-told
 returns-clause-told g c =
-    told_cleaned g.D.SectorDevice.state c.args.self.now.log c.find_room.new.self.log c.find_segments.new.self.log c.find_room.new.self.saved
-    c.in_ok-find_room.ensures.once (c.if-not-lacks_segments.ensures.lacks (search rules))
+    told_cleaned g.D.SectorDevice.state c.args.self.now.log c.find_room.new.self.log c.find_segments.new.self.log
+    c.find_room.new.self.log.saved
+    c.in_ok-find_room.ensures.once (c.if-may_commit.ensures.no (search rules))
     c.find_room.ensures.told c.find_segments.ensures.told c.find_segments.ensures.passes c.in_ok-find_room.ensures.ready.room.keeps.segments

@@ -1,5 +1,5 @@
-use Rattle.std.proofs.Common.{rules, ◌≡◌, ◌<◌, true, false, ap, refl, sym, ◌∙◌, subst, Err}
-use Rattle.lfs_cleaner.specs.log.memory.files.declared.fault.LogFault.TheVariants.{Full, Device, Halted}
+use Rattle.std.proofs.Common.{rules, ◌≡◌, true, false, sym, ◌∙◌, Err}
+use Rattle.lfs_cleaner.specs.log.memory.files.declared.fault.LogFault.TheVariants.{Device}
 use Rattle.lfs_store.proofs.Acceptings.{asks_much, where_err}
 use Rattle.lfs_store.proofs.Endings.{accepted_halted, accepted_refused, accepted_staged, accepted_unready}
 use Rattle.lfs_store.proofs.store.Store.stage_draft.Goals as goal
@@ -29,8 +29,8 @@ returns-in-Err-Full-clause-accepts g c =
     _ (where_err c.stage-staged.result _ c.in-Err-Full.field-0 c.in-Err-Full.is c.stage-staged.ensures.refused)
     (where_err c.stage-staged.result _ c.in-Err-Full.field-0 c.in-Err-Full.is c.stage-staged.ensures.kept)
     (λ e. absurd (cc)) (λ e. absurd (cc))
-    (λ e rest. asks_much g.D.SectorDevice.state c.args.self.now.log c.prepare_change.new.self.log c.args.self.now.saved
-    c.prepare_change.new.self.saved c.prepare_change.new.self.draft.changes
+    (λ e rest. asks_much g.D.SectorDevice.state c.args.self.now.log c.prepare_change.new.self.log c.args.self.now.log.saved
+    c.prepare_change.new.self.log.saved c.prepare_change.new.self.draft.changes
     c.in-Ok.ensures.makes.done rest c.in-Ok.ensures.room (c.stage-staged.ensures.full (search rules))
     (c.stage-staged.ensures.narrow (search rules)))
     (λ e. absurd (cc))

@@ -3,6 +3,4 @@ use Rattle.lfs_store.proofs.store.Store.with_tables.Goals as goal
 
 pub returns-clause-stores : goal.returns-clause-stores
 returns-clause-stores g c =
-    mounts_store g.D.SectorDevice.state c.args.device c.in-Ok-with_tables.log
-    (g.met.D.SectorDevice.lawful c.args.device) c.in-Ok-with_tables.ensures.holds
-    c.in-Ok-with_tables.ensures.empty c.in-Ok-with_tables.ensures.untaken c.in-Ok-with_tables.ensures.many
+    mounts_store g.D.SectorDevice.state c.args.device c.in-Ok-with_tables.log c.in-Ok-with_tables.ensures.opened.holds

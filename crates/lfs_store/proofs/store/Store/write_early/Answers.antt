@@ -1,5 +1,4 @@
-use Rattle.std.specs.Prelude.{OnOk}
-use Rattle.std.proofs.Common.{rules, ◌≡◌, Bool, true, false, refl, sym, subst}
+use Rattle.std.proofs.Common.{◌≡◌, Bool, true, false, refl, sym, ◌∙◌, subst}
 use Rattle.lfs_cleaner.proofs.of_log.of_memory.Going.{ok_then}
 use Rattle.lfs_store.specs.Accepting.{Readies}
 use Rattle.lfs_store.proofs.Acceptings.{readies_none}
@@ -7,26 +6,32 @@ use Rattle.lfs_store.proofs.EarlyRoom.{early_none, readies_early}
 use Rattle.lfs_store.proofs.Endings.{keeps_none}
 use Rattle.lfs_store.proofs.store.Store.write_early.Goals as goal
 
-pub returns-then-self-clause-done : goal.returns-then-self-clause-done
-returns-then-self-clause-done g c =
-    readies_none g.D.SectorDevice.state c.args.self.now.log c.args.self.now.saved (g.met.D.SectorDevice.lawful c.args.self.now.log.device)
+pub returns-then-is_saved-clause-done : goal.returns-then-is_saved-clause-done
+returns-then-is_saved-clause-done g c =
+    readies_none g.D.SectorDevice.state c.args.self.now.log c.args.self.now.log.saved
+    (g.met.D.SectorDevice.lawful c.args.self.now.log.device)
     c.requires
 
-pub returns-then-self-clause-early : goal.returns-then-self-clause-early
-returns-then-self-clause-early g c =
+pub returns-then-is_saved-clause-early : goal.returns-then-is_saved-clause-early
+returns-then-is_saved-clause-early g c =
     early_none g.D.SectorDevice.state c.args.self.now.log (g.met.D.SectorDevice.lawful c.args.self.now.log.device) c.requires
 
-pub returns-then-self-clause-keeps : goal.returns-then-self-clause-keeps
-returns-then-self-clause-keeps g c = keeps_none c.args.self.now
+pub returns-then-is_saved-clause-keeps : goal.returns-then-is_saved-clause-keeps
+returns-then-is_saved-clause-keeps g c = keeps_none c.args.self.now
 
 pub returns-clause-done : goal.returns-clause-done
 returns-clause-done g c =
-    subst (λ (saved : Bool).
-    OnOk c.write_early.result (Readies g.D.SectorDevice.state c.args.self.now.log saved c.write_early.new.self saved))
-    (sym c.if-self.false)
-    (ok_then c.write_early.result _ _
-    (λ early. readies_early g.D.SectorDevice.state c.args.self.now.log c.write_early.new.self early c.write_early.ensures.totals)
-    c.write_early.ensures.done)
+    let a = c.args.self.now.log in
+    let b = c.write_early.new.self in
+    let off : a.saved ≡ false = sym c.is_saved.ensures.value ∙ c.if-is_saved.false in
+    ok_then c.write_early.result _ _ (λ early.
+    subst (λ (saved : Bool). Readies g.D.SectorDevice.state a saved b b.saved) (sym off)
+    (subst (λ (saved : Bool). Readies g.D.SectorDevice.state a false b saved) (sym (early.saved ∙ off))
+    (readies_early g.D.SectorDevice.state a b early c.write_early.ensures.totals)))
+    c.write_early.ensures.done
+
+pub returns-clause-same : goal.returns-clause-same
+returns-clause-same g c = ok_then c.write_early.result _ _ (λ early. early.saved) c.write_early.ensures.done
 
 pub returns-clause-keeps : goal.returns-clause-keeps
 returns-clause-keeps g c = record { draft = refl; totals = c.write_early.ensures.totals; drafted = refl }

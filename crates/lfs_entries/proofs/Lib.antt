@@ -1,0 +1,10 @@
+pub mod Looks
+pub mod ChainWalks
+pub mod Renames
+pub mod NewObjects
+pub mod Drafts
+pub mod NewNames
+pub mod OldNames
+pub mod ObjectReads
+pub mod Moves
+pub mod Listings

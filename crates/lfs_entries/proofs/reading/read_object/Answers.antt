@@ -1,0 +1,10 @@
+use Rattle.std.proofs.lemmas.Result.{IfOk-weaker}
+use Rattle.lfs_entries.proofs.ObjectReads.{object_read}
+use Rattle.lfs_entries.proofs.reading.read_object.Goals as goal
+
+pub returns-clause-answer : goal.returns-clause-answer
+returns-clause-answer g c =
+    IfOk-weaker c.read_sized.result _ _ (λ bytes. object_read (g.F.Files.state c.args.files.now) (g.F.Files.state c.header_of.new.files)
+    (g.F.Files.state c.read_sized.new.files) c.header_of.ensures.reads
+    c.read_sized.ensures.reads c.args.number.value c.in_ok-header.header c.in_ok-header.ensures.answer
+    c.args.offset c.args.len bytes.items) c.read_sized.ensures.answer

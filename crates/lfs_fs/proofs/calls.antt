@@ -1,0 +1,9 @@
+pub mod AnyDevice
+pub mod Checks
+pub mod DraftSizes
+pub mod Drafts
+pub mod Exits
+pub mod Looks
+pub mod Reads
+pub mod Steps
+pub mod StoreCalls

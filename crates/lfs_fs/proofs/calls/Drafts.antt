@@ -1,0 +1,164 @@
+-- The ends of calls that draft and save, from the records of the store to the call as a step of the model.
+use Rattle.std.proofs.Common.{◌≡◌, ◌≤◌, ◌<◌, ◌^◌, ℕ, Bool, true, false, ◌&&◌, refl, sym, ◌∙◌, subst, inr, arith}
+use Rattle.lfs_model.specs.Call.{Call, Answer, Refuse, commits}
+use Rattle.lfs_model.specs.Checkpoint.{CheckpointValue}
+use Rattle.lfs_model.specs.Crash.{StandsForOn}
+use Rattle.lfs_model.specs.Device.{DeviceState, IsLawful, Carries, LeavesOnly}
+use Rattle.lfs_model.specs.Encodes.{IsLogMap}
+use Rattle.lfs_model.specs.Refusal.{Refusal, Halted}
+use Rattle.lfs_model.specs.Run.{Point, StepsOr, acknowledges}
+use Rattle.lfs_model.specs.Stands.{LogMap}
+use Rattle.lfs_model.specs.Tree.{State, drop_nameless}
+use Rattle.lfs_model.specs.TreeOf.{LeavesOne, dropped}
+use Rattle.lfs_model.specs.Volume.{IsLogOf}
+use Rattle.lfs_store.specs.memory.declared.changes.Changes.{Changes}
+use Rattle.lfs_store.specs.memory.Batch.{staged, FitsBatch}
+use Rattle.lfs_store.specs.Accepting.{Accepts, Commits, Declines, Stores, StoresOver}
+use Rattle.lfs_model.specs.Totals.{IsCounted}
+use Rattle.lfs_fs.specs.Volume.{Behaves, IsAt, IsIn, Mounted, Runs, Serves, segments_of}
+use Rattle.lfs_fs.proofs.volume.Nodes.{IsMapOf}
+use Rattle.lfs_fs.proofs.volume.Map.{map_of_volume, runs_over}
+use Rattle.lfs_fs.proofs.volume.Stops.{stands_dropped}
+use Rattle.lfs_fs.proofs.calls.Exits.{goes_on_at, map_dropped, point_of}
+
+-- a refusal is never acknowledged
+pub not_acknowledged : (call : Call) (r : Refusal) → acknowledges call (Refuse r) ≡ true → ⊥
+not_acknowledged call r e = no_commit (commits call) e
+  where
+    no_commit : (b : Bool) → (b && false) ≡ true → ⊥
+    no_commit true e = absurd (cc)
+    no_commit false e = absurd (cc)
+
+module _ {D : Type 0} (state : D → DeviceState) where
+  -- What holds of each state that the volume may be in.
+  abbrev pub InEach : Mounted D → (LogMap → State → Type 0) → Type 0
+  InEach v P = (k : CheckpointValue) (m0 m : LogMap) (s : State) → (state v.log.device).keeps_model
+      → IsIn state v k m0 m s → P m s
+
+  -- A volume with another log, of the same number of segments; its totals and its open files are as they were.
+  pub record IsRest (old new : Mounted D) : Type 0 where
+    pub blocks : new.blocks ≡ old.blocks
+    pub others : new.others ≡ old.others
+    pub table : new.table ≡ old.table
+
+  pub counted_still : (old new : Mounted D) (m : LogMap) → IsRest old new → IsCounted m old.blocks old.others
+      → IsCounted m new.blocks new.others
+  counted_still old new m rest counted = record { stored = rest.blocks ∙ counted.stored; above = rest.others ∙ counted.above }
+
+  module _ (old new : Mounted D) (call : Call) (lawful : IsLawful (state old.log.device)) (after : IsLawful (state new.log.device))
+      (carries : Carries (state old.log.device) (state new.log.device))
+      (segments : segments_of new ≡ segments_of old) (was : old.log.halted ≡ false) (later : old.log.number ≤ new.log.number) where
+    -- ---- the volume runs on
+
+    -- One end of a call: the state that the volume is in then, the model's step there, and what a stop meanwhile leaves.
+    pub record EndsAt (a : Answer) (p : Point) (k : CheckpointValue) (m0 m : LogMap) : Type 0 where
+      pub next : State
+      pub runs : Runs state new next
+      pub steps : StepsOr (segments_of old) call p a (point_of state new next)
+      pub moment : LeavesOnly (state old.log.device) (state new.log.device) (StandsForOn k.segments m0 (dropped m))
+      pub saves : acknowledges call a ≡ true → LeavesOne (state new.log.device) (drop_nameless next)
+
+    pub runs_on : (a : Answer) → (a ≡ Refuse Halted → ⊥) → Behaves state old new call a → new.log.halted ≡ false
+        → ((p : Point) → (state new.log.device).keeps_model → IsAt state old p → (k : CheckpointValue) (m0 m : LogMap)
+        → IsIn state old k m0 m p.state → EndsAt a p k m0 m)
+        → Serves state old new call a
+    runs_on a fine behaves running each = record {
+      carries = carries;
+      segments = λ e. segments;
+      orderly = λ e. absurd (let is = was in cc);
+      halts = λ e. absurd (fine e);
+      behaves = behaves;
+      model = λ p keeps at. (
+          let r = at.running was in
+          let end = each p keeps at r.checkpoint r.saved r.present r.is in
+          goes_on_at state old new keeps lawful after carries r.checkpoint r.saved r.present p.state r.is call a p at refl was running later
+          behaves fine end.next end.runs end.steps end.moment end.saves);
+    }
+
+    -- ---- a draft is staged
+    module _ (c : Changes) (done : Accepts state old.log old.saved new.log new.saved c) (low : old.log.number < 2 ^ 62) (a : Answer)
+        (fine : a ≡ Refuse Halted → ⊥) (none : acknowledges call a ≡ true → ⊥) where
+      -- what the draft makes of a state that the volume is in
+      pub record Drafts (p : Point) (m : LogMap) : Type 0 where
+        pub next : State
+        pub fits : FitsBatch m c
+        pub map : IsMapOf (segments_of old) (staged c m) next
+        pub handles : next.handles ≡ new.table
+        pub counted : IsCounted (staged c m) new.blocks new.others
+        pub steps : StepsOr (segments_of old) call p a (point_of state new next)
+
+      pub accepts_by : Behaves state old new call a → ((p : Point) → (state new.log.device).keeps_model → IsAt state old p
+          → (k : CheckpointValue) (m0 m : LogMap) → IsIn state old k m0 m p.state → Drafts p m) → Serves state old new call a
+      accepts_by behaves each = runs_on a fine behaves (done.halted ∙ was) (λ p keeps at k m0 m is. (
+          let drafts = each p keeps at k m0 m is in
+          let log = map_dropped state old new keeps lawful after carries k m0 m p.state is in record {
+            next = drafts.next;
+            runs = runs_over state old new k m0 m p.state is (staged c m) drafts.next
+                (done.stores k m0 m keeps is.stores drafts.fits log) segments drafts.map drafts.handles drafts.counted
+                (λ e. (done.enough, (let o = done.saves.few in let size = segments in omega (arith, o, low, size))));
+            steps = drafts.steps;
+            moment = done.moment k m0 m keeps is.stores log;
+            saves = λ e. absurd (none e);
+          }))
+
+    -- ---- a commit is done
+    module _ (rest : IsRest old new) (done : Commits state old.log old.saved new.log) (saved : new.saved ≡ true) where
+      over : (k : CheckpointValue) (m0 m : LogMap) → (state new.log.device).keeps_model → (stores : Stores state old.log old.saved k m0 m)
+          → IsLogMap (dropped m) → StoresOver state k.segments m0 m new.log new.saved m
+      over k m0 m keeps stores log =
+          let next = done.stores k m0 m keeps stores log in
+          let before = stores.holds.log.segments in
+          let now = next.1.holds.log.segments in
+          record {
+            checkpoint = next.0;
+            acknowledged = dropped m;
+            either = inr refl;
+            same = sym now ∙ done.segments ∙ before;
+            stores = subst (λ (b : Bool). Stores state new.log b next.0 (dropped m) m) (sym saved) next.1;
+          }
+
+      -- what a stop leaves then is the state without its nodes of no name
+      left_one : (k : CheckpointValue) (m0 m : LogMap) (s : State) → IsIn state old k m0 m s → (state new.log.device).keeps_model
+          → IsLogMap (dropped m) → LeavesOne (state new.log.device) (drop_nameless s)
+      left_one k m0 m s is keeps log c left = stands_dropped k.segments c m s
+          (subst (λ (n : ℕ). IsLogOf n m s) is.stores.holds.log.segments is.log) (done.left k m0 m keeps is.stores log c left)
+
+      pub commits_by : (a : Answer) → (a ≡ Refuse Halted → ⊥) → Behaves state old new call a
+          → ((p : Point) → (state new.log.device).keeps_model → IsAt state old p
+          → StepsOr (segments_of old) call p a (point_of state new p.state)) → Serves state old new call a
+      commits_by a fine behaves each = runs_on a fine behaves done.running (λ p keeps at k m0 m is. (
+          let log = map_dropped state old new keeps lawful after carries k m0 m p.state is in record {
+            next = p.state;
+            runs = runs_over state old new k m0 m p.state is m p.state (over k m0 m keeps is.stores log) segments
+                (map_of_volume state old k m0 m p.state is)
+                (is.handles ∙ sym rest.table) (counted_still old new m rest is.counted) (λ e. absurd (let s = saved in cc));
+            steps = each p keeps at;
+            moment = done.moment k m0 m keeps is.stores log;
+            saves = λ e. left_one k m0 m p.state is keeps log;
+          }))
+
+    -- ---- it isn't
+    module _ (c : Changes) (rest : IsRest old new) (declines : Declines state old.log old.saved new.log new.saved c)
+        (low : old.log.number < 2 ^ 62) (r : Refusal) (fine : r ≡ Halted → ⊥) where
+      not_halted : Refuse r ≡ Refuse Halted → ⊥
+      not_halted e = fine (cc)
+
+      pub declines_by : Behaves state old new call (Refuse r) → ((p : Point) → (state new.log.device).keeps_model → IsAt state old p
+          → (k : CheckpointValue) (m0 m : LogMap) → IsIn state old k m0 m p.state
+          → FitsBatch m c × StepsOr (segments_of old) call p (Refuse r) (point_of state new p.state)) → Serves state old new call (Refuse r)
+      declines_by behaves each = runs_on (Refuse r) not_halted behaves (declines.halted ∙ was) (λ p keeps at k m0 m is. (
+          let both = each p keeps at k m0 m is in
+          let log = map_dropped state old new keeps lawful after carries k m0 m p.state is in record {
+            next = p.state;
+            runs = runs_over state old new k m0 m p.state is m p.state (declines.stores k m0 m keeps is.stores both.0 log) segments
+                (map_of_volume state old k m0 m p.state is)
+                (is.handles ∙ sym rest.table) (counted_still old new m rest is.counted)
+                (λ e. (
+                  declines.saves.ready (λ f. (is.ready f).0) e,
+                  (let o = declines.saves.few in let size = segments in
+                      omega (arith, o, low, size)),
+                ));
+            steps = both.1;
+            moment = declines.moment k m0 m keeps is.stores log;
+            saves = λ e. absurd (not_acknowledged call r e);
+          }))

@@ -1,0 +1,62 @@
+-- Calls that only read, a call that opens a file, and calls that a fault ends, as steps of the model.
+use Rattle.std.proofs.Common.{◌≡◌, ◌+◌, ◌*◌, Bool, true, false, ◌&&◌, refl, inl, inr, arith}
+use Rattle.lfs_model.specs.Call.{Answer, Call, Refuse, Room, Space, changes, cleans, commits, is_ok, takes_no_memory, never_for_device}
+use Rattle.lfs_model.specs.Device.{DeviceState, IsLawful}
+use Rattle.lfs_model.specs.Refusal.{Device, NoMemory, Refusal}
+use Rattle.lfs_model.specs.Step.{Step}
+use Rattle.lfs_store.specs.log.Held.{IsReadFault}
+use Rattle.lfs_model.specs.Totals.{TotalsOfTree}
+use Rattle.lfs_fs.specs.Volume.{IsStill, Mounted, Serves, segments_of}
+use Rattle.lfs_fs.proofs.calls.AnyDevice.{IsOrdinary, memory_behaves}
+use Rattle.lfs_fs.proofs.calls.Steps.{never_worn, refused_not_worn, space_step}
+use Rattle.lfs_fs.proofs.calls.Drafts.{InEach, not_acknowledged}
+use Rattle.lfs_fs.proofs.volume.Map.{headers_of_volume, map_of_volume}
+use Rattle.lfs_fs.proofs.calls.Exits.{served_by, served_still}
+
+-- ---- faults
+
+module _ {D : Type 0} (state : D → DeviceState) (old new : Mounted D) (call : Call) (lawful : IsLawful (state old.log.device))
+    (still : IsStill state old new) (was : old.log.halted ≡ false) where
+  -- a call of the device failed
+  pub fault_serves : never_for_device call ≡ false → IsReadFault state old.log new.log → Serves state old new call (Refuse Device)
+  fault_serves free fault = served_still state old new call (Refuse Device) lawful still was tt (λ p keeps here k m0 m is. (
+      let rose = fault k m0 m keeps is.stores.holds in
+      inr (Device, refl, (free, (let f = here.failures in omega (arith, f, rose))), refl)))
+      (not_acknowledged call Device)
+
+  -- memory was refused
+  pub memory_serves : takes_no_memory call ≡ false → Serves state old new call (Refuse NoMemory)
+  memory_serves takes =
+      served_by state old new call (Refuse NoMemory) lawful still was (λ e. absurd (cc)) (memory_behaves state old new call still takes)
+      (λ p keeps here k m0 m is. inr (NoMemory, refl, takes, refl)) (not_acknowledged call NoMemory)
+
+  -- a refusal of the model's, where nothing has changed
+  pub refused_serves : (r : Refusal) → IsOrdinary (Refuse r) → cleans call ≡ false
+      → InEach state old (λ m s. Step (segments_of old) s call (Refuse r) s) → Serves state old new call (Refuse r)
+  refused_serves r ordinary unclean steps =
+      served_still state old new call (Refuse r) lawful still was ordinary (λ p keeps here k m0 m is. (
+      let step = steps k m0 m p.state (still.reads.looks.carries.kept_before keeps) is in
+      inl (step, refused_not_worn (segments_of old) call p r p.state step unclean)))
+      (not_acknowledged call r)
+
+  -- an answer of the model's to a call that changes nothing, and commits nothing
+  pub told_serves : (a : Answer) → IsOrdinary a → changes call ≡ false → cleans call ≡ false → commits call ≡ false
+      → InEach state old (λ m s. Step (segments_of old) s call a s) → Serves state old new call a
+  told_serves a ordinary leaves unclean free steps = served_still state old new call a lawful still was ordinary (λ p keeps here k m0 m is.
+      inl (steps k m0 m p.state (still.reads.looks.carries.kept_before keeps) is, never_worn (segments_of old) call p leaves unclean))
+      (λ e. (let no = free in absurd (none (commits call) free e)))
+    where
+      none : (b : Bool) → b ≡ false → (b && is_ok a) ≡ true → ⊥
+      none true off e = cc
+      none false off e = cc
+
+-- ---- space
+
+module _ {D : Type 0} (state : D → DeviceState) (old new : Mounted D) (lawful : IsLawful (state old.log.device))
+    (still : IsStill state old new) (was : old.log.halted ≡ false) where
+  pub space_serves : TotalsOfTree
+      → Serves state old new Space (Room old.blocks old.others (old.blocks + 7 * old.others + 720) (47 * segments_of old))
+  space_serves totals = told_serves state old new Space lawful still was
+      (Room old.blocks old.others (old.blocks + 7 * old.others + 720) (47 * segments_of old)) tt refl refl refl (λ k m0 m s keeps is.
+      space_step (segments_of old) m s (map_of_volume state old k m0 m s is) totals (headers_of_volume state old k m0 m s is) old.blocks
+      old.others is.counted)

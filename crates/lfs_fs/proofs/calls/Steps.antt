@@ -1,0 +1,175 @@
+-- The model's steps of the calls, from what the log map says: headers, bytes read, and totals for room.
+use Rattle.std.proofs.Common.{Bool, not, ◌&&◌, ◌≡◌, ◌<◌, ◌≤◌, ◌+◌, ◌-◌, ◌*◌, ◌^◌, ◌||◌, ℕ, true, false, List, length, take, drop, Some, sym}
+use Rattle.std.proofs.Common.{◌∙◌, ap, subst, inr, ⊎_elim, arith}
+use Rattle.std.specs.Prelude.{max, min}
+use Rattle.std.proofs.lemmas.List.{drop_min, length-drop, take_min}
+use Rattle.std.specs.Ordering.{nat_cmp}
+use Rattle.std.specs.FinMap.{find}
+use Rattle.lfs_model.specs.Bytes.{AreBytes, part}
+use Rattle.lfs_model.specs.Call.{Answer, AreArguments, Call, Count, Data, Pread, Pwrite, Refuse, Room, Space, Stat, Status, changes, cleans}
+use Rattle.lfs_model.specs.Call.{is_ok}
+use Rattle.lfs_model.specs.Entry as entry
+use Rattle.lfs_model.specs.Inode.{IsForm}
+use Rattle.lfs_model.specs.Need.{need}
+use Rattle.lfs_model.specs.Objects.{IsHeaderOf}
+use Rattle.lfs_model.specs.PathText.{slash}
+use Rattle.lfs_model.specs.Refusal.{NoSpace, Refusal, Worn}
+use Rattle.lfs_model.specs.Run.{IsExcused, IsPastLast, Point}
+use Rattle.lfs_model.specs.Stands.{LogMap}
+use Rattle.lfs_model.specs.Step.{Step, is_full, is_long, is_there, last_dots, name, no_last, with_new, with_tree}
+use Rattle.lfs_model.specs.Tree.{State, least}
+use Rattle.lfs_model.specs.TreeOf.{object}
+use Rattle.lfs_model.specs.Walk.{At, Parent, Resolve}
+use Rattle.lfs_model.proofs.StepsAre.{step_unique}
+use Rattle.lfs_model.proofs.Standing.{object_length}
+use Rattle.lfs_files.specs.declared.header.Header.{Header}
+use Rattle.lfs_store.specs.memory.Present.{as_header}
+use Rattle.lfs_model.specs.Totals.{IsCounted, TotalsOfTree}
+use Rattle.lfs_store.specs.Writing.{WritesFile, resized}
+use Rattle.lfs_fs.specs.Naming.{NewKind, form_of_new, kind_of_new}
+use Rattle.lfs_fs.specs.Reading.{stat_call}
+use Rattle.lfs_fs.proofs.new_entries.Maps.{NamesNew, created_map, created_need}
+use Rattle.lfs_fs.proofs.new_entries.Steps.{MakesEntry, new_done, new_no_space, new_node, with_entry}
+use Rattle.lfs_fs.proofs.volume.Nodes.{IsFileOf, IsMapOf, IsShaped, opened_file, room_counted, stat_is}
+use Rattle.lfs_fs.proofs.open_files.Steps.{read_done, write_done, write_no_space, written}
+use Rattle.lfs_fs.proofs.paths.Steps.{space_done, stat_done}
+use Rattle.lfs_fs.proofs.write.Bytes.{written_map, written_need}
+
+-- ---- the last number
+
+-- before it no call is refused for it
+pub not_worn : (N : ℕ) (call : Call) (p : Point) → p.number < 2 ^ 62 → IsPastLast N call p → ⊥
+not_worn N call p low past = let high = past.0 in omega (arith, low, high)
+
+-- nor is one that changes nothing
+pub never_worn : (N : ℕ) (call : Call) (p : Point) → changes call ≡ false → cleans call ≡ false → IsPastLast N call p → ⊥
+never_worn N call p still unclean past = ⊎_elim (λ on. let no = unclean in cc) (λ on. let yes_changes = on.0 in let no = still in cc) past.1
+
+-- nor one that the model refuses
+pub refused_not_worn : (N : ℕ) (call : Call) (p : Point) (r : Refusal) (s' : State) → Step N p.state call (Refuse r) s'
+    → cleans call ≡ false → IsPastLast N call p → ⊥
+refused_not_worn N call p r s' step unclean past = ⊎_elim
+    (λ on. let no = unclean in cc)
+    (λ on.
+    let would = on.1 in
+    let same : would.0 ≡ Refuse r = (step_unique would.2 step).0 in
+    let no : is_ok would.0 ≡ false = ap is_ok same in
+    let ok = would.3 in cc)
+    past.1
+
+-- a change that would be done is
+pub worn : (N : ℕ) (call : Call) (p q : Point) → 2 ^ 62 ≤ p.number → changes call ≡ true → (a : Answer) (s' : State)
+    → Step N p.state call a s' → is_ok a ≡ true → IsExcused N call p q Worn
+worn N call p q high change a s' step ok = (high, inr (change, (a, s', step, ok)))
+
+-- ---- reads
+
+-- a part of a list, its ends moved back to that of the list
+pub part_clipped : (b : List ℕ) (o n : ℕ) → part b (min o (length b)) (min (o + n) (length b) - min o (length b)) ≡ part b o n
+part_clipped b o n =
+    ap (take (min (o + n) (length b) - min o (length b))) (drop_min o b)
+    ∙ ap (λ (k : ℕ). take k (drop o b)) (let l = length-drop o b in omega (arith, l))
+    ∙ take_min n (drop o b)
+
+module _ (N : ℕ) (m : LogMap) (s : State) (is : IsMapOf N m s) where
+  module _ (h n off count : ℕ) (opens : find nat_cmp h s.handles ≡ Some n) (head : Header) (there : m.header n ≡ Some (as_header head))
+      (few : count ≤ 65536) (out : List ℕ) where
+    was : IsFileOf m s.tree n
+    was = opened_file N m s is.log h n opens
+
+    head_is : was.head ≡ as_header head
+    head_is = let both : Some was.head ≡ Some (as_header head) = sym was.there ∙ there in cc
+
+    pub pread_step : out ≡ part (object m n (as_header head)) off count → Step N s (Pread h off count) (Data out) s
+    pread_step read =
+        subst (λ (b : List ℕ). Step N s (Pread h off count) (Data b) s)
+        (ap (λ (x : entry.Header). part (object m n x) off count) head_is ∙ sym read)
+        (read_done N s h off count n opens few (object m n was.head) was.bytes)
+
+    -- its ends moved back to that of the file
+    pub pread_clipped : out ≡ part (object m n (as_header head)) (min off head.size) (min (off + count) head.size - min off head.size)
+        → Step N s (Pread h off count) (Data out) s
+    pread_clipped read = pread_step (read
+        ∙ ap (λ (l : ℕ). part (object m n (as_header head)) (min off l) (min (off + count) l - min off l))
+        (sym (object_length m n (as_header head)))
+        ∙ part_clipped (object m n (as_header head)) off count)
+
+  -- ---- what is told
+  pub stat_step : (p : List ℕ) (follow : Bool) (n : ℕ) → Resolve s.tree p follow (At n) → (h : entry.Header) → m.header n ≡ Some h
+      → IsHeaderOf n h
+      → Step N s (stat_call follow p) (Status (record { number = n; kind = h.kind; links = h.links; size = h.size })) s
+  stat_step p follow n walk h there fits =
+      subst (λ (x : Stat). Step N s (stat_call follow p) (Status x) s) (stat_is N m s is.log n h there fits) (stat_done N s p follow n walk)
+
+  -- ---- room
+  module _ (totals : TotalsOfTree) where
+    pub space_step : ((n : ℕ) (h : entry.Header) → m.header n ≡ Some h → IsHeaderOf n h) → (blocks others : ℕ) → IsCounted m blocks others
+        → Step N s Space (Room blocks others (blocks + 7 * others + 720) (47 * N)) s
+    space_step fits blocks others counted =
+        subst (λ (a : Answer). Step N s Space a s) (room_counted totals N m s is fits blocks others counted) (space_done N s)
+
+    module _ (shaped : IsShaped m) (m' : LogMap) (blocks others : ℕ) (counted : IsCounted m' blocks others) where
+      -- a write of some bytes
+      module _ (h n : ℕ) (opens : find nat_cmp h s.handles ≡ Some n) (head : Header) (there : m.header n ≡ Some (as_header head)) (at : ℕ)
+          (w : List ℕ)
+          (writes : WritesFile m m' n head (resized head (max head.size (at + length w))) at w) (some : 0 < length w)
+          (few : length w ≤ 65536) (end : at + length w ≤ 8511488) where
+        needs : need (written N s h at w) ≡ blocks + 7 * others + 720
+        needs = written_need N m m' s h n is opens head there at w writes end totals shaped blocks others counted
+
+        pwrite_full : 47 * N < blocks + 7 * others + 720 → Step N s (Pwrite h at w) (Refuse NoSpace) s
+        pwrite_full lacks = write_no_space N s h at w n opens few some end (let same = needs in omega (arith, same, lacks))
+
+        module _ (room : blocks + 7 * others + 720 ≤ 47 * N) where
+          fits_in : need (written N s h at w) ≤ 47 * N
+          fits_in = let same = needs in omega (arith, same, room)
+
+          pwrite_step : Step N s (Pwrite h at w) (Count (length w)) (with_tree s (written N s h at w))
+          pwrite_step = write_done N s h at w n opens few some end fits_in
+
+          pwrite_map : AreBytes w → IsMapOf N m' (with_tree s (written N s h at w))
+          pwrite_map bytes = written_map N m m' s h n is opens head there at w writes end bytes fits_in
+
+        -- with room it is done, and without refused
+        pub pwrite_ends : (47 * N < blocks + 7 * others + 720
+            → Step N s (Pwrite h at w) (Refuse NoSpace) s)
+            × (blocks + 7 * others + 720 ≤ 47 * N
+            → Step N s (Pwrite h at w) (Count (length w)) (with_tree s (written N s h at w)))
+            × (AreBytes w → blocks + 7 * others + 720 ≤ 47 * N
+            → IsMapOf N m' (with_tree s (written N s h at w)))
+        pwrite_ends = (pwrite_full, pwrite_step, λ bytes room. pwrite_map room bytes)
+
+      -- a new entry
+      module _ (p : List ℕ) (d : ℕ) (walk : Parent s.tree p (At d)) (m1 : LogMap) (n : ℕ) (first : least s.tree ≡ n) (top : n ≤ 4095)
+          (new : is_there s.tree d p ≡ false)
+          (k : NewKind) (known : IsForm s.version (kind_of_new k) (form_of_new k)) (head : Header) (size at : ℕ) (w : List ℕ) (does :
+          NamesNew m m1 m' d n k head size at w (name p)) (call : Call) (is_mkdir : Bool) (e : MakesEntry N s p d call k is_mkdir)
+          (named : (no_last p || last_dots p) ≡ false) (short : is_long s.tree d p ≡ false) (plain : (slash p && not is_mkdir) ≡ false)
+          (space : is_full s.tree d ≡ false) (allowed : e.own ≡ false) where
+        needs_entry : need (with_new s.tree d p (new_node k)) ≡ blocks + 7 * others + 720
+        needs_entry = created_need N m m1 m' s is p d walk n first top new k known head size at w does totals shaped blocks others counted
+
+        number : least s.tree ≤ 4095
+        number = omega (arith, first, top)
+
+        entry_full : 47 * N < blocks + 7 * others + 720 → Step N s call (Refuse NoSpace) s
+        entry_full lacks = new_no_space N s p d call k is_mkdir e named short new plain space allowed number
+            (let same = needs_entry in omega (arith, same, lacks))
+
+        module _ (room : blocks + 7 * others + 720 ≤ 47 * N) where
+          entry_fits : need (with_new s.tree d p (new_node k)) ≤ 47 * N
+          entry_fits = let same = needs_entry in omega (arith, same, room)
+
+          entry_step : Step N s call e.answer (with_entry N s p d call k is_mkdir e)
+          entry_step = new_done N s p d call k is_mkdir e named short new plain space allowed number entry_fits
+
+          entry_map : AreArguments call → IsMapOf N m' (with_entry N s p d call k is_mkdir e)
+          entry_map arguments = created_map N m m1 m' s is p d walk n first top new k known head size at w does call is_mkdir e arguments
+              named short plain space allowed entry_fits
+
+        pub entry_ends : (47 * N < blocks + 7 * others + 720 → Step N s call (Refuse NoSpace) s)
+            × (blocks + 7 * others + 720 ≤ 47 * N
+            → Step N s call e.answer (with_entry N s p d call k is_mkdir e))
+            × (AreArguments call → blocks + 7 * others + 720 ≤ 47 * N
+            → IsMapOf N m' (with_entry N s p d call k is_mkdir e))
+        entry_ends = (entry_full, entry_step, λ arguments room. entry_map room arguments)

@@ -1,0 +1,148 @@
+-- The ends of a clean, as steps of the model.
+use Rattle.std.proofs.Common.{◌≡◌, ◌<◌, ◌≤◌, ◌+◌, ◌/◌, ◌^◌, false, ℕ, length, refl, sym, ◌∙◌, ap, subst, inl, inr, arith}
+use Rattle.lfs_model.specs.Call.{Answer, Clean, Done, Refuse}
+use Rattle.lfs_model.specs.Checkpoint.{CheckpointValue, IsSegmentCount}
+use Rattle.lfs_model.specs.Device.{DeviceState, IsLawful}
+use Rattle.lfs_model.specs.Refusal.{Device, Halted, Stuck, Worn}
+use Rattle.lfs_model.specs.Run.{Point, StepsOr}
+use Rattle.lfs_model.specs.Stands.{LogMap}
+use Rattle.lfs_files.specs.declared.fault.LogFault.{LogFault}
+use Rattle.lfs_files.specs.declared.fault.LogFault.TheVariants as log
+use Rattle.lfs_store.specs.cleaner.Room.{HaltsLater, IsRoomFault, once_orders, room_orders}
+use Rattle.lfs_store.specs.log.Held.{Held}
+use Rattle.lfs_store.specs.declared.store.Store.{Store}
+use Rattle.lfs_store.specs.log.verify.declared.totals.BlockTotals.{BlockTotals}
+use Rattle.lfs_store.specs.Accepting.{CannotMakeRoom, HasClean, MakesRoom, most_written}
+use Rattle.lfs_store.proofs.Acceptings.{room_stores, written_most}
+use Rattle.lfs_store.proofs.of_cleaner.Onces.{once_within}
+use Rattle.lfs_fs.specs.declared.error.FsError.{FsError}
+use Rattle.lfs_fs.specs.declared.error.FsError.TheVariants as error
+use Rattle.lfs_fs.specs.declared.fs.Fs.{Fs}
+use Rattle.lfs_fs.specs.Faults.{error_of_log}
+use Rattle.lfs_fs.specs.Refusals.{refusal_of}
+use Rattle.lfs_fs.specs.Seen.{seen}
+use Rattle.lfs_fs.specs.Volume.{IsAt, IsIn, Mounted, Serves, TellsAtMost, segments_of}
+use Rattle.lfs_fs.proofs.calls.AnyDevice.{clean_bounded, write_behaves}
+use Rattle.lfs_fs.proofs.calls.Steps.{not_worn}
+use Rattle.lfs_fs.proofs.calls.Drafts.{IsRest, counted_still, runs_on}
+use Rattle.lfs_fs.proofs.volume.Map.{map_of_volume, runs_over}
+use Rattle.lfs_fs.proofs.paths.Steps.{clean_done}
+use Rattle.lfs_fs.proofs.clean.Room.{has_room}
+use Rattle.lfs_fs.proofs.calls.Exits.{map_dropped, point_of, served_still}
+use Rattle.lfs_fs.proofs.write.Ends.{halts_serves, still_none}
+
+module _ {D : Type 0} (state : D → DeviceState) (lawful : (d : D) → IsLawful (state d)) where
+  -- one pass gives the device no more than where room is made
+  pub once_tells : (old new : Held D) → IsSegmentCount (length old.memory.usage.segments)
+      → TellsAtMost state old new (once_orders (length old.memory.usage.segments))
+      → TellsAtMost state old new (room_orders (length old.memory.usage.segments))
+  once_tells old new count tells =
+      let within = once_within (length old.memory.usage.segments) count in
+      more (once_orders (length old.memory.usage.segments)) (room_orders (length old.memory.usage.segments)) within tells
+    where
+      more : (few many : ℕ) → few ≤ many → TellsAtMost state old new few → TellsAtMost state old new many
+      more few many le tells = omega (arith, le, tells)
+
+  -- past the last number nothing is cleaned
+  pub worn_serves : (v : Mounted D) → v.log.halted ≡ false → (fault : FsError) → fault ≡ error.Worn → 2 ^ 62 ≤ v.log.number
+      → Serves state v v Clean (Refuse (refusal_of fault))
+  worn_serves v was fault is high = subst (λ (e : FsError). Serves state v v Clean (Refuse (refusal_of e))) (sym is)
+      (served_still state v v Clean (Refuse Worn) (lawful v.log.device) (still_none state lawful v) was tt (λ p keeps here k m0 m is.
+      inr (Worn, refl, ((let q = here.number in omega (arith, q, high)), inl refl), refl))
+      (λ e. cc))
+
+  module _ (old new : Mounted D) (was : old.log.halted ≡ false) (rest : IsRest state old new) (low : old.log.number < 2 ^ 62)
+      (tells : TellsAtMost state old.log new.log (room_orders (segments_of old))) where
+    -- the log map is as it was, and what isn't saved after it wasn't before
+    module _ (room : MakesRoom state old.log old.saved new.log new.saved) where
+      ready : new.saved ≡ false → (old.saved ≡ false → HasClean old.log × (old.log.number ≤ 2 ^ 62 + segments_of old / 8))
+          → HasClean new.log × (new.log.number ≤ 2 ^ 62 + segments_of new / 8)
+      ready e before =
+          let none = room.unsaved e in
+          let was = before none.0 in
+          let low = was.1 in
+          let number = none.1.number in
+          let size = room.keeps.segments in
+          (none.1.clean was.0, omega (arith, low, number, size))
+
+      ends_by : (a : Answer) → (a ≡ Refuse Halted → ⊥) → (a ≡ Refuse Stuck → ⊥)
+          → ((p : Point) → (state new.log.device).keeps_model → IsAt state old p → (k : CheckpointValue) (m0 m : LogMap)
+          → IsIn state old k m0 m p.state → StepsOr (segments_of old) Clean p a (point_of state new p.state))
+          → Serves state old new Clean a
+      ends_by a fine none steps =
+          runs_on state old new Clean (lawful old.log.device) (lawful new.log.device) room.keeps.carries room.keeps.segments was
+          room.keeps.later a fine
+          (write_behaves state old new Clean a refl rest.table none (λ never e. absurd (cc))
+          (clean_bounded state old new (let few = room.keeps.number in let most = written_most D old.log old.saved in
+          omega (arith, few, most)) tells)) room.keeps.running (λ p keeps at k m0 m is. (
+          let log = map_dropped state old new keeps (lawful old.log.device) (lawful new.log.device) room.keeps.carries k m0 m p.state is in
+          record {
+            next = p.state;
+            runs = runs_over state old new k m0 m p.state is m p.state
+                (room_stores state old.log old.saved new.log new.saved room k m0 m keeps is.stores log) room.keeps.segments
+                (map_of_volume state old k m0 m p.state is) (is.handles ∙ sym rest.table)
+                (counted_still state old new m rest is.counted) (λ e. ready e is.ready);
+            steps = steps p keeps at k m0 m is;
+            moment = room.keeps.moment k m0 m keeps is.stores.holds log;
+            saves = λ e. absurd (cc);
+          }))
+
+      pub clean_done_serves : Serves state old new Clean Done
+      clean_done_serves = ends_by Done (λ e. cc) (λ e. cc) (λ p keeps at k m0 m is.
+          inl (clean_done (segments_of old) p.state, not_worn (segments_of old) Clean p (let n = at.number in omega (arith, n, low))))
+
+      -- a call of the device failed
+      pub clean_failed_serves : IsRoomFault state old.log new.log → Serves state old new Clean (Refuse Device)
+      clean_failed_serves failed = ends_by (Refuse Device) (λ e. cc) (λ e. cc) (λ p keeps at k m0 m is.
+          let rose = failed k m0 m keeps is.stores.holds
+          (map_dropped state old new keeps (lawful old.log.device) (lawful new.log.device) room.keeps.carries k m0 m p.state is) in
+          inr (Device, refl, (refl, (let f = at.failures in omega (arith, f, rose))), refl))
+
+      -- there is room where the device keeps the model
+      pub clean_full_serves : old.log.totals.data_blocks ≡ old.blocks → old.log.totals.meta_blocks ≡ old.others
+          → CannotMakeRoom state old.log old.saved new.log → Serves state old new Clean (Refuse Device)
+      clean_full_serves stored above cannot = ends_by (Refuse Device) (λ e. cc) (λ e. cc) (λ p keeps at k m0 m is.
+          absurd (cannot k m0 m keeps (has_room state old (lawful old.log.device) stored above low k m0 m p.state is)))
+
+  -- ---- the call
+  module _ (old : Fs D) (store : Store D) (was : old.store.log.halted ≡ false) (totals : store.log.totals ≡ old.store.log.totals)
+      (low : old.store.log.number < 2 ^ 62)
+      (tells : TellsAtMost state old.store.log store.log (room_orders (segments_of (seen old)))) where
+    abbrev new : Fs D
+    new = record { alloc = old.alloc; store = store; handles = old.handles }
+
+    rest : IsRest state (seen old) (seen new)
+    rest = record {
+      blocks = ap (λ (t : BlockTotals). t.data_blocks) totals;
+      others = ap (λ (t : BlockTotals). t.meta_blocks) totals;
+      table = refl;
+    }
+
+    pub cleaned_serves : MakesRoom state old.store.log old.store.log.saved store.log store.log.saved
+        → Serves state (seen old) (seen new) Clean Done
+    cleaned_serves room = clean_done_serves (seen old) (seen new) was rest low tells room
+
+    clean_fault : (fault : LogFault) → (fault ≡ log.Full → MakesRoom state old.store.log old.store.log.saved store.log store.log.saved)
+        → (fault ≡ log.Full → CannotMakeRoom state old.store.log old.store.log.saved store.log)
+        → (fault ≡ log.Device → MakesRoom state old.store.log old.store.log.saved store.log store.log.saved)
+        → (fault ≡ log.Device → IsRoomFault state old.store.log store.log)
+        → (fault ≡ log.Halted → HaltsLater state old.store.log store.log (most_written old.store.log old.store.log.saved))
+        → Serves state (seen old) (seen new) Clean (Refuse (refusal_of (error_of_log fault)))
+    clean_fault log.Full full never kept failed halted =
+        clean_full_serves (seen old) (seen new) was rest low tells (full refl) refl refl (never refl)
+    clean_fault log.Device full never kept failed halted =
+        clean_failed_serves (seen old) (seen new) was rest low tells (kept refl) (failed refl)
+    clean_fault log.Halted full never kept failed halted =
+        halts_serves state lawful (seen old) (seen new) Clean was refl refl (most_written old.store.log old.store.log.saved)
+        (written_most D old.store.log old.store.log.saved) (λ few. clean_bounded state (seen old) (seen new) few tells) (halted refl)
+
+    pub clean_fails : (fault : LogFault) (e : FsError) → e ≡ error_of_log fault
+        → (fault ≡ log.Full → MakesRoom state old.store.log old.store.log.saved store.log store.log.saved)
+        → (fault ≡ log.Full → CannotMakeRoom state old.store.log old.store.log.saved store.log)
+        → (fault ≡ log.Device → MakesRoom state old.store.log old.store.log.saved store.log store.log.saved)
+        → (fault ≡ log.Device → IsRoomFault state old.store.log store.log)
+        → (fault ≡ log.Halted → HaltsLater state old.store.log store.log (most_written old.store.log old.store.log.saved))
+        → Serves state (seen old) (seen new) Clean (Refuse (refusal_of e))
+    clean_fails fault e is full never kept failed halted =
+        subst (λ (x : FsError). Serves state (seen old) (seen new) Clean (Refuse (refusal_of x))) (sym is)
+        (clean_fault fault full never kept failed halted)

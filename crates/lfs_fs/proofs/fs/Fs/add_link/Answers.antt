@@ -1,7 +1,0 @@
-use Rattle.lfs_store.proofs.Growths.{relinks_grows}
-use Rattle.lfs_fs.proofs.fs.Fs.add_link.Goals as goal
-
-pub returns-in-Ok-clause-small : goal.returns-in-Ok-clause-small
-returns-in-Ok-clause-small g c =
-    relinks_grows c.args.self.now.store.draft.changes c.set_links.new.self.draft.changes c.args.directory.value c.args.header _
-    c.in-Ok.ensures.done

@@ -1,0 +1,4 @@
+pub mod Ends
+pub mod Maps
+pub mod Refusals
+pub mod Steps

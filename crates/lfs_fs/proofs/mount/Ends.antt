@@ -1,0 +1,92 @@
+-- What a mount finds with the tables that a walk over the whole volume took in: the state that the device stands for.
+use Rattle.std.proofs.Common.{◌≡◌, true, [], refl, sym, subst}
+use Rattle.lfs_model.specs.Checkpoint.{layout_version}
+use Rattle.lfs_model.specs.Content.{Content}
+use Rattle.lfs_model.specs.Device.{DeviceState, IsLawful, Only}
+use Rattle.lfs_model.specs.Stands.{LogMap, StandsLog}
+use Rattle.lfs_model.specs.Tree.{State}
+use Rattle.lfs_model.specs.TreeOf.{Stands, tree_in}
+use Rattle.lfs_store.specs.log.verify.declared.fault.MountFault.{MountFault}
+use Rattle.lfs_store.specs.log.verify.declared.fault.MountFault.TheVariants.{NoMemory}
+use Rattle.lfs_store.specs.log.verify.declared.tables.Tables.{Tables}
+use Rattle.lfs_store.specs.log.verify.Loading.{HasTables}
+use Rattle.lfs_store.specs.log.verify.Take.{Looks}
+use Rattle.lfs_store.specs.Accepting.{MountsStore, Stores}
+use Rattle.lfs_store.specs.Recounting.{AreTotals, MountsTotals}
+use Rattle.lfs_tree.specs.Checking.{HasTree}
+use Rattle.lfs_fs.specs.declared.fs.Fs.{Fs}
+use Rattle.lfs_fs.specs.Mounting.{FindsState, IsMountFault, IsRefused, MountsFs}
+use Rattle.lfs_fs.specs.Seen.{seen}
+use Rattle.lfs_fs.proofs.mount.State.{found_at, found_running}
+use Rattle.lfs_fs.proofs.calls.Exits.{point_of}
+
+-- ---- the walk, which only read
+module _ (old new : DeviceState) (looks : Looks old new) where
+  -- the tables lead to what is still there
+  pub tables_there : (t : Tables) → (new.keeps_model → HasTree old.content t) → new.keeps_model → HasTables new.content t
+  tables_there t has keeps = subst (λ (c : Content). HasTables c t) (sym looks.untouched.content) (has keeps).tables
+
+  -- and all of it is durable
+  pub only_there : (new.keeps_model → Only old.content new) → new.keeps_model → Only new.content new
+  only_there durable keeps = subst (λ (c : Content). Only c new) (sym looks.untouched.content) (durable keeps)
+
+-- a content stands for the tree of its log map
+state_found : (c : Content) (t : Tables) → HasTree c t → (s : State) × Stands c s
+state_found c t has =
+    let m = has.tables.held.log in
+    let k = has.tables.held.checkpoint in (
+      record { tree = tree_in m; handles = []; version = layout_version k },
+      record {
+        checkpoint = k;
+        log = m;
+        found = has.tables.held.newest;
+        stands = has.tables.stands;
+        tree = has.tree;
+        version = refl;
+        closed = refl;
+      },
+    )
+
+-- ---- the volume behind it
+module _ {D : Type 0} (state : D → DeviceState) (d d' : D) (lawful : IsLawful (state d)) (looks : Looks (state d) (state d')) (v : Fs D)
+    (same : v.store.log.device ≡ d')
+    (stores : MountsStore state d' v.store.log v.store.log.saved) (counts : MountsTotals state d' v.store.log v.store.log.totals)
+    (durable : (state d').keeps_model → Only (state d).content (state d')) where
+  stores_first : MountsStore state d v.store.log v.store.log.saved
+  stores_first =
+      subst (λ (c : Content). (m : LogMap) → (state v.store.log.device).keeps_model → (is : StandsLog c m)
+      → Stores state v.store.log v.store.log.saved is.checkpoint m m) looks.untouched.content stores
+
+  counts_first : MountsTotals state d v.store.log v.store.log.totals
+  counts_first =
+      subst (λ (c : Content). (m : LogMap) → (state v.store.log.device).keeps_model → StandsLog c m → AreTotals m v.store.log.totals)
+      looks.untouched.content counts
+
+  -- all that was there is durable
+  pub durable_now : (state v.store.log.device).keeps_model → Only (state d).content (state v.store.log.device)
+  durable_now = subst (λ (x : D). (state x).keeps_model → Only (state d).content (state x)) (sym same) durable
+
+  module _ (saved : v.store.log.saved ≡ true) (closed : v.handles ≡ []) where
+    -- the volume is in the state that the content stands for
+    pub mounts_fs : MountsFs state d v
+    mounts_fs s keeps is = record {
+      point = point_of state (seen v) s;
+      same = refl;
+      running = found_running state d (seen v) stores_first keeps s is lawful.now;
+      at = found_at state d (seen v) stores_first keeps s is lawful.now closed
+          (counts_first is.log keeps (record { checkpoint = is.checkpoint; newest = is.found; stands = is.stands })) saved
+          (durable_now keeps);
+    }
+
+    -- and it stands for one
+    pub finds_state : (t : Tables) → ((state d').keeps_model → HasTree (state d).content t) → FindsState state d v
+    finds_state t has keeps =
+        let found = state_found (state d).content t (has (subst (λ (x : D). (state x).keeps_model) same keeps)) in
+        (found.0, found.1, mounts_fs found.0 keeps found.1)
+
+-- ---- where memory is refused behind the walk
+pub memory_fault : (old new : DeviceState) (f : MountFault) → f ≡ NoMemory → (f ≡ NoMemory → ⊥) → IsMountFault old new f
+memory_fault old new f is other = absurd (other is)
+
+pub memory_reason : (old new : DeviceState) (f : MountFault) → f ≡ NoMemory → IsRefused old new f
+memory_reason old new f is = subst (IsRefused old new) (sym is) tt

@@ -1,0 +1,59 @@
+-- The state that a mount finds.
+use Rattle.std.proofs.Common.{◌≡◌, ℕ, true, false, [], refl, sym, ◌∙◌, subst}
+use Rattle.std.specs.List.{AllByRecursion}
+use Rattle.lfs_model.specs.Device.{DeviceState, IsSector, Only}
+use Rattle.lfs_model.specs.Encodes.{IsLogMap}
+use Rattle.lfs_model.specs.Stands.{StandsLog}
+use Rattle.lfs_model.specs.Tree.{State}
+use Rattle.lfs_model.specs.TreeOf.{IsTree, Stands}
+use Rattle.lfs_model.specs.Volume.{IsLogOf}
+use Rattle.lfs_model.proofs.Committed.{mounted_log}
+use Rattle.lfs_model.proofs.Decodes.{are_sized, decoding}
+use Rattle.lfs_store.specs.Accepting.{MountsStore, Stores}
+use Rattle.lfs_model.specs.Totals.{IsCounted}
+use Rattle.lfs_fs.specs.Volume.{IsAt, IsIn, Mounted, segments_of}
+use Rattle.lfs_fs.proofs.calls.Exits.{point_of}
+
+-- ---- a mount
+
+module _ {D : Type 0} (state : D → DeviceState) (d : D) (v : Mounted D) (mounts : MountsStore state d v.log v.saved)
+    (keeps : (state v.log.device).keeps_model) (s : State)
+    (is : Stands (state d).content s) (all : AllByRecursion IsSector (state d).content) where
+  -- the log map that the device stands for
+  abbrev found_log : StandsLog (state d).content is.log
+  found_log = record { checkpoint = is.checkpoint; newest = is.found; stands = is.stands }
+
+  found_stores : Stores state v.log v.saved is.checkpoint is.log is.log
+  found_stores = mounts is.log keeps found_log
+
+  -- it isn't halted
+  pub found_running : v.log.halted ≡ false
+  found_running = found_stores.holds.running
+
+  pub found_map : IsLogMap is.log
+  found_map = (decoding (state d).content is.checkpoint is.log (are_sized (state d).content all) is.stands).0
+
+  same_segments : segments_of v ≡ is.checkpoint.segments
+  same_segments = found_stores.holds.log.segments
+
+  pub found_in : v.table ≡ [] → IsCounted is.log v.blocks v.others → v.saved ≡ true → IsIn state v is.checkpoint is.log is.log s
+  found_in closed counted saved = record {
+    stores = found_stores;
+    map = found_map;
+    log = subst (λ (n : ℕ). IsLogOf n is.log s) (sym same_segments) (mounted_log (state d).content all s is);
+    handles = is.closed ∙ sym closed;
+    counted = counted;
+    acknowledged = subst (λ (n : ℕ). IsTree n is.log) (sym same_segments) is.tree.tree;
+    ready = λ e. absurd (let s = saved in cc);
+  }
+
+  -- where a stop leaves what was there
+  pub found_at : v.table ≡ [] → IsCounted is.log v.blocks v.others → v.saved ≡ true → Only (state d).content (state v.log.device)
+      → IsAt state v (point_of state v s)
+  found_at closed counted saved only = record {
+    halted = refl;
+    number = refl;
+    failures = refl;
+    running = λ e. record { checkpoint = is.checkpoint; saved = is.log; present = is.log; is = found_in closed counted saved };
+    leaves = λ c left. (s, subst (λ x. Stands x s) (sym (only c left)) is);
+  }

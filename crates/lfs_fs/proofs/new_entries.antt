@@ -1,0 +1,10 @@
+pub mod Ends
+pub mod Made
+pub mod Maps
+pub mod Objects
+pub mod Outcomes
+pub mod Refusals
+pub mod Rule
+pub mod RuleSteps
+pub mod Steps
+pub mod Trees

@@ -1,0 +1,77 @@
+-- The ends of a call that makes an entry, from what its steps tell to the call as a step of the model.
+use Rattle.std.proofs.Common.{◌≡◌, ℕ, suc, false, List, [], ◌∷◌, slice_index_or, Fits, w8, Option, Some, refl, sym, ◌∙◌, ap, subst, arith}
+use Rattle.lfs_model.specs.Call.{Refuse, Symlink}
+use Rattle.lfs_model.specs.Bytes.{AreBytes}
+use Rattle.lfs_model.specs.Device.{DeviceState, IsLawful}
+use Rattle.lfs_model.specs.PathText.{text_refusal}
+use Rattle.lfs_model.specs.Refusal.{Refusal}
+use Rattle.lfs_model.specs.Walk.{At}
+use Rattle.lfs_store.specs.memory.Batch.{IsNoChange}
+use Rattle.lfs_store.specs.log.Held.{Reads}
+use Rattle.lfs_store.specs.declared.draft.Draft.{Draft}
+use Rattle.lfs_store.specs.declared.store.Store.{Store}
+use Rattle.lfs_store.proofs.LogReads.{reads_more}
+use Rattle.lfs_path.specs.declared.last.Last.{Last}
+use Rattle.lfs_path.specs.Lasts.{HasLast}
+use Rattle.lfs_path.specs.Reaching.{EndsParent}
+use Rattle.lfs_fs.specs.Drafted.{WalksTo}
+use Rattle.lfs_fs.specs.declared.fs.Fs.{Fs}
+use Rattle.lfs_fs.specs.Naming.{Reaches}
+use Rattle.lfs_fs.specs.Seen.{Begins, seen}
+use Rattle.lfs_fs.specs.Volume.{IsStill, Mounted, Serves, segments_of}
+use Rattle.lfs_fs.proofs.paths.Looks.{only_none}
+use Rattle.lfs_fs.proofs.paths.Reads.{still_read, was_running}
+use Rattle.lfs_fs.proofs.paths.Steps.{symlink_bad_text, text_ordinary}
+use Rattle.lfs_fs.proofs.calls.Reads.{refused_serves}
+use Rattle.lfs_fs.proofs.paths.Walks.{walked}
+
+module _ {D : Type 0} (state : D → DeviceState) where
+  -- one volume after another that were only read
+  pub still_more : (a b c : Mounted D) → IsLawful (state a.log.device) → IsStill state a b → IsStill state b c → IsStill state a c
+  still_more a b c lawful one two = record {
+    reads = reads_more state a.log b.log c.log lawful one.reads two.reads;
+    saved = two.saved ∙ one.saved;
+    blocks = two.blocks ∙ one.blocks;
+    others = two.others ∙ one.others;
+    table = two.table ∙ one.table;
+  }
+
+-- the bytes of a slice are bytes
+pub bytes_of : (b : List ℕ) → ((i : ℕ) → Fits w8 (slice_index_or b i 0)) → AreBytes b
+bytes_of [] fits = tt
+bytes_of (x ∷ xs) fits = (let first = (fits 0).fits in omega (arith, first), bytes_of xs (λ i. fits (suc i)))
+
+module _ {D : Type 0} (state : D → DeviceState) (lawful : (d : D) → IsLawful (state d)) (old begun : Fs D) (begins : Begins old begun)
+    (store : Store D) (reads : Reads state begun.store.log store.log)
+    (saved : store.log.saved ≡ begun.store.log.saved) (totals : store.log.totals ≡ begun.store.log.totals)
+    (draft : store.draft ≡ begun.store.draft)
+    (drafted : store.drafted ≡ begun.store.drafted) where
+  -- the call came to the directory of the last piece
+  pub reaches : (p : List ℕ) → AreBytes p → (d : ℕ) → (piece : Option Last) → HasLast p piece
+      → WalksTo state begun.store.log store.log begun.store.draft.changes (EndsParent p) (At d)
+      → Reaches state (seen begun) (record { alloc = begun.alloc; store = store; handles = begun.handles }) p d piece
+  reaches p bytes d piece last walks = record {
+    still = still;
+    empty = subst (λ (x : Draft). IsNoChange x.changes) (sym draft) begins.empty;
+    drafted = drafted ∙ begins.drafted ∙ sym totals;
+    bytes = bytes;
+    last = last;
+    walk = walked state (seen begun) _ (lawful begun.store.log.device) still was begun.store.draft.changes begins.empty (EndsParent p)
+        (At d) walks;
+  }
+    where
+      still : IsStill state (seen begun) (seen (record { alloc = begun.alloc; store = store; handles = begun.handles }))
+      still = still_read state lawful old begun begins store reads saved totals
+
+      was : begun.store.log.halted ≡ false
+      was = was_running state lawful old begun begins store reads saved totals
+
+-- ---- a link's text that is refused
+
+module _ {D : Type 0} (state : D → DeviceState) (lawful : (d : D) → IsLawful (state d)) (old begun : Fs D) (begins : Begins old begun) where
+  pub text_ends : (text path : List ℕ) (r : Refusal) → text_refusal text ≡ Some r
+      → Serves state (seen begun) (seen begun) (Symlink text path) (Refuse r)
+  text_ends text path r bad =
+      refused_serves state (seen begun) (seen begun) (Symlink text path) (lawful begun.store.log.device) (only_none state begun).still
+      (ap (λ (v : Mounted D). v.log.halted) begins.same ∙ begins.running) r (text_ordinary text r bad) refl
+      (λ k m0 m s keeps is. symlink_bad_text (segments_of (seen begun)) s path text is.log.sound.named r bad)

@@ -1,0 +1,424 @@
+-- The ends of a close, and of a sync through a handle, as steps of the model.
+use Rattle.std.proofs.Common.{◌≡◌, ◌≤◌, ◌<◌, ◌+◌, ◌/◌, ◌^◌, ◌==◌, ◌&&◌, ℕ, Bool, true, false, length, Some, refl, sym, ◌∙◌, ap, subst}
+use Rattle.std.proofs.Common.{inl, inr, ⊎_elim, arith}
+use Rattle.std.proofs.lemmas.Bool.{eq-eqb}
+use Rattle.std.specs.Ordering.{nat_cmp}
+use Rattle.std.specs.FinMap.{find}
+use Rattle.lfs_model.specs.Call.{Answer, Call, Close, Done, Fsync, Refuse, Sync, is_ok}
+use Rattle.lfs_model.specs.Checkpoint.{CheckpointValue}
+use Rattle.lfs_model.specs.Device.{DeviceState, IsLawful}
+use Rattle.lfs_model.specs.Encodes.{IsLogMap}
+use Rattle.lfs_model.specs.Entry.{Header}
+use Rattle.lfs_model.specs.Memory.{is_nameless, is_unlinked}
+use Rattle.lfs_model.specs.Refusal.{Refusal, NoEntry, NotDir, IsDir, Exist, NotEmpty, Inval, NameTooLong, Loop, Perm, Busy, BadHandle}
+use Rattle.lfs_model.specs.Refusal.{TooManyOpen, TooManyLinks, FileTooBig, NoSpace, NoNumber, DirFull, NoMemory, Device, Halted, Stuck}
+use Rattle.lfs_model.specs.Refusal.{Worn}
+use Rattle.lfs_model.specs.Run.{IsExcused, Point, StepsOr, acknowledges}
+use Rattle.lfs_model.specs.Stands.{LogMap}
+use Rattle.lfs_model.specs.Step.{Step}
+use Rattle.lfs_model.specs.Totals.{IsCounted}
+use Rattle.lfs_model.specs.Tree.{Handles, State, names, opened, without}
+use Rattle.lfs_model.specs.TreeOf.{IsTree}
+use Rattle.lfs_files.specs.declared.fault.LogFault.{LogFault}
+use Rattle.lfs_files.specs.declared.fault.LogFault.TheVariants as log
+use Rattle.lfs_files.specs.declared.header.Header as headers
+use Rattle.lfs_store.specs.declared.store.Store.{Store}
+use Rattle.lfs_store.specs.log.verify.declared.totals.BlockTotals.{BlockTotals}
+use Rattle.lfs_store.specs.memory.Batch.{IsNoChange}
+use Rattle.lfs_store.specs.memory.Present.{as_header}
+use Rattle.lfs_store.specs.memory.Removing.{without_file}
+use Rattle.lfs_store.specs.segments.Table.{clean_in}
+use Rattle.lfs_store.specs.log.Held.{Alters, Held, Holds, IsKept, IsReadFault, IsRemoved, Reads}
+use Rattle.lfs_store.specs.Accepting.{Forgets, HasClean, Stores}
+use Rattle.lfs_store.specs.Recounting.{CountsGone}
+use Rattle.lfs_store.specs.log.Saving.{commit_orders}
+use Rattle.lfs_store.specs.cleaner.Room.{IsAtRest}
+use Rattle.lfs_store.proofs.of_cleaner.of_log.Unsaved.{kept_saved}
+use Rattle.lfs_store.proofs.Forgotten.{forgets}
+use Rattle.lfs_store.proofs.LogReads.{fault_more, held_still, reads_none}
+use Rattle.lfs_store.proofs.Recounted.{kept_more, removed_more}
+use Rattle.lfs_fs.specs.declared.error.FsError.{FsError}
+use Rattle.lfs_fs.specs.declared.fs.Fs.{Fs}
+use Rattle.lfs_fs.specs.Faults.{error_of_log}
+use Rattle.lfs_fs.specs.Refusals.{refusal_of}
+use Rattle.lfs_fs.specs.Seen.{GivesNone, HasHeader, OnlyReads, seen}
+use Rattle.lfs_fs.specs.Volume.{Behaves, IsAt, IsIn, Mounted, Serves, ServesAt, changes_handles, most_orders, segments_of}
+use Rattle.lfs_fs.proofs.calls.AnyDevice.{IsOrdinary, not_halted, not_memory, not_stuck, ok_refuses_none, tells_none}
+use Rattle.lfs_fs.proofs.calls.Steps.{never_worn}
+use Rattle.lfs_fs.proofs.open_files.ClosedMaps.{closed_map, gone_map, names_by}
+use Rattle.lfs_fs.proofs.open_files.CloseSteps.{close_bad_handle, close_goes, close_stays, closed, fsync_bad_handle, fsync_done}
+use Rattle.lfs_fs.proofs.open_files.CloseSteps.{named_stays}
+use Rattle.lfs_fs.proofs.open_files.CloseSteps.{open_stays, rest}
+use Rattle.lfs_fs.proofs.calls.Drafts.{runs_on}
+use Rattle.lfs_fs.proofs.volume.Nodes.{IsMapOf}
+use Rattle.lfs_fs.proofs.volume.Map.{map_of_volume, shape_of_volume}
+use Rattle.lfs_fs.proofs.read.Ends.{header_there}
+use Rattle.lfs_fs.proofs.calls.Exits.{point_of}
+use Rattle.lfs_fs.proofs.open_files.TableEnds.{quiet, table_serves}
+use Rattle.lfs_fs.proofs.write.Exits.{unopened}
+
+-- ---- fsync
+
+-- through an open handle a sync's step is an fsync's
+fsync_step : (N : ℕ) (s : State) (h n : ℕ) → find nat_cmp h s.handles ≡ Some n → (a : Answer) (s' : State) → Step N s Sync a s'
+    → Step N s (Fsync h) a s'
+fsync_step N s h n opens a s' step =
+    let done = fsync_done N s h n opens in
+    record {
+      first_end = done.first_end;
+      second_end = done.second_end;
+      first = done.first;
+      second = done.second;
+      answer = done.answer ∙ step.answer;
+      state = done.state ∙ step.state;
+    }
+
+fsync_excused : (N h : ℕ) (p q : Point) (r : Refusal) → IsExcused N Sync p q r → IsExcused N (Fsync h) p q r
+fsync_excused N h p q NoMemory e = e
+fsync_excused N h p q Device e = e
+fsync_excused N h p q Halted e = e
+fsync_excused N h p q Stuck e = e
+fsync_excused N h p q Worn e = absurd (never_worn N Sync p refl refl e)
+fsync_excused N h p q NoEntry e = absurd e
+fsync_excused N h p q NotDir e = absurd e
+fsync_excused N h p q IsDir e = absurd e
+fsync_excused N h p q Exist e = absurd e
+fsync_excused N h p q NotEmpty e = absurd e
+fsync_excused N h p q Inval e = absurd e
+fsync_excused N h p q NameTooLong e = absurd e
+fsync_excused N h p q Loop e = absurd e
+fsync_excused N h p q Perm e = absurd e
+fsync_excused N h p q Busy e = absurd e
+fsync_excused N h p q BadHandle e = absurd e
+fsync_excused N h p q TooManyOpen e = absurd e
+fsync_excused N h p q TooManyLinks e = absurd e
+fsync_excused N h p q FileTooBig e = absurd e
+fsync_excused N h p q NoSpace e = absurd e
+fsync_excused N h p q NoNumber e = absurd e
+fsync_excused N h p q DirFull e = absurd e
+
+fsync_steps : (N h n : ℕ) (p : Point) (a : Answer) (q : Point) → find nat_cmp h p.state.handles ≡ Some n → StepsOr N Sync p a q
+    → StepsOr N (Fsync h) p a q
+fsync_steps N h n p a q opens steps = ⊎_elim
+    (λ done. inl (fsync_step N p.state h n opens a q.state done.0, never_worn N (Fsync h) p refl refl))
+    (λ excused. inr (excused.0, excused.1, fsync_excused N h p q excused.0 excused.2, excused.3))
+    steps
+
+module _ {D : Type 0} (state : D → DeviceState) (old new : Mounted D) (was : old.log.halted ≡ false) (h n : ℕ)
+    (opens : find nat_cmp h old.table ≡ Some n) (a : Answer) where
+  fsync_at : (p : Point) → IsAt state old p → ServesAt state old new Sync a p → ServesAt state old new (Fsync h) a p
+  fsync_at p at sync = record {
+    next = sync.next;
+    at = sync.at;
+    answers = record {
+      steps = fsync_steps (segments_of old) h n p a sync.next (ap (find nat_cmp h) (at.running was).is.handles ∙ opens) sync.answers.steps;
+      halted = sync.answers.halted;
+      halts = sync.answers.halts;
+      goes_on = sync.answers.goes_on;
+      failures = sync.answers.failures;
+      number = sync.answers.number;
+      few = sync.answers.few;
+      quiet = sync.answers.quiet;
+      first_halted = sync.answers.first_halted;
+    };
+    leaves = sync.leaves;
+    saves = sync.saves;
+  }
+
+  -- a sync through an open handle is an fsync
+  pub fsync_serves : Serves state old new Sync a → Serves state old new (Fsync h) a
+  fsync_serves sync = record {
+    carries = sync.carries;
+    segments = sync.segments;
+    orderly = sync.orderly;
+    halts = sync.halts;
+    behaves = record {
+      refused = sync.behaves.refused;
+      handles = sync.behaves.handles;
+      first_halted = sync.behaves.first_halted;
+      quiet = sync.behaves.quiet;
+      number = sync.behaves.number;
+      few = sync.behaves.few;
+      memory = sync.behaves.memory;
+      stuck = sync.behaves.stuck;
+      told = sync.behaves.told;
+      one_commit = sync.behaves.one_commit;
+    };
+    model = λ p keeps at. fsync_at p at (sync.model p keeps at);
+  }
+
+-- ---- calls that change no more than memory
+
+module _ {D : Type 0} (state : D → DeviceState) (lawful : (d : D) → IsLawful (state d)) (old new : Mounted D) (was : old.log.halted ≡ false)
+    (alters : Alters state old.log new.log 0 false) (call : Call) (a : Answer) where
+  -- What such a call makes of a state that the volume is in.
+  pub record Alterations (p : Point) (k : CheckpointValue) (m0 : LogMap) : Type 0 where
+    pub next : State
+    pub present : LogMap
+    pub saved : new.saved ≡ old.saved
+    pub stores : Stores state new.log new.saved k m0 present
+    pub map : IsMapOf (segments_of old) present next
+    pub handles : next.handles ≡ new.table
+    pub counted : IsCounted present new.blocks new.others
+    pub steps : StepsOr (segments_of old) call p a (point_of state new next)
+
+  clean_still : HasClean old.log → HasClean new.log
+  clean_still clean =
+      subst (λ (x : ℕ). x / 8 + 8 ≤ clean_in new.log.memory.usage.segments) (sym alters.segments)
+      (subst (λ (c : ℕ). length old.log.memory.usage.segments / 8 + 8 ≤ c) (sym alters.clean) clean)
+
+  pub altered_serves : Behaves state old new call a → (a ≡ Refuse Halted → ⊥) → (acknowledges call a ≡ true → ⊥)
+      → ((p : Point) → (state new.log.device).keeps_model → IsAt state old p → (k : CheckpointValue) (m0 m : LogMap)
+      → IsIn state old k m0 m p.state → Alterations p k m0) → Serves state old new call a
+  altered_serves behaves fine none each =
+      runs_on state old new call (lawful old.log.device) (lawful new.log.device) alters.looks.carries alters.segments was
+      (let same = alters.number in omega (arith, same)) a fine behaves (alters.halted ∙ was) (λ p keeps here k m0 m is. (
+      let does = each p keeps here k m0 m is in record {
+        next = does.next;
+        runs = record {
+          checkpoint = k;
+          saved = m0;
+          present = does.present;
+          is = record {
+            stores = does.stores;
+            map = does.map.map;
+            log = (subst (λ (l : ℕ). IsMapOf l does.present does.next) (sym alters.segments) does.map).log;
+            handles = does.handles;
+            counted = does.counted;
+            acknowledged = subst (λ (l : ℕ). IsTree l m0) (sym alters.segments) is.acknowledged;
+            ready = λ e. (
+                let r = is.ready (sym does.saved ∙ e) in (
+                  clean_still r.0,
+                  subst (λ (l : ℕ). new.log.number ≤ 2 ^ 62 + l / 8) (sym alters.segments)
+                      (subst (λ (x : ℕ). x ≤ 2 ^ 62 + segments_of old / 8) (sym alters.number) r.1),
+                ));
+          };
+        };
+        steps = does.steps;
+        moment = quiet state old new (lawful old.log.device) (lawful new.log.device) was alters.looks k m0 m p.state is;
+        saves = λ e. absurd (none e);
+      }))
+
+  -- one that opens or closes a file
+  pub closes_behaves : changes_handles call ≡ true → is_ok a ≡ true → Behaves state old new call a
+  closes_behaves moves ok = record {
+    refused = λ r e. absurd (ok_refuses_none a r ok e);
+    handles = λ e. absurd (let both : true ≡ false = sym moves ∙ e in cc);
+    first_halted = λ e. absurd (ok_refuses_none a Halted ok e);
+    quiet = λ e. alters.looks.untouched;
+    number = λ e. alters.number;
+    few = (let same = alters.number in omega (arith, same));
+    memory = λ takes e. absurd (ok_refuses_none a NoMemory ok e);
+    stuck = λ e. absurd (ok_refuses_none a Stuck ok e);
+    told = tells_none state old.log new.log (most_orders call (segments_of old)) alters.looks.told;
+    one_commit = λ unclean clean. tells_none state old.log new.log commit_orders alters.looks.told;
+  }
+
+  -- one that leaves the open files
+  pub kept_behaves : new.table ≡ old.table → IsOrdinary a → Behaves state old new call a
+  kept_behaves table ordinary = record {
+    refused = λ r e. table;
+    handles = λ e. table;
+    first_halted = λ e. absurd (not_halted a ordinary e);
+    quiet = λ e. alters.looks.untouched;
+    number = λ e. alters.number;
+    few = (let same = alters.number in omega (arith, same));
+    memory = λ takes e. absurd (not_memory a ordinary e);
+    stuck = λ e. absurd (not_stuck a ordinary e);
+    told = tells_none state old.log new.log (most_orders call (segments_of old)) alters.looks.told;
+    one_commit = λ unclean clean. tells_none state old.log new.log commit_orders alters.looks.told;
+  }
+
+-- what is at rest stays so where nothing is gone
+still_at_rest : {D : Type 0} (state : D → DeviceState) (h h' : Held D) → IsKept state h h' → IsAtRest h → IsAtRest h'
+still_at_rest state h h' kept rest =
+    let few = kept.alters.few in
+    let many = rest.many in
+    let segments = kept.alters.segments in
+    let clean = kept.alters.clean in
+    record {
+      nothing = kept_saved h h' rest.nothing (omega (arith, few)) kept.alters.upgraded (kept.untaken rest.untaken);
+      untaken = kept.untaken rest.untaken;
+      many = omega (arith, many, segments, clean);
+    }
+
+-- ---- close
+
+module _ {D : Type 0} (state : D → DeviceState) (lawful : (d : D) → IsLawful (state d)) where
+  -- the handle gives no file
+  pub close_unopened : (v : Mounted D) → v.log.halted ≡ false → (h : ℕ) (fault : FsError) → GivesNone v.table h fault
+      → Serves state v v (Close h) (Refuse (refusal_of fault))
+  close_unopened v was h = unopened state lawful v was (Close h) h refl (λ N s none. close_bad_handle N s h none)
+
+  pub fsync_unopened : (v : Mounted D) → v.log.halted ≡ false → (h : ℕ) (fault : FsError) → GivesNone v.table h fault
+      → Serves state v v (Fsync h) (Refuse (refusal_of fault))
+  fsync_unopened v was h = unopened state lawful v was (Fsync h) h refl (λ N s none. fsync_bad_handle N s h none)
+
+  module _ (old new : Mounted D) (was : old.log.halted ≡ false) (h n : ℕ)
+      (opens : find nat_cmp h old.table ≡ Some n) where
+    opened_in : (s : State) → s.handles ≡ old.table → find nat_cmp h s.handles ≡ Some n
+    opened_in s same = ap (find nat_cmp h) same ∙ opens
+
+    module _ (table : new.table ≡ without nat_cmp h old.table) where
+      closed_handles : (s : State) → s.handles ≡ old.table → without nat_cmp h s.handles ≡ new.table
+      closed_handles s same = ap (without nat_cmp h) same ∙ sym table
+
+      -- the file keeps a name, or another handle
+      pub close_keeps : new.saved ≡ old.saved → Reads state old.log new.log → new.blocks ≡ old.blocks → new.others ≡ old.others
+          → ((k : CheckpointValue) (m0 m : LogMap) (s : State) → (state new.log.device).keeps_model → IsIn state old k m0 m s
+          → (names s.tree n == 0 && opened (without nat_cmp h s.handles) n == 0) ≡ false)
+          → Serves state old new (Close h) Done
+      close_keeps saved reads blocks others stays =
+          table_serves state old new (lawful old.log.device) (lawful new.log.device) was (Close h) Done reads saved blocks others refl refl
+          (λ e. cc) (λ p keeps here k m0 m is. record {
+            next = closed (segments_of old) p.state h p.state.tree;
+            map = closed_map (segments_of old) m p.state (map_of_volume state old k m0 m p.state is) h n (opened_in p.state is.handles)
+                (stays k m0 m p.state keeps is);
+            handles = closed_handles p.state is.handles;
+            steps = inl (
+              close_stays (segments_of old) p.state h n (opened_in p.state is.handles) (stays k m0 m p.state keeps is),
+              never_worn (segments_of old) (Close h) p refl refl,
+            );
+          })
+
+      -- it goes with its last handle
+      module _ (links : ℕ) (nameless : links ≡ 0) (shut : opened (without nat_cmp h old.table) n ≡ 0)
+          (there : (k : CheckpointValue) (m0 m : LogMap) (s : State) → (state new.log.device).keeps_model → IsIn state old k m0 m s
+          → (g : Header) × (m.header n ≡ Some g) × (g.links ≡ links)) where
+        pub close_removes : ((k : CheckpointValue) (m0 m : LogMap) (s : State) → (state new.log.device).keeps_model
+            → IsIn state old k m0 m s → is_nameless m n ≡ true → new.saved ≡ old.saved)
+            → IsRemoved state old.log new.log n → Forgets state old.log old.saved new.log n
+            → ((k : CheckpointValue) (m0 m : LogMap) → (state new.log.device).keeps_model → Holds state old.log k m0 m → IsLogMap m
+            → IsLogMap (without_file n m) → IsCounted m old.blocks old.others → IsCounted (without_file n m) new.blocks new.others)
+            → Serves state old new (Close h) Done
+        close_removes saved gone forgets counted =
+            altered_serves state lawful old new was gone.alters (Close h) Done (closes_behaves state lawful old new was gone.alters
+            (Close h) Done refl refl) (λ e. cc) (λ e. cc) (λ p keeps here k m0 m is. (
+            let map = map_of_volume state old k m0 m p.state is in
+            let open_is = opened_in p.state is.handles in
+            let header = there k m0 m p.state keeps is in
+            let no_name : names p.state.tree n ≡ 0 = names_by (segments_of old) m p.state map h n open_is header.0 header.1 ∙ header.2
+            ∙ nameless in
+            let no_other : opened (rest (segments_of old) p.state h) n ≡ 0 = ap (λ hs. opened (without nat_cmp h hs) n) is.handles ∙ shut in
+            let next_map = gone_map (segments_of old) m p.state map h n open_is no_name no_other
+            (shape_of_volume state old k m0 m p.state is) in
+            let hidden : is_nameless m n ≡ true = ap is_unlinked header.1 ∙ eq-eqb header.0.links 0 (header.2 ∙ nameless) in
+            record {
+              next = closed (segments_of old) p.state h (without nat_cmp n p.state.tree);
+              present = without_file n m;
+              saved = saved k m0 m p.state keeps is hidden;
+              stores = subst (λ (b : Bool). Stores state new.log b k m0 (without_file n m)) (sym (saved k m0 m p.state keeps is hidden))
+                  (forgets k m0 m keeps is.stores hidden);
+              map = next_map;
+              handles = closed_handles p.state is.handles;
+              counted = counted k m0 m keeps is.stores.holds is.map next_map.map is.counted;
+              steps = inl
+                  (close_goes (segments_of old) p.state h n open_is no_name no_other, never_worn (segments_of old) (Close h) p refl refl);
+            }))
+
+    -- a call of the device failed
+    pub close_fails : new.saved ≡ old.saved → IsKept state old.log new.log → IsReadFault state old.log new.log → new.blocks ≡ old.blocks
+        → new.others ≡ old.others
+        → new.table ≡ old.table → Serves state old new (Close h) (Refuse Device)
+    close_fails saved kept fault blocks others table =
+        altered_serves state lawful old new was kept.alters (Close h) (Refuse Device) (kept_behaves state lawful old new was
+        kept.alters (Close h) (Refuse Device) table tt) (λ e. cc) (λ e. cc) (λ p keeps here k m0 m is. record {
+          next = p.state;
+          present = m;
+          saved = saved;
+          stores = record {
+            holds = kept.holds k m0 m keeps is.stores.holds;
+            nothing_new = λ e. is.stores.nothing_new (sym saved ∙ e);
+            rest = λ e. still_at_rest state old.log new.log kept (is.stores.rest (sym saved ∙ e));
+          };
+          map = map_of_volume state old k m0 m p.state is;
+          handles = is.handles ∙ sym table;
+          counted = record { stored = blocks ∙ is.counted.stored; above = others ∙ is.counted.above };
+          steps = (let rose = fault k m0 m keeps is.stores.holds in
+              inr (Device, refl, (refl, (let f = here.failures in omega (arith, f, rose))), refl));
+        })
+
+-- ---- the ends of the function
+
+module _ {D : Type 0} (state : D → DeviceState) (lawful : (d : D) → IsLawful (state d)) (old : Fs D) (was : old.store.log.halted ≡ false)
+    (h n : ℕ) (opens : find nat_cmp h old.handles ≡ Some n) where
+  -- a volume with another store, and without the handle
+  abbrev pub with_parts : Store D → Handles → Fs D
+  with_parts store handles = record { alloc = old.alloc; store = store; handles = handles }
+
+  abbrev IsClosed : Handles → Type 0
+  IsClosed handles = handles ≡ without nat_cmp h old.handles
+
+  -- another handle is open on the file
+  pub close_shared : (handles : Handles) → IsClosed handles → (opened (without nat_cmp h old.handles) n ≡ 0 → ⊥)
+      → Serves state (seen old) (seen (with_parts old.store handles)) (Close h) Done
+  close_shared handles table some =
+      close_keeps state lawful (seen old) (seen (with_parts old.store handles)) was h n opens table refl
+      (reads_none state old.store.log) refl refl
+      (λ k m0 m s keeps is. open_stays (names s.tree n) (opened (without nat_cmp h s.handles) n)
+      (subst (λ hs. opened (without nat_cmp h hs) n ≡ 0 → ⊥) (sym is.handles) some))
+
+  -- its header was read
+  module _ (mid : Fs D) (empty : IsNoChange old.store.draft.changes) (reads : OnlyReads state old mid) (head : headers.Header)
+      (has : HasHeader state old mid n head) where
+    there : (k : CheckpointValue) (m0 m : LogMap) (s : State) → (state mid.store.log.device).keeps_model → IsIn state (seen old) k m0 m s
+        → m.header n ≡ Some (as_header head)
+    there k m0 m s keeps is =
+        header_there state old mid (Close h) (lawful old.store.log.device) was empty reads refl n head has k m0 m s keeps is
+
+    -- the handle is closed as it was then
+    abbrev IsClosedNow : Handles → Type 0
+    IsClosedNow handles = handles ≡ without nat_cmp h mid.handles
+
+    closed_then : (handles : Handles) → IsClosedNow handles → IsClosed handles
+    closed_then handles table = table ∙ ap (without nat_cmp h) reads.still.table
+
+    -- the file has a name
+    pub close_named : (handles : Handles) → IsClosedNow handles → 0 < head.links
+        → Serves state (seen old) (seen (with_parts mid.store handles)) (Close h) Done
+    close_named handles table some =
+        close_keeps state lawful (seen old) (seen (with_parts mid.store handles)) was h n opens
+        (closed_then handles table) reads.still.saved reads.still.reads reads.still.blocks reads.still.others
+        (λ k m0 m s keeps is. (
+        let names_is = names_by (segments_of (seen old)) m s (map_of_volume state (seen old) k m0 m s is) h n
+        (ap (find nat_cmp h) is.handles ∙ opens) (as_header head) (there k m0 m s keeps is) in
+        named_stays (names s.tree n) (opened (without nat_cmp h s.handles) n) (λ none. omega (arith, names_is, none, some))))
+
+    -- it has none, and goes
+    module _ (store : Store D) where
+      pub close_last : (handles : Handles) → IsClosedNow handles → head.links ≤ 0
+          → opened (without nat_cmp h old.handles) n ≡ 0
+          → IsRemoved state mid.store.log store.log n → CountsGone state mid.store.log store.log n mid.store.log.totals store.log.totals
+          → Serves state (seen old) (seen (with_parts store handles)) (Close h) Done
+      close_last handles table none shut gone counts =
+          let all = removed_more state old.store.log mid.store.log store.log n (lawful old.store.log.device) reads.still.reads gone in
+          close_removes state lawful (seen old) (seen (with_parts store handles)) was h n opens
+          (closed_then handles table) head.links (omega (arith, none)) shut
+          (λ k m0 m s keeps is. (as_header head, there k m0 m s (gone.alters.looks.carries.kept_before keeps) is, refl))
+          (λ k m0 m s keeps is off. all.nameless k m0 m keeps is.stores.holds off)
+          all (forgets state old.store.log store.log old.store.log.saved n all)
+          (λ k m0 m keeps holds map map' counted.
+          counts k m0 m keeps (held_still state old.store.log mid.store.log k m0 m reads.still.reads holds) map map'
+          record { stored = reads.still.blocks ∙ counted.stored; above = reads.still.others ∙ counted.above })
+
+      -- a call of the device failed
+      pub close_faults : (fault : LogFault) (e : FsError) → e ≡ error_of_log fault → IsKept state mid.store.log store.log
+          → IsReadFault state mid.store.log store.log → store.log.totals ≡ mid.store.log.totals
+          → (fault ≡ log.Halted → mid.store.log.halted ≡ true) → (fault ≡ log.Full → ⊥)
+          → Serves state (seen old) (seen (with_parts store mid.handles)) (Close h) (Refuse (refusal_of e))
+      close_faults fault e is kept failed totals halted full =
+          subst (λ (x : FsError). Serves state (seen old) (seen (with_parts store mid.handles)) (Close h) (Refuse (refusal_of x))) (sym is)
+          (by fault halted full)
+        where
+          device : Serves state (seen old) (seen (with_parts store mid.handles)) (Close h) (Refuse Device)
+          device = close_fails state lawful (seen old) (seen (with_parts store mid.handles)) was h n opens (kept.saved ∙ reads.still.saved)
+              (kept_more state old.store.log mid.store.log store.log (lawful old.store.log.device) reads.still.reads kept)
+              (fault_more state old.store.log mid.store.log store.log reads.still.reads failed)
+              (ap (λ (t : BlockTotals). t.data_blocks) totals ∙ reads.still.blocks) (ap (λ (t : BlockTotals). t.meta_blocks) totals
+              ∙ reads.still.others) reads.still.table
+
+          by : (x : LogFault) → (x ≡ log.Halted → mid.store.log.halted ≡ true) → (x ≡ log.Full → ⊥)
+              → Serves state (seen old) (seen (with_parts store mid.handles)) (Close h) (Refuse (refusal_of (error_of_log x)))
+          by log.Device halted full = device
+          by log.Halted halted full = absurd (let on = halted refl in let off = reads.still.reads.halted ∙ was in cc)
+          by log.Full halted full = absurd (full refl)

@@ -1,0 +1,104 @@
+-- A table of files in which a place is freed, and whether another place has the same file.
+use Rattle.std.proofs.Common.{◌≡◌, ◌≢◌, refl, sym, ap, subst, ◌∙◌, ℕ, ◌<◌, ◌≤◌, Bool, true, false, Some, None, length, get_or, cond}
+use Rattle.std.proofs.Common.{eqb, arith, ⊎_elim}
+use Rattle.std.specs.Prelude.{◌==◌, if◌then◌else◌, not, slice_set}
+use Rattle.std.specs.List.{refill}
+use Rattle.std.proofs.lemmas.Bool.{cases_eq, cases_lt, eq-eqb}
+use Rattle.std.proofs.lemmas.Bool.Decides.{nat_tests}
+use Rattle.std.proofs.lemmas.Cmp.{nat_cmp_total}
+use Rattle.std.proofs.lemmas.List.{get_or-set_other, get_or-set_same, length-set}
+use Rattle.std.specs.Ordering.{nat_cmp, eq_by_cmp}
+use Rattle.std.specs.FinMap.{find, nat_cmp-IsAntisymmetric}
+use Rattle.std.specs.FinMap.Entries.{is_sorted-where_key, same_entries}
+use Rattle.lfs_model.specs.Tree.{Handles, opened, without}
+use Rattle.lfs_model.proofs.Sums.{find_without, total_zero, weight-le-total}
+use Rattle.lfs_model.proofs.Trees.{cmp_same, cmp_other}
+use Rattle.lfs_fs.specs.Handles.{HasNumber, handles_of, number_in}
+use Rattle.lfs_fs.proofs.open_files.Tables.{Places, find_handle, find_past, in_order, within_table, written_back}
+
+module _ (h : ℕ) (fs : Places) where
+  abbrev rest : Handles
+  rest = without nat_cmp h (handles_of fs)
+
+  -- what the handles give without one of them
+  here : find nat_cmp h rest ≡ None
+  here = find_without nat_cmp_total h h (handles_of fs) ∙ ap (λ (b : Bool). cond b None (find nat_cmp h (handles_of fs))) (cmp_same h)
+
+  elsewhere : (k : ℕ) → k ≢ h → find nat_cmp k rest ≡ find nat_cmp k (handles_of fs)
+  elsewhere k ne = find_without nat_cmp_total h k (handles_of fs)
+      ∙ ap (λ (b : Bool). cond b None (find nat_cmp k (handles_of fs))) (cmp_other k h ne)
+
+  -- ---- a place is freed
+
+  freed : find nat_cmp h (handles_of (slice_set fs h None)) ≡ None
+  freed = ⊎_elim
+      (λ (inside : h < length fs). find_handle h (slice_set fs h None) ∙ ap number_in (get_or-set_same fs h None None inside))
+      (λ (past : length fs ≤ h). find_past h (slice_set fs h None) (let same = length-set fs h None in omega (arith, same, past)))
+      (cases_lt h (length fs))
+
+  freed_others : (k : ℕ) → k ≢ h → find nat_cmp k (handles_of (slice_set fs h None)) ≡ find nat_cmp k (handles_of fs)
+  freed_others k ne =
+      find_handle k (slice_set fs h None) ∙ ap number_in (get_or-set_other fs h k None None ne) ∙ sym (find_handle k fs)
+
+  close_handle : handles_of (slice_set fs h None) ≡ rest
+  close_handle = same_entries nat_cmp nat_cmp_total nat_cmp-IsAntisymmetric (handles_of (slice_set fs h None)) rest
+      (in_order (slice_set fs h None))
+      (is_sorted-where_key nat_cmp (λ k. not (eq_by_cmp nat_cmp h k)) (handles_of fs) (in_order fs))
+      (λ k. ⊎_elim
+      (λ (is : k ≡ h). subst (λ (q : ℕ). find nat_cmp q (handles_of (slice_set fs h None)) ≡ find nat_cmp q rest) (sym is)
+      (freed ∙ sym here))
+      (λ (ne : k ≡ h → ⊥). freed_others k ne ∙ sym (elsewhere k ne))
+      (cases_eq k h))
+
+  -- in a table that is written back whole
+  pub closed_back : (ms : Places) → ms ≡ fs → handles_of (refill (length fs) fs (slice_set ms h None)) ≡ rest
+  closed_back ms same = ap handles_of (written_back fs ms h None same) ∙ close_handle
+
+  -- ---- other places of the same file
+  module _ (n : ℕ) where
+    abbrev counts : ℕ → ℕ
+    counts = λ v. if v == n then 1 else 0
+
+    pub other_open : (k : ℕ) → k ≢ h → HasNumber (get_or fs k None) n → opened rest n ≢ 0
+    other_open k ne at none =
+        let all = weight-le-total nat_cmp_total counts k n rest (elsewhere k ne ∙ find_handle k fs ∙ at) in
+        let same : eqb n n ≡ true = eq-eqb n n refl in
+        let one : ◌≡◌ {A = ℕ} (if n == n then 1 else 0) 1 = rw same refl in
+        absurd (omega (arith, all, one, none))
+
+    pub no_other_open : ((k : ℕ) → k < length fs → k ≢ h → HasNumber (get_or fs k None) n → ⊥) → opened rest n ≡ 0
+    no_other_open none = total_zero nat_cmp_total counts rest
+        (is_sorted-where_key nat_cmp (λ k. not (eq_by_cmp nat_cmp h k)) (handles_of fs) (in_order fs)) (λ k x found. (
+        let apart : x ≢ n = other k x found in
+        let no : eqb x n ≡ false = grind (arith, nat_tests) in
+        rw no refl))
+      where
+        other : (k x : ℕ) → find nat_cmp k rest ≡ Some x → x ≢ n
+        other k x found is = ⊎_elim
+            (λ (same : k ≡ h). let both : None ≡ Some x = sym here ∙ ap (λ (q : ℕ). find nat_cmp q rest) (sym same) ∙ found in absurd (cc))
+            (λ (ne : k ≡ h → ⊥).
+            let was : find nat_cmp k (handles_of fs) ≡ Some x = sym (elsewhere k ne) ∙ found in
+            none k (within_table k x fs was) ne (sym (find_handle k fs) ∙ was ∙ ap Some is))
+            (cases_eq k h)
+
+-- ---- all places of a file
+
+module _ (fs : Places) (n : ℕ) where
+  abbrev counted : ℕ → ℕ
+  counted = λ v. if v == n then 1 else 0
+
+  pub is_open : (k : ℕ) → HasNumber (get_or fs k None) n → opened (handles_of fs) n ≢ 0
+  is_open k at none =
+      let all = weight-le-total nat_cmp_total counted k n (handles_of fs) (find_handle k fs ∙ at) in
+      let same : eqb n n ≡ true = eq-eqb n n refl in
+      let one : ◌≡◌ {A = ℕ} (if n == n then 1 else 0) 1 = rw same refl in
+      absurd (omega (arith, all, one, none))
+
+  pub is_shut : ((k : ℕ) → k < length fs → HasNumber (get_or fs k None) n → ⊥) → opened (handles_of fs) n ≡ 0
+  is_shut none = total_zero nat_cmp_total counted (handles_of fs) (in_order fs) (λ k x found. (
+      let apart : x ≢ n = other k x found in
+      let no : eqb x n ≡ false = grind (arith, nat_tests) in
+      rw no refl))
+    where
+      other : (k x : ℕ) → find nat_cmp k (handles_of fs) ≡ Some x → x ≢ n
+      other k x found is = none k (within_table k x fs found) (sym (find_handle k fs) ∙ found ∙ ap Some is)

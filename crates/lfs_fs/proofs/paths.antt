@@ -1,0 +1,10 @@
+pub mod ChainTrees
+pub mod ChainWalks
+pub mod Ends
+pub mod LastNames
+pub mod Later
+pub mod Looks
+pub mod Places
+pub mod Reads
+pub mod Steps
+pub mod Walks

@@ -1,0 +1,101 @@
+-- A path that a call walks after it has read.
+use Rattle.std.proofs.Common.{◌≡◌, ◌<◌, ℕ, true, false, List, Option, sym, ◌∙◌, subst, arith}
+use Rattle.lfs_model.specs.Bytes.{AreBytes}
+use Rattle.lfs_model.specs.Call.{Call, Refuse, cleans, takes_no_memory, never_for_device}
+use Rattle.lfs_model.specs.Checkpoint.{CheckpointValue}
+use Rattle.lfs_model.specs.Device.{DeviceState, IsLawful}
+use Rattle.lfs_model.specs.Refusal as model
+use Rattle.lfs_model.specs.Refusal.{Refusal}
+use Rattle.lfs_model.specs.Stands.{LogMap}
+use Rattle.lfs_model.specs.Step.{Step}
+use Rattle.lfs_model.specs.Tree.{State, Tree}
+use Rattle.lfs_model.specs.TreeOf.{tree_in}
+use Rattle.lfs_model.specs.Walk.{At, End, Refused}
+use Rattle.lfs_files.specs.declared.fault.LogFault.TheVariants as log
+use Rattle.lfs_store.specs.declared.draft.Draft.{Draft}
+use Rattle.lfs_store.specs.memory.Batch.{IsNoChange}
+use Rattle.lfs_store.specs.memory.declared.changes.Changes.{Changes}
+use Rattle.lfs_store.specs.log.Held.{Held, Reads}
+use Rattle.lfs_store.proofs.LogReads.{held_still}
+use Rattle.lfs_path.specs.declared.last.Last.{Last}
+use Rattle.lfs_path.specs.declared.walk_fault.WalkFault.{WalkFault}
+use Rattle.lfs_path.specs.declared.walk_fault.WalkFault.TheVariants as walk
+use Rattle.lfs_path.specs.Lasts.{HasLast}
+use Rattle.lfs_path.specs.Reaching.{EndsParent}
+use Rattle.lfs_path.specs.Trees.{HasTree}
+use Rattle.lfs_fs.specs.Drafted.{EachDrafted, EndsRefused, WalksTo}
+use Rattle.lfs_fs.specs.declared.error.FsError.{FsError}
+use Rattle.lfs_fs.specs.declared.fs.Fs.{Fs}
+use Rattle.lfs_fs.specs.Faults.{error_of_walk}
+use Rattle.lfs_fs.specs.Naming.{Reaches}
+use Rattle.lfs_fs.specs.Refusals.{refusal_of}
+use Rattle.lfs_fs.specs.Seen.{OnlyReads, seen}
+use Rattle.lfs_fs.specs.Volume.{IsIn, IsStill, Mounted, Serves, segments_of}
+use Rattle.lfs_fs.proofs.new_entries.Ends.{still_more}
+use Rattle.lfs_fs.proofs.calls.Exits.{still_in}
+use Rattle.lfs_fs.proofs.paths.Walks.{walk_ends, walked}
+
+-- what is told of a walk that ends refused, from the log before it was read
+module _ {D : Type 0} (state : D → DeviceState) (h h' h'' : Held D) (reads : Reads state h h')
+    (c : Changes) (W : Tree → End → Type 0) where
+  each_after : (P : LogMap → Type 0) → EachDrafted state h' h'' c P → EachDrafted state h h'' c P
+  each_after P all k m0 m keeps holds = all k m0 m keeps (held_still state h h' k m0 m reads holds)
+
+  to_after : (e : End) → WalksTo state h' h'' c W e → WalksTo state h h'' c W e
+  to_after e ends = each_after (λ m. HasTree m → W (tree_in m) e) ends
+
+  refused_after : (fault : WalkFault) → EndsRefused state h' h'' c W fault
+      → EndsRefused state h h'' c W fault
+  refused_after walk.NoEntry ends = to_after (Refused model.NoEntry) ends
+  refused_after walk.NotDir ends = to_after (Refused model.NotDir) ends
+  refused_after walk.NameTooLong ends = to_after (Refused model.NameTooLong) ends
+  refused_after walk.Inval ends = to_after (Refused model.Inval) ends
+  refused_after walk.Loop ends = to_after (Refused model.Loop) ends
+  refused_after walk.NoMemory ends = tt
+  refused_after (walk.Log fault) ends = λ k m0 m keeps holds tree. (
+      let rose : (state h'.device).failures < (state h''.device).failures
+      = ends k m0 m keeps (held_still state h h' k m0 m reads holds) tree in
+      let before = reads.looks.carries.failures in
+      omega (arith, rose, before))
+
+module _ {D : Type 0} (state : D → DeviceState) (lawful : (d : D) → IsLawful (state d))
+    (v : Mounted D) (mid next : Fs D) (still : IsStill state v (seen mid))
+    (was : v.log.halted ≡ false) (empty : IsNoChange mid.store.draft.changes)
+    (only : OnlyReads state mid next) where
+  still_next : IsStill state v (seen next)
+  still_next = still_more state v (seen mid) (seen next) (lawful v.log.device) still only.still
+
+  -- the call came to the directory of the path's last piece
+  pub later_reaches : mid.store.drafted ≡ mid.store.log.totals → (p : List ℕ) → AreBytes p → (d : ℕ)
+      → (piece : Option Last) → HasLast p piece
+      → WalksTo state mid.store.log next.store.log mid.store.draft.changes (EndsParent p) (At d)
+      → Reaches state v next p d piece
+  later_reaches counted p bytes d piece last walks = record {
+    still = still_next;
+    empty = subst (λ (x : Draft). IsNoChange x.changes) (sym only.draft) empty;
+    drafted = only.drafted ∙ counted ∙ sym only.still.reads.totals;
+    bytes = bytes;
+    last = last;
+    walk = λ k m0 m s keeps is.
+        walked state (seen mid) (seen next) (lawful mid.store.log.device) only.still
+        (still.reads.halted ∙ was) mid.store.draft.changes empty (EndsParent p) (At d) walks
+        k m0 m s keeps (still_in state v (seen mid) k m0 m s still is);
+  }
+
+  -- a path that isn't walked to its end
+  pub later_refused : (W : Tree → End → Type 0) (call : Call) → never_for_device call ≡ false
+      → cleans call ≡ false → takes_no_memory call ≡ false
+      → ((k : CheckpointValue) (m0 m : LogMap) (s : State)
+      → (state next.store.log.device).keeps_model → IsIn state v k m0 m s → (r : Refusal)
+      → W s.tree (Refused r) → Step (segments_of v) s call (Refuse r) s)
+      → (fault : WalkFault) (e : FsError) → e ≡ error_of_walk fault
+      → EndsRefused state mid.store.log next.store.log mid.store.draft.changes W fault
+      → (fault ≡ walk.Log log.Halted → mid.store.log.halted ≡ true)
+      → (fault ≡ walk.Log log.Full → ⊥)
+      → Serves state v (seen next) call (Refuse (refusal_of e))
+  later_refused W call free unclean memory steps fault e is ends halted other =
+      subst (λ (f : FsError). Serves state v (seen next) call (Refuse (refusal_of f))) (sym is)
+      (walk_ends state v (seen next) (lawful v.log.device) still_next was mid.store.draft.changes
+      empty W call free unclean memory steps fault (λ on. sym still.reads.halted ∙ halted on) other
+      (refused_after state v.log mid.store.log next.store.log still.reads mid.store.draft.changes W
+      fault ends))

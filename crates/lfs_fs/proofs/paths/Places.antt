@@ -1,0 +1,103 @@
+-- How a call comes to the last piece of a path, and what it serves where it doesn't.
+use Rattle.std.proofs.Common.{◌≡◌, ℕ, false, List, Option, None, refl, sym, ◌∙◌, subst, inl, inr, ⊎_elim}
+use Rattle.lfs_model.specs.Bytes.{AreBytes}
+use Rattle.lfs_model.specs.Call.{Call, Refuse, cleans, takes_no_memory, never_for_device}
+use Rattle.lfs_model.specs.Checkpoint.{CheckpointValue}
+use Rattle.lfs_model.specs.Device.{DeviceState, IsLawful}
+use Rattle.lfs_model.specs.Refusal.{Refusal}
+use Rattle.lfs_model.specs.Stands.{LogMap}
+use Rattle.lfs_model.specs.Step.{Step}
+use Rattle.lfs_model.specs.Tree.{State}
+use Rattle.lfs_model.specs.Walk.{Refused}
+use Rattle.lfs_files.specs.Files as files
+use Rattle.lfs_store.specs.declared.draft.Draft.{Draft}
+use Rattle.lfs_store.specs.declared.store.Store.{Store}
+use Rattle.lfs_store.specs.memory.Batch.{IsNoChange}
+use Rattle.lfs_path.specs.declared.last.Last.{Last}
+use Rattle.lfs_path.specs.Reaching.{EndsParent}
+use Rattle.lfs_fs.specs.declared.error.FsError.{FsError}
+use Rattle.lfs_fs.specs.declared.fs.Fs.{Fs}
+use Rattle.lfs_fs.specs.Drafted.{files_of}
+use Rattle.lfs_fs.specs.Naming.{BeginsNowhere, BeginsOnly, FindsPlace, LacksPlace, Reaches}
+use Rattle.lfs_fs.specs.Refusals.{refusal_of}
+use Rattle.lfs_fs.specs.Seen.{Begins, IsReady, OnlyReads, seen}
+use Rattle.lfs_fs.specs.Volume.{IsIn, IsStill, Mounted, Serves, segments_of}
+use Rattle.lfs_fs.proofs.paths.Later.{later_reaches, later_refused}
+use Rattle.lfs_fs.proofs.paths.Looks.{only_none}
+use Rattle.lfs_fs.proofs.paths.Ends.{store_reads}
+use Rattle.lfs_fs.proofs.read.Ends.{begun_running, halted_serves}
+use Rattle.lfs_fs.proofs.calls.StoreCalls.{log_reads, same_drafted, same_totals}
+
+module _ {D : Type 0} (state : D → DeviceState) where
+  -- ---- volumes that may draft
+
+  pub begun_ready : (old begun : Fs D) → Begins old begun → IsReady begun
+  begun_ready old begun begins = record { running = begun_running state old begun begins; empty = begins.empty }
+
+  pub ready_after : (old new : Fs D) → IsReady old → OnlyReads state old new → IsReady new
+  ready_after old new ready reads = record {
+    running = reads.still.reads.halted ∙ ready.running;
+    empty = subst (λ (d : Draft). IsNoChange d.changes) (sym reads.draft) ready.empty;
+  }
+
+  -- a store that was read for the walk of a path
+  pub path_read : (old : Fs D) (store : Store D) → files.Reads (files_of state old.store) (files_of state store)
+      → OnlyReads state old (record { alloc = old.alloc; store = store; handles = old.handles })
+  path_read old store reads = store_reads state old (record { alloc = old.alloc; store = store; handles = old.handles })
+      (log_reads state old.store store reads) reads.draft reads.saved (same_totals state old.store store reads)
+      (same_drafted state old.store store reads) refl
+
+  -- a call that has begun changed nothing
+  pub begun_still : (old begun : Fs D) → Begins old begun → IsStill state (seen old) (seen begun)
+  begun_still old begun begins = subst (λ (v : Mounted D). IsStill state v (seen begun)) begins.same (only_none state begun).still
+
+module _ {D : Type 0} (state : D → DeviceState) (lawful : (d : D) → IsLawful (state d)) (old new : Fs D) (path : List ℕ) where
+  -- ---- a call that has begun comes to a place
+
+  module _ (begun : Fs D) (begins : Begins old begun) (reads : OnlyReads state begun new) where
+    pub place_reached : AreBytes path → (d : ℕ) (piece : Option Last) → FindsPlace state begun new path d piece
+        → Reaches state (seen old) new path d piece
+    place_reached bytes d piece finds =
+        later_reaches state lawful (seen old) begun new (begun_still state old begun begins) begins.running begins.empty reads
+        begins.drafted path bytes d piece finds.last finds.walks
+
+    pub place_ready : IsReady new
+    place_ready = ready_after state begun new (begun_ready state old begun begins) reads
+
+    pub place_lacks : AreBytes path → (nameless fault : FsError) → LacksPlace state begun new path nameless fault
+        → BeginsNowhere state old new path nameless fault
+    place_lacks bytes nameless fault lacks = inr (⊎_elim
+        (λ fails. inl (record { begun = begun; begins = begins; reads = reads; fails = fails }))
+        (λ none. inr (none.0, (none.1.0, (place_reached bytes none.1.0 None none.1.1, place_ready))))
+        lacks)
+
+  -- ---- a call comes nowhere
+
+  -- where the walk of the path is refused, so is the call
+  abbrev pub IsRefusedBy : Call → Type 0
+  IsRefusedBy call = (k : CheckpointValue) (m0 m : LogMap) (s : State) → (state new.store.log.device).keeps_model
+      → IsIn state (seen old) k m0 m s → (r : Refusal) → EndsParent path s.tree (Refused r)
+      → Step (segments_of (seen old)) s call (Refuse r) s
+
+  module _ (call : Call) (free : never_for_device call ≡ false) (unclean : cleans call ≡ false) (memory : takes_no_memory call ≡ false)
+      (steps : IsRefusedBy call) where
+    path_fails : (fault : FsError) → BeginsOnly state old new path fault
+        → Serves state (seen old) (seen new) call (Refuse (refusal_of fault))
+    path_fails fault only =
+        later_refused state lawful (seen old) only.begun new (begun_still state old only.begun only.begins) only.begins.running
+        only.begins.empty only.reads (EndsParent path) call free unclean memory steps only.fails.cause fault only.fails.is only.fails.ends
+        only.fails.halted only.fails.other
+
+    -- what it serves where the path has no piece is its own
+    pub nowhere_serves : (nameless fault : FsError) → BeginsNowhere state old new path nameless fault
+        → ((d : ℕ) → Reaches state (seen old) new path d None → new.store.log.halted ≡ false
+        → Serves state (seen old) (seen new) call (Refuse (refusal_of nameless)))
+        → Serves state (seen old) (seen new) call (Refuse (refusal_of fault))
+    nowhere_serves nameless fault none named = ⊎_elim
+        (λ halts. halted_serves state old new call fault (lawful old.store.log.device) halts.1 halts.2 halts.0)
+        (λ began. ⊎_elim
+        (λ only. path_fails fault only)
+        (λ lacks. subst (λ (f : FsError). Serves state (seen old) (seen new) call (Refuse (refusal_of f))) (sym lacks.0)
+        (named lacks.1.0 lacks.1.1.0 lacks.1.1.1.running))
+        began)
+        none

@@ -1,0 +1,28 @@
+-- A volume whose store was read by a call.
+use Rattle.std.proofs.Common.{◌≡◌, false, refl, ◌∙◌, ap}
+use Rattle.lfs_model.specs.Device.{DeviceState, IsLawful}
+use Rattle.lfs_store.specs.log.Held.{Reads}
+use Rattle.lfs_store.specs.declared.store.Store.{Store}
+use Rattle.lfs_store.specs.log.verify.declared.totals.BlockTotals.{BlockTotals}
+use Rattle.lfs_fs.specs.declared.fs.Fs.{Fs}
+use Rattle.lfs_fs.specs.Seen.{Begins, seen}
+use Rattle.lfs_fs.specs.Volume.{IsStill, Mounted}
+
+module _ {D : Type 0} (state : D → DeviceState) (lawful : (d : D) → IsLawful (state d)) where
+  module _ (old begun : Fs D) (begins : Begins old begun) (store : Store D) (reads : Reads state begun.store.log store.log)
+      (saved : store.log.saved ≡ begun.store.log.saved) (totals : store.log.totals ≡ begun.store.log.totals) where
+    -- a volume whose store was read
+    abbrev pub read : Fs D
+    read = record { alloc = begun.alloc; store = store; handles = begun.handles }
+
+    pub still_read : IsStill state (seen begun) (seen read)
+    still_read = record {
+      reads = reads;
+      saved = saved;
+      blocks = ap (λ (t : BlockTotals). t.data_blocks) totals;
+      others = ap (λ (t : BlockTotals). t.meta_blocks) totals;
+      table = refl;
+    }
+
+    pub was_running : begun.store.log.halted ≡ false
+    was_running = ap (λ (v : Mounted D). v.log.halted) begins.same ∙ begins.running

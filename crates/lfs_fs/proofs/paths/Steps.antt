@@ -1,0 +1,193 @@
+-- The calls of paths, and those without arguments, exit by exit.
+use Rattle.std.proofs.Common.{◌≡◌, ◌<◌, ◌≤◌, ℕ, Bool, true, false, not, List, [], ◌∷◌, length, map, Option, Some, None, refl, ◌∙◌, ap}
+use Rattle.std.proofs.Common.{subst, nat_le, nat_lt}
+use Rattle.std.specs.Prelude.{if◌then◌else◌, option_map, unwrap_or}
+use Rattle.std.specs.List.{list_any}
+use Rattle.std.specs.Ordering.{nat_cmp}
+use Rattle.std.specs.FinMap.{put}
+use Rattle.lfs_model.specs.Call.{Open, Create, Mkdir, Symlink, Readlink, Readdir, Clean, Sync, Space, Version, ListTree, Answer, Refuse}
+use Rattle.lfs_model.specs.Call.{Handle, Status, Text, Entries, Done, FormatVersion, Rows, changes, cleans, commits, takes_no_memory}
+use Rattle.lfs_model.specs.Call.{never_for_device}
+use Rattle.lfs_model.specs.Refusal.{Refusal, Inval, IsDir, NameTooLong, NoEntry, NotDir, TooManyOpen}
+use Rattle.lfs_model.specs.PathText.{text_refusal}
+use Rattle.lfs_model.specs.Sound.{NamesGive}
+use Rattle.lfs_model.specs.Step.{Step, checked, entry_of, head_of, is_link, lists, makes_link, opens, no_handle, reached, reads_link}
+use Rattle.lfs_model.specs.Step.{stat_of, room, rows_of, text_check, the_node, when}
+use Rattle.lfs_model.specs.Tree.{State, names_in, node, is_dir, least_handle}
+use Rattle.lfs_model.specs.Walk.{At, Refused, Resolve, Parent}
+use Rattle.lfs_model.proofs.StepsAre.{step_ends}
+use Rattle.lfs_model.proofs.Walks.{Some-injective}
+use Rattle.lfs_fs.specs.Reading.{stat_call}
+use Rattle.lfs_fs.proofs.calls.AnyDevice.{IsOrdinary}
+use Rattle.lfs_fs.proofs.calls.Checks.{refuses, passes, at_most, not_at_most}
+
+-- ---- calls without arguments
+pub sync_done : (N : ℕ) (s : State) → Step N s Sync Done s
+sync_done N s = record { first_end = At 1; second_end = At 1; first = refl; second = refl; answer = refl; state = refl }
+
+pub clean_done : (N : ℕ) (s : State) → Step N s Clean Done s
+clean_done N s = record { first_end = At 1; second_end = At 1; first = refl; second = refl; answer = refl; state = refl }
+
+pub space_done : (N : ℕ) (s : State) → Step N s Space (room N s.tree) s
+space_done N s = record { first_end = At 1; second_end = At 1; first = refl; second = refl; answer = refl; state = refl }
+
+pub version_done : (N : ℕ) (s : State) → Step N s Version (FormatVersion s.version) s
+version_done N s = record { first_end = At 1; second_end = At 1; first = refl; second = refl; answer = refl; state = refl }
+
+pub tree_done : (N : ℕ) (s : State) → Step N s ListTree (Rows (rows_of s.tree)) s
+tree_done N s = record { first_end = At 1; second_end = At 1; first = refl; second = refl; answer = refl; state = refl }
+
+-- ---- stat and lstat change nothing, and may want memory
+pub stat_changes : (follow : Bool) (p : List ℕ) → changes (stat_call follow p) ≡ false
+stat_changes true p = refl
+stat_changes false p = refl
+
+pub stat_cleans : (follow : Bool) (p : List ℕ) → cleans (stat_call follow p) ≡ false
+stat_cleans true p = refl
+stat_cleans false p = refl
+
+pub stat_commits : (follow : Bool) (p : List ℕ) → commits (stat_call follow p) ≡ false
+stat_commits true p = refl
+stat_commits false p = refl
+
+pub stat_may_fail : (follow : Bool) (p : List ℕ) → never_for_device (stat_call follow p) ≡ false
+stat_may_fail true p = refl
+stat_may_fail false p = refl
+
+pub stat_memory : (follow : Bool) (p : List ℕ) → takes_no_memory (stat_call follow p) ≡ false
+stat_memory true p = refl
+stat_memory false p = refl
+
+-- what refuses a text, by its refusal
+abbrev by_refusal : Option Refusal → List (Bool × Answer)
+by_refusal o = unwrap_or (option_map (λ r. when true r ∷ []) o) []
+
+-- a text's refusal is none of those that end a volume
+pub text_ordinary : (text : List ℕ) (r : Refusal) → text_refusal text ≡ Some r → IsOrdinary (Refuse r)
+text_ordinary text r = by (nat_lt 0 (length text)) (nat_lt 1023 (length text)) (list_any (λ c. nat_lt c 1) text)
+  where
+    by : (some long zero : Bool) → (if some then (if long then Some NameTooLong else (if zero then Some Inval else None)) else Some NoEntry)
+        ≡ Some r → IsOrdinary (Refuse r)
+    by false long zero e = subst (λ (x : Refusal). IsOrdinary (Refuse x)) (Some-injective NoEntry r e) tt
+    by true true zero e = subst (λ (x : Refusal). IsOrdinary (Refuse x)) (Some-injective NameTooLong r e) tt
+    by true false true e = subst (λ (x : Refusal). IsOrdinary (Refuse x)) (Some-injective Inval r e) tt
+    by true false false e = absurd (cc)
+
+module _ (N : ℕ) (s : State) (p : List ℕ) where
+  -- ---- stat and lstat
+  pub stat_refused : (follow : Bool) (r : Refusal) → Resolve s.tree p follow (Refused r) → Step N s (stat_call follow p) (Refuse r) s
+  stat_refused true r walk = record { first_end = Refused r; second_end = At 1; first = walk; second = refl; answer = refl; state = refl }
+  stat_refused false r walk = record { first_end = Refused r; second_end = At 1; first = walk; second = refl; answer = refl; state = refl }
+
+  pub stat_done : (follow : Bool) (n : ℕ) → Resolve s.tree p follow (At n) → Step N s (stat_call follow p) (Status (stat_of s.tree n)) s
+  stat_done true n walk = record { first_end = At n; second_end = At 1; first = walk; second = refl; answer = refl; state = refl }
+  stat_done false n walk = record { first_end = At n; second_end = At 1; first = walk; second = refl; answer = refl; state = refl }
+
+  -- ---- readlink
+  pub readlink_refused : (r : Refusal) → Resolve s.tree p false (Refused r) → Step N s (Readlink p) (Refuse r) s
+  readlink_refused r walk = record { first_end = Refused r; second_end = At 1; first = walk; second = refl; answer = refl; state = refl }
+
+  module _ (n : ℕ) (walk : Resolve s.tree p false (At n)) where
+    step_readlink : (a : Answer) → reads_link s n ≡ (a, s) → Step N s (Readlink p) a s
+    step_readlink a is =
+        record { first_end = At n; second_end = At 1; first = walk; second = refl; answer = ap (λ r. r.0) is; state = ap (λ r. r.1) is }
+
+    abbrev readlink_told : Answer × State
+    readlink_told = (Text (head_of (the_node s.tree n)), s)
+
+    pub readlink_no_link : is_link (the_node s.tree n) ≡ false → Step N s (Readlink p) (Refuse Inval) s
+    readlink_no_link other =
+        step_readlink (Refuse Inval) (refuses s (not (is_link (the_node s.tree n))) (Refuse Inval) [] readlink_told (ap not other))
+
+    pub readlink_done : is_link (the_node s.tree n) ≡ true → Step N s (Readlink p) (Text (head_of (the_node s.tree n))) s
+    readlink_done link = step_readlink (Text (head_of (the_node s.tree n)))
+        (passes s (not (is_link (the_node s.tree n))) (Refuse Inval) [] readlink_told (ap not link))
+
+  -- ---- readdir
+  pub readdir_refused : (r : Refusal) → Resolve s.tree p true (Refused r) → Step N s (Readdir p) (Refuse r) s
+  readdir_refused r walk = record { first_end = Refused r; second_end = At 1; first = walk; second = refl; answer = refl; state = refl }
+
+  module _ (n : ℕ) (walk : Resolve s.tree p true (At n)) where
+    step_readdir : (a : Answer) → lists s n ≡ (a, s) → Step N s (Readdir p) a s
+    step_readdir a is =
+        record { first_end = At n; second_end = At 1; first = walk; second = refl; answer = ap (λ r. r.0) is; state = ap (λ r. r.1) is }
+
+    abbrev readdir_told : Answer × State
+    readdir_told = (Entries (map (entry_of s.tree) (names_in s.tree n)), s)
+
+    pub readdir_no_directory : is_dir (node s.tree n) ≡ false → Step N s (Readdir p) (Refuse NotDir) s
+    readdir_no_directory other =
+        step_readdir (Refuse NotDir) (refuses s (not (is_dir (node s.tree n))) (Refuse NotDir) [] readdir_told (ap not other))
+
+    pub readdir_done : is_dir (node s.tree n) ≡ true → Step N s (Readdir p) (Entries (map (entry_of s.tree) (names_in s.tree n))) s
+    readdir_done dir = step_readdir (Entries (map (entry_of s.tree) (names_in s.tree n)))
+        (passes s (not (is_dir (node s.tree n))) (Refuse NotDir) [] readdir_told (ap not dir))
+
+  -- ---- open
+  pub open_refused : (r : Refusal) → Resolve s.tree p true (Refused r) → Step N s (Open p) (Refuse r) s
+  open_refused r walk = record { first_end = Refused r; second_end = At 1; first = walk; second = refl; answer = refl; state = refl }
+
+  module _ (n : ℕ) (walk : Resolve s.tree p true (At n)) where
+    step_open : (a : Answer) (s' : State) → opens s n ≡ (a, s') → Step N s (Open p) a s'
+    step_open a s' is =
+        record { first_end = At n; second_end = At 1; first = walk; second = refl; answer = ap (λ r. r.0) is; state = ap (λ r. r.1) is }
+
+    abbrev pub with_handle : State
+    with_handle = record s { handles = put nat_cmp (least_handle s.handles) n s.handles }
+
+    abbrev open_done : Answer × State
+    open_done = (Handle (least_handle s.handles), with_handle)
+
+    pub open_directory : is_dir (node s.tree n) ≡ true → Step N s (Open p) (Refuse IsDir) s
+    open_directory dir = step_open (Refuse IsDir) s (refuses s (is_dir (node s.tree n)) (Refuse IsDir) (no_handle s ∷ []) open_done dir)
+
+    pub open_too_many : is_dir (node s.tree n) ≡ false → 64 ≤ least_handle s.handles → Step N s (Open p) (Refuse TooManyOpen) s
+    open_too_many file many = step_open (Refuse TooManyOpen) s
+        (passes s (is_dir (node s.tree n)) (Refuse IsDir) (no_handle s ∷ []) open_done file
+        ∙ refuses s (nat_le 64 (least_handle s.handles)) (Refuse TooManyOpen) [] open_done (at_most 64 (least_handle s.handles) many))
+
+    pub open_file : is_dir (node s.tree n) ≡ false → least_handle s.handles < 64
+        → Step N s (Open p) (Handle (least_handle s.handles)) with_handle
+    open_file file some = step_open (Handle (least_handle s.handles)) with_handle
+        (passes s (is_dir (node s.tree n)) (Refuse IsDir) (no_handle s ∷ []) open_done file
+        ∙ passes s (nat_le 64 (least_handle s.handles)) (Refuse TooManyOpen) [] open_done (not_at_most 64 (least_handle s.handles) some))
+
+  -- ---- create
+  pub create_refused : (r : Refusal) → Parent s.tree p (Refused r) → Step N s (Create p) (Refuse r) s
+  create_refused r walk = record { first_end = Refused r; second_end = At 1; first = walk; second = refl; answer = refl; state = refl }
+
+  -- ---- mkdir
+  pub mkdir_refused : (r : Refusal) → Parent s.tree p (Refused r) → Step N s (Mkdir p) (Refuse r) s
+  mkdir_refused r walk = record { first_end = Refused r; second_end = At 1; first = walk; second = refl; answer = refl; state = refl }
+
+  -- ---- symlink
+  module _ (text : List ℕ) where
+    -- where the text is good
+    pub symlink_refused : text_refusal text ≡ None → (r : Refusal) → Parent s.tree p (Refused r) → Step N s (Symlink text p) (Refuse r) s
+    symlink_refused good r walk =
+        let passes : checked s (text_check text) (Refuse r, s) ≡ (Refuse r, s) =
+        ap (λ (l : List (Bool × Answer)). checked s l (Refuse r, s)) (ap by_refusal good) in
+        record {
+          first_end = Refused r;
+          second_end = At 1;
+          first = walk;
+          second = refl;
+          answer = ap (λ x. x.0) passes;
+          state = ap (λ x. x.1) passes;
+        }
+
+    -- where it isn't, the walk doesn't matter
+    pub symlink_bad_text : NamesGive s.tree → (r : Refusal) → text_refusal text ≡ Some r → Step N s (Symlink text p) (Refuse r) s
+    symlink_bad_text sound r bad =
+        let some = (step_ends N s sound (Symlink text p)).2 in
+        let otherwise = reached s some.first_end (makes_link N s text p) in
+        let stops : checked s (text_check text) otherwise ≡ (Refuse r, s) =
+        ap (λ (l : List (Bool × Answer)). checked s l otherwise) (ap by_refusal bad) in
+        record {
+          first_end = some.first_end;
+          second_end = some.second_end;
+          first = some.first;
+          second = some.second;
+          answer = ap (λ x. x.0) stops;
+          state = ap (λ x. x.1) stops;
+        }

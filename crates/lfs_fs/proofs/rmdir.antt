@@ -1,0 +1,5 @@
+pub mod Drafts
+pub mod Ends
+pub mod Looks
+pub mod Refusals
+pub mod Steps

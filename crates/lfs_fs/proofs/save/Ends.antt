@@ -1,0 +1,67 @@
+-- The ends of a sync, as steps of the model.
+use Rattle.std.proofs.Common.{◌≡◌, true, false, refl, sym, ap, subst, arith}
+use Rattle.lfs_model.specs.Call.{Done, Refuse, Sync}
+use Rattle.lfs_model.specs.Device.{DeviceState, IsLawful}
+use Rattle.lfs_files.specs.declared.fault.LogFault.{LogFault}
+use Rattle.lfs_files.specs.declared.fault.LogFault.TheVariants as log
+use Rattle.lfs_store.specs.log.Held.{Halts, IsFull}
+use Rattle.lfs_store.specs.declared.store.Store.{Store}
+use Rattle.lfs_store.specs.log.verify.declared.totals.BlockTotals.{BlockTotals}
+use Rattle.lfs_store.specs.log.Saving.{commit_orders}
+use Rattle.lfs_store.specs.Accepting.{Commits}
+use Rattle.lfs_store.proofs.of_cleaner.Rooms.{halts_at_once}
+use Rattle.lfs_fs.specs.declared.error.FsError.{FsError}
+use Rattle.lfs_fs.specs.declared.fs.Fs.{Fs}
+use Rattle.lfs_fs.specs.Faults.{error_of_log}
+use Rattle.lfs_fs.specs.Refusals.{refusal_of}
+use Rattle.lfs_fs.specs.Seen.{seen}
+use Rattle.lfs_fs.specs.Volume.{Mounted, Serves, TellsAtMost}
+use Rattle.lfs_fs.proofs.calls.AnyDevice.{sync_bounded}
+use Rattle.lfs_fs.proofs.save.Declined.{sync_serves}
+use Rattle.lfs_fs.proofs.save.Room.{full_serves}
+use Rattle.lfs_fs.proofs.write.Ends.{halts_serves}
+
+pub not_halted : {D : Type 0} (f : Fs D) → f.store.log.halted ≡ false → f.store.log.halted ≡ true → ⊥
+not_halted f was halted = cc
+
+module _ {D : Type 0} (state : D → DeviceState) (lawful : (d : D) → IsLawful (state d)) (old : Fs D) (store : Store D)
+    (was : old.store.log.halted ≡ false) (totals : store.log.totals ≡ old.store.log.totals)
+    (tells : TellsAtMost state old.store.log store.log commit_orders) where
+  abbrev new : Fs D
+  new = record { alloc = old.alloc; store = store; handles = old.handles }
+
+  pub sync_done_serves : Commits state old.store.log old.store.log.saved store.log → store.log.saved ≡ true
+      → Serves state (seen old) (seen new) Sync Done
+  sync_done_serves done saved = sync_serves state (seen old) (seen new) (lawful old.store.log.device) (lawful store.log.device)
+      (record {
+        blocks = ap (λ (t : BlockTotals). t.data_blocks) totals;
+        others = ap (λ (t : BlockTotals). t.meta_blocks) totals;
+        table = refl;
+      }) done saved tells
+
+  module _ (kept : store.log.saved ≡ old.store.log.saved) where
+    same_seen : store.log ≡ old.store.log → seen new ≡ seen old
+    same_seen same = λ i. record {
+      log = same i;
+      saved = kept i;
+      blocks = (totals i).data_blocks;
+      others = (totals i).meta_blocks;
+      table = old.handles;
+    }
+
+    sync_fault : (fault : LogFault) → (fault ≡ log.Full → (store.log ≡ old.store.log) × IsFull old.store.log) → (fault ≡ log.Full
+        → old.store.log.saved ≡ false) → (fault ≡ log.Halted → Halts state old.store.log store.log) → (fault ≡ log.Device → ⊥)
+        → Serves state (seen old) (seen new) Sync (Refuse (refusal_of (error_of_log fault)))
+    sync_fault log.Full full unsaved halted device =
+        subst (λ (v : Mounted D). Serves state (seen old) v Sync (Refuse (refusal_of (error_of_log log.Full))))
+        (sym (same_seen (full refl).0)) (full_serves state (seen old) (lawful old.store.log.device) was (unsaved refl) (full refl).1)
+    sync_fault log.Halted full unsaved halted device = halts_serves state lawful (seen old) (seen new) Sync was refl refl 0 (omega arith)
+        (λ few. sync_bounded state (seen old) (seen new) few tells) (halts_at_once state old.store.log store.log (halted refl))
+    sync_fault log.Device full unsaved halted device = absurd (device refl)
+
+    pub sync_fails : (fault : LogFault) (e : FsError) → e ≡ error_of_log fault
+        → (fault ≡ log.Full → (store.log ≡ old.store.log) × IsFull old.store.log) → (fault ≡ log.Full → old.store.log.saved ≡ false)
+        → (fault ≡ log.Halted → Halts state old.store.log store.log) → (fault ≡ log.Device → ⊥)
+        → Serves state (seen old) (seen new) Sync (Refuse (refusal_of e))
+    sync_fails fault e is full unsaved halted device = subst (λ (x : FsError).
+        Serves state (seen old) (seen new) Sync (Refuse (refusal_of x))) (sym is) (sync_fault fault full unsaved halted device)

@@ -1,0 +1,43 @@
+-- A sync never finds too few clean segments, and never lacks a number.
+use Rattle.std.proofs.Common.{◌≡◌, ◌<◌, ◌≤◌, ◌+◌, ◌-◌, ◌*◌, ◌^◌, false, length, refl, sym, subst, ⊎_elim, arith}
+use Rattle.lfs_model.specs.Call.{Refuse, Sync}
+use Rattle.lfs_model.specs.Checkpoint.{IsSegmentCount}
+use Rattle.lfs_model.specs.Device.{DeviceState, IsLawful}
+use Rattle.lfs_model.specs.Refusal.{Device}
+use Rattle.lfs_model.specs.Tree.{State}
+use Rattle.lfs_model.proofs.Moments.{carries_none}
+use Rattle.lfs_model.proofs.Newest.{newest_fits}
+use Rattle.lfs_store.specs.segments.Table.{clean_in}
+use Rattle.lfs_store.specs.log.Held.{IsFull}
+use Rattle.lfs_fs.specs.Volume.{Mounted, Runs, Serves}
+use Rattle.lfs_store.specs.log.Saving.{commit_orders}
+use Rattle.lfs_fs.proofs.calls.AnyDevice.{sync_bounded, tells_none, write_behaves}
+
+module _ {D : Type 0} (state : D → DeviceState) (v : Mounted D) (lawful : IsLawful (state v.log.device)) (was : v.log.halted ≡ false)
+    (unsaved : v.saved ≡ false) (full : IsFull v.log) where
+  never_full : (s : State) → Runs state v s → ⊥
+  never_full s r =
+      let settled = r.is.stores.holds.log.running.settled in
+      let fits = ((newest_fits (state v.log.device).content lawful.now).0 r.checkpoint).0 settled.newest in
+      let same = r.is.stores.holds.log.segments in
+      let ready = r.is.ready unsaved in
+      let clean = ready.0 in
+      let low = ready.1 in
+      let count : IsSegmentCount (length v.log.memory.usage.segments) = subst IsSegmentCount (sym same) fits.held.fits.segments in
+      let eighths = count.eighths in
+      let most = count.most in
+      ⊎_elim
+      (λ (few : 8 * clean_in v.log.memory.usage.segments < length v.log.memory.usage.segments + 64). omega (arith, eighths, clean, few))
+      (λ (high : 2 ^ 64 - 1 ≤ v.log.number). omega (arith, low, high, most))
+      full
+
+  pub full_serves : Serves state v v Sync (Refuse Device)
+  full_serves = record {
+    carries = carries_none (state v.log.device);
+    segments = λ e. refl;
+    orderly = λ e. absurd (cc);
+    halts = λ e. absurd (cc);
+    behaves = write_behaves state v v Sync (Refuse Device) refl refl (λ e. cc) (λ takes e. absurd (cc))
+        (sync_bounded state v v (omega arith) (tells_none state v.log v.log commit_orders refl));
+    model = λ p keeps at. absurd (never_full p.state (at.running was));
+  }

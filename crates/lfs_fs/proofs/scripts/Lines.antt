@@ -1,0 +1,112 @@
+-- One line of a script on a volume at a point: a step of a run, and what a stop in it leaves.
+use Rattle.std.proofs.Common.{◌≡◌, ◌⊎◌, ℕ, true, false, List, [], ◌∷◌, refl, sym, ◌∙◌, ap, subst, inl, inr, arith}
+use Rattle.lfs_model.specs.Call.{Answer, Refuse}
+use Rattle.lfs_model.specs.Device.{DeviceState, IsLawful, Carries}
+use Rattle.lfs_model.specs.Refusal.{NoMemory, Halted}
+use Rattle.lfs_model.specs.Run.{Answers, LineAnswers, Point, acknowledges}
+use Rattle.lfs_model.specs.Script.{Line, call_of}
+use Rattle.lfs_model.specs.Tree.{State, drop_nameless}
+use Rattle.lfs_model.specs.TreeOf.{LeavesOne, LeavesStates, Left, Stands}
+use Rattle.lfs_model.proofs.Moments.{carries_none, started}
+use Rattle.lfs_fs.specs.Scripts.{ServesLine}
+use Rattle.lfs_fs.specs.Volume.{IsAt, LeavesSome, Mounted, Serves, segments_of}
+use Rattle.lfs_fs.proofs.calls.Drafts.{not_acknowledged}
+use Rattle.std.specs.List.{Contains}
+
+module _ {D : Type 0} (state : D → DeviceState) where
+  -- a line of a run on a volume of N segments
+  pub record StepsLine (N : ℕ) (old new : Mounted D) (line : Line) (answer : Answer) (p : Point) : Type 0 where
+    pub next : Point
+    pub at : IsAt state new next
+    pub does : LineAnswers N line p answer next
+    pub leaves : LeavesStates (state old.log.device) (state new.log.device) (drop_nameless p.state ∷ drop_nameless next.state ∷ [])
+    pub saves : acknowledges (call_of line) answer ≡ true → LeavesOne (state new.log.device) (drop_nameless next.state)
+
+  -- what may be left is left, where nothing is done
+  pub left_none : (d : DeviceState) (ss : List State) → IsLawful d → LeavesSome state d → LeavesStates d d ss
+  left_none d ss lawful some = started d (λ c. (s : State) × Stands c s × (Left d s ⊎ Contains ss s)) lawful
+      (λ c left. (let is = some c left in (is.0, is.1, inl (record { content = c; may_leave = left; stands = is.1 }))))
+
+  module _ (lawful : (d : D) → IsLawful (state d)) where
+    -- a line that does nothing
+    stays : (N : ℕ) (v : Mounted D) (line : Line) (answer : Answer) (p : Point) → IsAt state v p → LineAnswers N line p answer p
+        → (acknowledges (call_of line) answer ≡ true → ⊥)
+        → StepsLine N v v line answer p
+    stays N v line answer p at does none = record {
+      next = p;
+      at = at;
+      does = does;
+      leaves = left_none (state v.log.device) (drop_nameless p.state ∷ drop_nameless p.state ∷ []) (lawful v.log.device) at.leaves;
+      saves = λ e. absurd (none e);
+    }
+
+    -- one of a volume that was halted
+    line_halted : (N : ℕ) (v : Mounted D) (line : Line) (p : Point) → IsAt state v p → v.log.halted ≡ true
+        → StepsLine N v v line (Refuse Halted) p
+    line_halted N v line p at was = stays N v line (Refuse Halted) p at
+        (inl (record {
+          steps = inr (Halted, refl, inl (at.halted ∙ was), refl);
+          halted = λ e. refl;
+          halts = λ e. at.halted ∙ was;
+          goes_on = λ e. refl;
+          first_halted = λ e. inl (at.halted ∙ was);
+          failures = omega arith;
+          number = omega arith;
+          few = omega arith;
+          quiet = λ e. refl;
+        }))
+        (not_acknowledged (call_of line) Halted)
+
+    module _ (old new : Mounted D) (line : Line) (answer : Answer) where
+      -- the line's call
+      line_served : (N : ℕ) (p : Point) → (old.log.halted ≡ false → segments_of old ≡ N) → (state new.log.device).keeps_model
+          → IsAt state old p → Serves state old new (call_of line) answer
+          → StepsLine N old new line answer p
+      line_served N p same keeps at serves = elim old.log.halted as (λ b. old.log.halted ≡ b → StepsLine N old new line answer p) [
+        | true ↦ λ was. (
+            let none = serves.orderly was in
+            subst (λ (v : Mounted D). StepsLine N old v line answer p) (sym none.1)
+            (subst (λ (a : Answer). StepsLine N old old line a p) (sym none.0) (line_halted N old line p at was)))
+        | false ↦ λ was. (
+            let served = serves.model p keeps at in record {
+              next = served.next;
+              at = served.at;
+              does = inl (subst (λ (n : ℕ). Answers n (call_of line) p answer served.next) (same was) served.answers);
+              leaves = served.leaves;
+              saves = served.saves;
+            })
+      ] refl
+
+      -- a line, its call made or not
+      pub line_steps : (N : ℕ) (p : Point) → (old.log.halted ≡ false → segments_of old ≡ N) → (state new.log.device).keeps_model
+          → IsAt state old p → ServesLine state old new line answer
+          → StepsLine N old new line answer p
+      line_steps N p same keeps at (inl serves) = line_served N p same keeps at serves
+      line_steps N p same keeps at (inr none) =
+          subst (λ (v : Mounted D). StepsLine N old v line answer p) (sym none.2)
+          (stays N old line answer p at (inr (none.0, none.1, refl))
+          (λ e. not_acknowledged (call_of line) NoMemory (subst (λ (a : Answer). acknowledges (call_of line) a ≡ true) none.1 e)))
+
+      pub line_carries : ServesLine state old new line answer → Carries (state old.log.device) (state new.log.device)
+      line_carries (inl serves) = serves.carries
+      line_carries (inr none) =
+          subst (λ (v : Mounted D). Carries (state old.log.device) (state v.log.device)) (sym none.2) (carries_none (state old.log.device))
+
+      -- what runs after it ran before it
+      served_running : Serves state old new (call_of line) answer → new.log.halted ≡ false → old.log.halted ≡ false
+      served_running serves now = elim old.log.halted as (λ b. old.log.halted ≡ b → old.log.halted ≡ false) [
+        | true ↦ λ was. (
+            let none = serves.orderly was in
+            let same : new.log.halted ≡ old.log.halted = ap (λ (v : Mounted D). v.log.halted) none.1 in
+            sym same ∙ now)
+        | false ↦ λ was. was
+      ] refl
+
+      pub line_running : ServesLine state old new line answer → new.log.halted ≡ false → old.log.halted ≡ false
+      line_running (inl serves) now = served_running serves now
+      line_running (inr none) now = sym (ap (λ (v : Mounted D). v.log.halted) none.2) ∙ now
+
+      -- and has as many segments
+      pub line_segments : ServesLine state old new line answer → new.log.halted ≡ false → segments_of new ≡ segments_of old
+      line_segments (inl serves) now = serves.segments now
+      line_segments (inr none) now = ap (λ (v : Mounted D). segments_of v) none.2

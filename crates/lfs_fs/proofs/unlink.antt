@@ -1,0 +1,4 @@
+pub mod Drafts
+pub mod Ends
+pub mod Fails
+pub mod Steps

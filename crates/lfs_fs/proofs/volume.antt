@@ -1,0 +1,12 @@
+pub mod Directories
+pub mod FileBytes
+pub mod Headers
+pub mod KeptMaps
+pub mod LinkDrafts
+pub mod LostNames
+pub mod Map
+pub mod MovedMaps
+pub mod MovedNames
+pub mod Nodes
+pub mod Slots
+pub mod Stops

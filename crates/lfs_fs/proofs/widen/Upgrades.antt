@@ -1,0 +1,163 @@
+-- The exits of upgrade, and of changes that find nothing to do, as steps of the model.
+use Rattle.std.proofs.Common.{◌≡◌, ◌<◌, ◌≤◌, ◌+◌, ◌*◌, ◌^◌, ⊎_elim, inl, inr, ℕ, true, false, Some, refl, sym, ◌∙◌, ap}
+use Rattle.std.proofs.Common.{subst, arith}
+use Rattle.std.specs.Prelude.{Result, Ok, Err, OnOk, OnErr, IfErr}
+use Rattle.lfs_model.specs.Call.{Call, Done, Refuse, Upgrade, changes, cleans}
+use Rattle.lfs_model.specs.Checkpoint.{CheckpointValue}
+use Rattle.lfs_model.specs.Device.{DeviceState, IsLawful}
+use Rattle.lfs_model.specs.Entry.{Header}
+use Rattle.lfs_model.specs.Raising.{raised}
+use Rattle.lfs_model.specs.Refusal.{Refusal, Worn}
+use Rattle.lfs_model.specs.Run.{acknowledges}
+use Rattle.lfs_model.specs.Stands.{LogMap}
+use Rattle.lfs_model.specs.Step.{Step}
+use Rattle.lfs_model.specs.Tree.{State, Tree, links}
+use Rattle.lfs_model.specs.TreeOf.{AreFormed, object, slots}
+use Rattle.lfs_model.proofs.Raising.{raised_kept, raised_tree}
+use Rattle.lfs_model.proofs.Widening.{upgrade_keeps}
+use Rattle.lfs_store.specs.log.verify.declared.totals.BlockTotals.{BlockTotals}
+use Rattle.lfs_store.specs.memory.Batch.{staged}
+use Rattle.lfs_store.specs.declared.store.Store.{Store}
+use Rattle.lfs_store.specs.Making.{DraftsUpgrade}
+use Rattle.lfs_store.specs.Recounting.{AreTotals, CountsUpgraded}
+use Rattle.lfs_store.proofs.TreeTotals.{totals_of_tree}
+use Rattle.lfs_fs.specs.declared.error.FsError.{FsError}
+use Rattle.lfs_fs.specs.declared.error.FsError.TheVariants as error
+use Rattle.lfs_fs.specs.declared.fs.Fs.{Fs}
+use Rattle.lfs_fs.specs.Accepting.{StagesDraft, TurnsDown}
+use Rattle.lfs_fs.specs.Refusals.{refusal_of}
+use Rattle.lfs_fs.specs.Seen.{Begins, answer_by, seen}
+use Rattle.lfs_fs.specs.Volume.{IsIn, IsStill, Mounted, Serves, segments_of}
+use Rattle.lfs_fs.proofs.calls.AnyDevice.{IsOrdinary}
+use Rattle.lfs_fs.proofs.calls.Steps.{not_worn, refused_not_worn, worn}
+use Rattle.lfs_fs.proofs.calls.Drafts.{not_acknowledged}
+use Rattle.lfs_fs.proofs.volume.Nodes.{IsMapOf, room_shaped, shape_of}
+use Rattle.lfs_fs.proofs.volume.Map.{headers_of_volume, map_of_volume, version_of_volume}
+use Rattle.lfs_fs.proofs.read.Ends.{begun_running}
+use Rattle.lfs_fs.proofs.calls.Exits.{point_of, served_still}
+use Rattle.lfs_fs.proofs.calls.StoreCalls.{still_logged}
+use Rattle.lfs_fs.proofs.widen.Steps.{upgrade_step, upgraded}
+use Rattle.lfs_fs.proofs.write.Ends.{draft_ends}
+
+-- ---- a change that is refused by a step of the model
+pub refused_after : {D : Type 0} (state : D → DeviceState) (lawful : (d : D) → IsLawful (state d)) (v new : Mounted D) → IsStill state v new
+    → v.log.halted ≡ false → (call : Call) → cleans call ≡ false
+    → (r : Refusal) → IsOrdinary (Refuse r) → ((k : CheckpointValue) (m0 m : LogMap) (s : State) → (state new.log.device).keeps_model
+    → IsIn state v k m0 m s → Step (segments_of v) s call (Refuse r) s)
+    → Serves state v new call (Refuse r)
+refused_after state lawful v new still was call unclean r ordinary steps =
+    served_still state v new call (Refuse r) (lawful v.log.device) still was ordinary
+    (λ p keeps at k m0 m is. let step = steps k m0 m p.state keeps is in
+    inl (step, refused_not_worn (segments_of v) call p r p.state step unclean)) (not_acknowledged call r)
+
+-- ---- a change that finds nothing to do
+
+module _ {D : Type 0} (state : D → DeviceState) (lawful : (d : D) → IsLawful (state d)) (v new : Mounted D) (still : IsStill state v new)
+    (was : v.log.halted ≡ false)
+    (call : Call) (change : changes call ≡ true) (none : acknowledges call Done ≡ true → ⊥)
+    (step : (k : CheckpointValue) (m0 m : LogMap) (s : State) → (state new.log.device).keeps_model → IsIn state v k m0 m s
+    → Step (segments_of v) s call Done s) where
+  nothing_done : v.log.number < 2 ^ 62 → Serves state v new call Done
+  nothing_done low = served_still state v new call Done (lawful v.log.device) still was tt
+      (λ p keeps at k m0 m is.
+      inl (step k m0 m p.state keeps is, not_worn (segments_of v) call p (let number = at.number in omega (arith, number, low)))) none
+
+  nothing_worn : 2 ^ 62 ≤ v.log.number → Serves state v new call (Refuse Worn)
+  nothing_worn high = served_still state v new call (Refuse Worn) (lawful v.log.device) still was tt
+      (λ p keeps at k m0 m is. inr (
+        Worn,
+        refl,
+        worn (segments_of v) call p (point_of state new p.state) (let number = at.number in omega (arith, number, high)) change Done p.state
+            (step k m0 m p.state keeps is) refl,
+        refl,
+      ))
+      (not_acknowledged call Worn)
+
+  pub nothing_ends : {X : Type 0} (r : Result X FsError) → OnOk r (v.log.number < 2 ^ 62) → OnErr r (2 ^ 62 ≤ v.log.number)
+      → IfErr r (λ fault. fault ≡ error.Worn) → Serves state v new call (answer_by (λ _. Done) r)
+  nothing_ends (Ok x) young old is = nothing_done young
+  nothing_ends (Err fault) young old is =
+      subst (λ (e : FsError). Serves state v new call (Refuse (refusal_of e))) (sym is) (nothing_worn old)
+
+-- ---- the version is raised
+
+formed_raised : (m : LogMap) → AreFormed m → AreFormed (raised true m)
+unfolding object slots
+formed_raised m is n h there dir = is n h there dir
+
+pub raised_map : (N : ℕ) (m : LogMap) (s : State) → IsMapOf N m s → IsMapOf N (raised true m) (upgraded s)
+raised_map N m s is = record {
+  map = raised_kept m true low is.map;
+  long = λ n i has. is.long n i has;
+  log = record {
+    sound = upgrade_keeps N s (upgraded s) Done is.log.sound (upgrade_step N s);
+    is = is.log.is ∙ sym (raised_tree m true);
+    version = refl;
+    formed = formed_raised m is.log.formed;
+    links = λ n h there. is.log.links n h there ∙ ap (λ (t : Tree). links t n) (sym (raised_tree m true));
+  };
+}
+  where
+    low : m.version ≤ 2
+    low = let same = is.log.version in
+        ⊎_elim (λ (one : s.version ≡ 1). omega (arith, same, one)) (λ (two : s.version ≡ 2). omega (arith, same, two)) is.log.sound.version
+
+-- ---- upgrade
+
+module _ {D : Type 0} (state : D → DeviceState) (lawful : (d : D) → IsLawful (state d)) (old mid : Fs D) (begun : Begins old mid) where
+  running : mid.store.log.halted ≡ false
+  running = begun_running state old mid begun
+
+  same_state : (s : State) → s.version ≡ 2 → upgraded s ≡ s
+  same_state s two = ap (λ (n : ℕ). record { tree = s.tree; handles = s.handles; version = n }) (sym two)
+
+  -- the volume has version 2
+  pub upgrade_nothing : mid.store.log.version ≡ 2 → {X : Type 0} (r : Result X FsError) → OnOk r (mid.store.log.number < 2 ^ 62)
+      → OnErr r (2 ^ 62 ≤ mid.store.log.number) → IfErr r (λ fault. fault ≡ error.Worn)
+      → Serves state (seen mid) (seen mid) Upgrade (answer_by (λ _. Done) r)
+  upgrade_nothing two =
+      nothing_ends state lawful (seen mid) (seen mid) (still_logged state mid mid refl refl refl) running Upgrade refl (λ e. cc)
+      (λ k m0 m s keeps is. subst (λ (x : State). Step (segments_of (seen mid)) s Upgrade Done x)
+      (same_state s (version_of_volume state (seen mid) k m0 m s is ∙ two)) (upgrade_step (segments_of (seen mid)) s))
+
+  module _ (b : Store D) (same_log : b.log ≡ mid.store.log) (same_saved : b.log.saved ≡ mid.store.log.saved)
+      (same_drafted : b.drafted ≡ mid.store.drafted)
+      (drafts : DraftsUpgrade b.draft.changes) (counts : CountsUpgraded b.draft.changes) where
+    abbrev ready : Fs D
+    ready = record { alloc = mid.alloc; store = b; handles = mid.handles }
+
+    still : IsStill state (seen mid) (seen ready)
+    still = still_logged state mid ready same_log same_saved refl
+
+    module _ (k : CheckpointValue) (m0 m : LogMap) (s : State) (is : IsIn state (seen mid) k m0 m s) where
+      after : IsMapOf (segments_of (seen mid)) (staged b.draft.changes m) (upgraded s)
+      after = subst (λ (x : LogMap). IsMapOf (segments_of (seen mid)) x (upgraded s)) (sym (drafts.map m))
+          (raised_map (segments_of (seen mid)) m s (map_of_volume state (seen mid) k m0 m s is))
+
+      totals : AreTotals (staged b.draft.changes m) b.drafted
+      totals = subst (λ (t : BlockTotals). AreTotals (staged b.draft.changes m) t) (sym (same_drafted ∙ begun.drafted))
+          (counts m mid.store.log.totals record { stored = is.counted.stored; above = is.counted.above })
+
+      headers : (n : ℕ) (h : Header) → (staged b.draft.changes m).header n ≡ Some h → m.header n ≡ Some h
+      headers n h there = ap (λ (x : LogMap). x.header n) (sym (drafts.map m)) ∙ there
+
+      room : b.drafted.data_blocks + 7 * b.drafted.meta_blocks + 720 ≤ 47 * segments_of (seen mid)
+      room = room_shaped totals_of_tree (segments_of (seen mid)) (staged b.draft.changes m) (upgraded s) after
+          (shape_of (segments_of (seen mid)) (staged b.draft.changes m) (upgraded s) after
+          (λ n h there. headers_of_volume state (seen mid) k m0 m s is n h (headers n h there)))
+          b.drafted.data_blocks b.drafted.meta_blocks totals
+
+    pub upgrade_ends : (new : Fs D) → new.handles ≡ ready.handles → {X : Type 0} (r : Result X FsError)
+        → OnOk r (StagesDraft state ready new) → IfErr r (TurnsDown state ready new)
+        → Serves state (seen mid) (seen new) Upgrade (answer_by (λ _. Done) r)
+    upgrade_ends new rest r done down =
+        draft_ends state lawful (seen mid) ready new Upgrade Done still running rest refl refl refl refl (λ keeps k m0 m s is. record {
+          next = upgraded s;
+          answer = Done;
+          ok = refl;
+          fits = drafts.fits m;
+          counted = totals k m0 m s is;
+          map = λ has_room. after k m0 m s is;
+          done = λ has_room. upgrade_step (segments_of (seen mid)) s;
+          lacks = λ more. absurd (let most = room k m0 m s is in omega (arith, most, more));
+        }) refl (λ keeps k m0 m s is. (refl, is.handles)) r done down

@@ -1,0 +1,5 @@
+pub mod Bytes
+pub mod Drafts
+pub mod Ends
+pub mod Exits
+pub mod Lengths

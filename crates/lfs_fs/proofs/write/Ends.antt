@@ -1,0 +1,535 @@
+-- Calls that draft a change, from what they read to what becomes of the draft, as steps of the model.
+use Rattle.std.proofs.Common.{◌≡◌, ◌<◌, ◌≤◌, ◌+◌, ◌/◌, ◌^◌, ℕ, Bool, true, false, length, Some, None, Ok, Err, refl, sym, ◌∙◌, ap, subst}
+use Rattle.std.proofs.Common.{inl, inr, ⊎_elim, arith, List, ◌*◌, ◌&&◌}
+use Rattle.std.specs.Prelude.{IsTrue, Result, OnOk, IfErr}
+use Rattle.std.specs.Ordering.{nat_cmp}
+use Rattle.std.specs.FinMap.{find}
+use Rattle.lfs_model.specs.Call.{Call, Answer, Refuse, changes, is_ok, may_write, takes_no_memory, cleans, never_for_device}
+use Rattle.lfs_model.specs.Checkpoint.{CheckpointValue}
+use Rattle.lfs_model.specs.Crash.{StandsForOn}
+use Rattle.lfs_model.specs.Device.{AllLeft, Carries, DeviceState, IsLawful, LeavesOnly}
+use Rattle.lfs_model.specs.Refusal as refusal
+use Rattle.lfs_model.specs.Stands.{LogMap}
+use Rattle.lfs_model.specs.Tree.{Handles, State}
+use Rattle.lfs_model.specs.TreeOf.{dropped}
+use Rattle.lfs_model.proofs.Moments.{carries_then, goes_on, joined, started}
+use Rattle.lfs_model.proofs.Settled.{settled_stands}
+use Rattle.lfs_store.specs.memory.declared.changes.Changes.{Changes}
+use Rattle.lfs_files.specs.declared.fault.LogFault.TheVariants as log
+use Rattle.lfs_store.specs.memory.declared.memory.LogMemory.{LogMemory}
+use Rattle.lfs_store.specs.memory.Batch.{FitsBatch, IsNoChange, staged}
+use Rattle.lfs_store.specs.segments.Table.{clean_in}
+use Rattle.lfs_store.specs.cleaner.Room.{HaltsLater, room_orders}
+use Rattle.lfs_store.specs.log.Held.{Held, Holds, IsReadFault, Reads}
+use Rattle.lfs_files.specs.declared.fault.StoreFault.{StoreFault}
+use Rattle.lfs_files.specs.declared.fault.StoreFault.TheVariants as store
+use Rattle.lfs_store.specs.declared.store.Store.{Store}
+use Rattle.lfs_store.specs.log.verify.declared.totals.BlockTotals.{BlockTotals}
+use Rattle.lfs_model.specs.declared.Order.{Order}
+use Rattle.lfs_store.specs.log.Saving.{commit_orders}
+use Rattle.lfs_store.specs.Accepting.{Accepts, CannotMakeRoom, Declines, HasClean, IsAcceptFault, LeavesEither, SavesFew, Stores}
+use Rattle.lfs_store.specs.Accepting.{most_written}
+use Rattle.lfs_store.proofs.Apart.{draft_empty}
+use Rattle.lfs_store.proofs.LogReads.{fault_more, held_still, reads_more, reads_none, stores_still}
+use Rattle.lfs_fs.specs.declared.error.FsError.{FsError}
+use Rattle.lfs_fs.specs.declared.error.FsError.TheVariants as error
+use Rattle.lfs_fs.specs.declared.fs.Fs.{Fs}
+use Rattle.lfs_fs.specs.Accepting.{IsDeclined, StagesDraft, TellsFew, TurnsDown, limit_of, need_of}
+use Rattle.lfs_fs.specs.Faults.{error_of_store}
+use Rattle.lfs_fs.specs.Refusals.{refusal_of}
+use Rattle.lfs_fs.specs.Seen.{LacksHeader, answer_by, seen, OnlyReads}
+use Rattle.lfs_fs.specs.Volume.{Behaves, CommitsFew, IsIn, IsStill, Mounted, Serves, TellsAtMost, segments_of}
+use Rattle.lfs_fs.proofs.calls.AnyDevice.{IsBounded, IsOrdinary, change_bounded, change_writes, commits_none, not_both, not_halted}
+use Rattle.lfs_fs.proofs.calls.AnyDevice.{ok_refuses_none, still_behaves, write_behaves}
+use Rattle.lfs_fs.proofs.save.Declined.{accept_fault_serves, no_room_serves}
+use Rattle.lfs_fs.proofs.calls.Drafts.{InEach, IsRest, not_acknowledged, accepts_by}
+use Rattle.lfs_fs.proofs.volume.Nodes.{IsFileOf, opened_file, IsMapOf}
+use Rattle.lfs_fs.proofs.clean.Room.{has_room}
+use Rattle.lfs_store.proofs.Acceptings.{written_most}
+use Rattle.lfs_fs.proofs.calls.Exits.{halts_at, map_dropped, served_still, still_in, point_of}
+use Rattle.lfs_fs.proofs.calls.Reads.{fault_serves, memory_serves}
+use Rattle.lfs_model.specs.Totals.{IsCounted}
+use Rattle.lfs_model.specs.Step.{Step}
+use Rattle.lfs_model.specs.Run.{acknowledges}
+use Rattle.lfs_fs.proofs.calls.Steps.{not_worn, refused_not_worn, worn}
+use Rattle.lfs_store.specs.Recounting.{AreTotals}
+
+-- why a draft isn't staged, by the fault of the store
+pub turned_down : {D : Type 0} (state : D → DeviceState) (old new : Fs D) (fault : StoreFault) (e : FsError) → e ≡ error_of_store fault
+    → old.store.log.halted ≡ false → old.store.log.number < 2 ^ 62 → new.store.log.totals ≡ old.store.log.totals
+    → TellsFew state old.store.log new.store.log
+    → (fault ≡ store.Log log.Full
+    → Declines state old.store.log old.store.log.saved new.store.log new.store.log.saved old.store.draft.changes)
+    → (fault ≡ store.Log log.Full → CannotMakeRoom state old.store.log old.store.log.saved new.store.log)
+    → (fault ≡ store.NoMemory → Declines state old.store.log old.store.log.saved new.store.log new.store.log.saved old.store.draft.changes)
+    → (fault ≡ store.Log log.Device
+    → Declines state old.store.log old.store.log.saved new.store.log new.store.log.saved old.store.draft.changes)
+    → (fault ≡ store.Log log.Device → IsAcceptFault state old.store.log old.store.log.saved new.store.log old.store.draft.changes)
+    → (fault ≡ store.Log log.Halted → (old.store.log.halted ≡ true → ⊥)
+    → HaltsLater state old.store.log new.store.log (most_written old.store.log old.store.log.saved)) → TurnsDown state old new e
+turned_down state old new store.NoMemory e is was young totals tells full lacks memory device failed halted =
+    subst (TurnsDown state old new) (sym is) record { declines = memory refl; totals = totals; young = young; tells = tells }
+turned_down state old new (store.Log log.Full) e is was young totals tells full lacks memory device failed halted =
+    subst (TurnsDown state old new) (sym is)
+    (record { declines = full refl; totals = totals; young = young; tells = tells }, inr (lacks refl))
+turned_down state old new (store.Log log.Device) e is was young totals tells full lacks memory device failed halted =
+    subst (TurnsDown state old new) (sym is)
+    (record { declines = device refl; totals = totals; young = young; tells = tells }, inl (failed refl))
+turned_down state old new (store.Log log.Halted) e is was young totals tells full lacks memory device failed halted =
+    subst (TurnsDown state old new) (sym is) (halted refl (λ no. cc), tells)
+
+module _ {D : Type 0} (state : D → DeviceState) (lawful : (d : D) → IsLawful (state d)) where
+  -- ---- reads come before the draft is staged
+
+  module _ (a b : Held D) (reads : Reads state a b) where
+    same_segments : length b.memory.usage.segments ≡ length a.memory.usage.segments
+    same_segments = ap (λ (v : LogMemory). length v.usage.segments) reads.memory
+
+    quiet_reads : (k : CheckpointValue) (m0 m : LogMap) → Holds state a k m0 m
+        → LeavesOnly (state a.device) (state b.device) (StandsForOn k.segments m0 (dropped m))
+    quiet_reads k m0 m is =
+        goes_on (state a.device) (state a.device) (state b.device) (StandsForOn k.segments m0 (dropped m))
+        (started (state a.device) (StandsForOn k.segments m0 (dropped m)) (lawful a.device) here)
+        reads.looks.carries reads.looks.time (λ c left. here c (reads.looks.untouched.crash c left))
+      where
+        here : AllLeft (state a.device) (StandsForOn k.segments m0 (dropped m))
+        here c left = inl (settled_stands (state a.device) k m0 is.log.running.settled c left)
+
+    clean_still : HasClean a → HasClean b
+    clean_still = subst (λ (v : LogMemory). length v.usage.segments / 8 + 8 ≤ clean_in v.usage.segments) (sym reads.memory)
+
+    stores_read : (saved : Bool) (k : CheckpointValue) (m0 m : LogMap) → Stores state a saved k m0 m → Stores state b saved k m0 m
+    stores_read saved k m0 m stores = stores_still state a b saved k m0 m reads stores
+
+    module _ (h : Held D) where
+      -- what is told after the reads is told after what was before them
+      pub tells_after : TellsFew state b h → TellsFew state a h
+      tells_after tells = record {
+        room = told_before (room_orders (length a.memory.usage.segments))
+            (subst (λ (n : ℕ). TellsAtMost state b h (room_orders n)) same_segments tells.room);
+        one_commit = λ clean. told_before commit_orders (tells.one_commit
+            (subst (λ (v : LogMemory). length v.usage.segments / 8 + 16 ≤ clean_in v.usage.segments) (sym reads.memory) clean));
+      }
+        where
+          told_before : (most : ℕ) → TellsAtMost state b h most → TellsAtMost state a h most
+          told_before most = subst (λ (told : List Order). length (state h.device).told ≤ length told + most) reads.looks.told
+
+      leaves_after : (saved : Bool) → LeavesEither state b saved h → LeavesEither state a saved h
+      leaves_after saved leaves k m0 m keeps stores log =
+          joined (state a.device) (state b.device) (state h.device) (StandsForOn k.segments m0 (dropped m))
+          (StandsForOn k.segments m0 (dropped m)) (StandsForOn k.segments m0 (dropped m))
+          (quiet_reads k m0 m stores.holds) (leaves k m0 m keeps (stores_read saved k m0 m stores) log) (λ c x. x) (λ c x. x)
+
+      saves_after : (saved saved' : Bool) → SavesFew b saved h saved' → SavesFew a saved h saved'
+      saves_after saved saved' saves = record {
+        number = (let more = saves.number in let same = reads.number in omega (arith, more, same));
+        few = (let most = saves.few in let same = reads.number in let size = same_segments in omega (arith, most, same, size));
+        ready = λ clean now. saves.ready (λ e. clean_still (clean e)) now;
+      }
+
+      pub accepts_after : (saved saved' : Bool) (c : Changes) → Accepts state b saved h saved' c → Accepts state a saved h saved' c
+      accepts_after saved saved' c done = record {
+        carries = carries_then (state a.device) (state b.device) (state h.device) reads.looks.carries done.carries;
+        halted = done.halted ∙ reads.halted;
+        segments = done.segments ∙ same_segments;
+        enough = done.enough;
+        unsaved = done.unsaved;
+        saves = saves_after saved saved' done.saves;
+        stores = λ k m0 m keeps stores. done.stores k m0 m keeps (stores_read saved k m0 m stores);
+        moment = leaves_after saved done.moment;
+      }
+
+      pub declines_after : (saved saved' : Bool) (c : Changes) → Declines state b saved h saved' c → Declines state a saved h saved' c
+      declines_after saved saved' c done = record {
+        carries = carries_then (state a.device) (state b.device) (state h.device) reads.looks.carries done.carries;
+        halted = done.halted ∙ reads.halted;
+        segments = done.segments ∙ same_segments;
+        saves = saves_after saved saved' done.saves;
+        stores = λ k m0 m keeps stores. done.stores k m0 m keeps (stores_read saved k m0 m stores);
+        moment = leaves_after saved done.moment;
+      }
+
+      pub fault_after : (saved : Bool) (c : Changes) → IsAcceptFault state b saved h c → IsAcceptFault state a saved h c
+      fault_after saved c fault k m0 m keeps stores fits log =
+          let rose = fault k m0 m keeps (stores_read saved k m0 m stores) fits log in
+          let before = reads.looks.carries.failures in
+          omega (arith, rose, before)
+
+      pub halts_after : (most : ℕ) → HaltsLater state b h most → HaltsLater state a h most
+      halts_after most halts = record {
+        carries = carries_then (state a.device) (state b.device) (state h.device) reads.looks.carries halts.carries;
+        halted = halts.halted;
+        later = (let later = halts.later in let same = reads.number in omega (arith, later, same));
+        number = (let few = halts.number in let same = reads.number in omega (arith, few, same));
+        cause = λ k m0 m keeps is log. (
+            let rose = halts.cause k m0 m keeps (held_still state a b k m0 m reads is) log in
+            let before = reads.looks.carries.failures in
+            omega (arith, rose, before));
+        left = λ k m0 m keeps is log. halts.left k m0 m keeps (held_still state a b k m0 m reads is) log;
+        moment = λ k m0 m keeps is log.
+            joined (state a.device) (state b.device) (state h.device) (StandsForOn k.segments m0 (dropped m))
+            (StandsForOn k.segments m0 (dropped m)) (StandsForOn k.segments m0 (dropped m))
+            (quiet_reads k m0 m is) (halts.moment k m0 m keeps (held_still state a b k m0 m reads is) log) (λ c x. x) (λ c x. x);
+      }
+
+  -- ---- volumes that were only read
+
+  pub still_none : (v : Mounted D) → IsStill state v v
+  still_none v = record { reads = reads_none state v.log; saved = refl; blocks = refl; others = refl; table = refl }
+
+  pub still_more : (v w x : Mounted D) → IsStill state v w → IsStill state w x → IsStill state v x
+  still_more v w x one two = record {
+    reads = reads_more state v.log w.log x.log (lawful v.log.device) one.reads two.reads;
+    saved = two.saved ∙ one.saved;
+    blocks = two.blocks ∙ one.blocks;
+    others = two.others ∙ one.others;
+    table = two.table ∙ one.table;
+  }
+
+  -- ---- calls of a running volume
+
+  module _ (old new : Mounted D) (call : Call) (was : old.log.halted ≡ false) where
+    -- what a call does may rest on the state that the volume is in, and on a device that keeps the model to the end
+    pub when_in : (a : Answer) → Carries (state old.log.device) (state new.log.device) → segments_of new ≡ segments_of old
+        → (a ≡ Refuse refusal.Halted → ⊥) → Behaves state old new call a
+        → ((state new.log.device).keeps_model → (k : CheckpointValue) (m0 m : LogMap) (s : State) → IsIn state old k m0 m s
+        → Serves state old new call a) → Serves state old new call a
+    when_in a carries segments fine behaves each = record {
+      carries = carries;
+      segments = λ e. segments;
+      orderly = λ e. absurd (let is = was in cc);
+      halts = λ e. absurd (fine e);
+      behaves = behaves;
+      model = λ p keeps at. (let r = at.running was in (each keeps r.checkpoint r.saved r.present p.state r.is).model p keeps at);
+    }
+
+    -- a commit failed, or a pass
+    pub halts_serves : IsTrue (may_write call) → new.table ≡ old.table → (most : ℕ) → most ≤ segments_of old / 8 + 1
+        → (CommitsFew old new → IsBounded state old new call) → HaltsLater state old.log new.log most
+        → Serves state old new call (Refuse refusal.Halted)
+    halts_serves may table most low bounded halts = record {
+      carries = halts.carries;
+      segments = λ e. absurd (let is = halts.halted in cc);
+      orderly = λ e. absurd (let is = was in cc);
+      halts = λ e. halts.halted;
+      behaves = behaves;
+      model = λ p keeps at. (
+          let r = at.running was in
+          halts_at state old new keeps (lawful old.log.device) (lawful new.log.device) halts.carries r.checkpoint r.saved r.present p.state
+          r.is call p at refl was halts.halted
+          halts.later behaves
+          (halts.cause r.checkpoint r.saved r.present keeps r.is.stores.holds (map_dropped state old new keeps (lawful old.log.device)
+          (lawful new.log.device) halts.carries r.checkpoint r.saved r.present p.state r.is))
+          (halts.moment r.checkpoint r.saved r.present keeps r.is.stores.holds (map_dropped state old new keeps (lawful old.log.device)
+          (lawful new.log.device) halts.carries r.checkpoint r.saved r.present p.state r.is)));
+    }
+      where
+        behaves : Behaves state old new call (Refuse refusal.Halted)
+        behaves = write_behaves state old new call (Refuse refusal.Halted) may table (λ e. absurd (cc)) (λ takes e. absurd (cc))
+            (bounded (let few = halts.number in omega (arith, few, low)))
+
+    -- ---- calls of an open file
+    module _ (h n : ℕ) (opens : find nat_cmp h old.table ≡ Some n) where
+      pub opened_in : (k : CheckpointValue) (m0 m : LogMap) (s : State) → IsIn state old k m0 m s → IsFileOf m s.tree n
+      opened_in k m0 m s is = opened_file (segments_of old) m s is.log h n (ap (find nat_cmp h) is.handles ∙ opens)
+
+  -- the totals of a log map, as they stand before a draft
+  pub totals_read : (v : Mounted D) (old mid : Fs D) → IsStill state v (seen old)
+      → old.store.drafted ≡ old.store.log.totals → OnlyReads state old mid → (m : LogMap)
+      → IsCounted m v.blocks v.others → AreTotals m mid.store.drafted
+  totals_read v old mid still drafted only m counted =
+      let before : AreTotals m old.store.log.totals = record {
+        stored = still.blocks ∙ counted.stored;
+        above = still.others ∙ counted.above;
+      } in
+      subst (λ (t : BlockTotals). AreTotals m t) (sym (only.drafted ∙ drafted)) before
+
+  -- no draft is made: memory was refused, or a call of the device failed
+  pub undrafted_serves : (old new : Mounted D) (call : Call) → old.log.halted ≡ false → IsStill state old new
+      → never_for_device call ≡ false → takes_no_memory call ≡ false
+      → (fault : StoreFault) → ((fault ≡ store.NoMemory → ⊥) → IsReadFault state old.log new.log)
+      → (fault ≡ store.Log log.Halted → old.log.halted ≡ true) → (fault ≡ store.Log log.Full → ⊥)
+      → Serves state old new call (Refuse (refusal_of (error_of_store fault)))
+  undrafted_serves old new call was still free takes store.NoMemory failed halted other =
+      memory_serves state old new call (lawful old.log.device) still was takes
+  undrafted_serves old new call was still free takes (store.Log log.Device) failed halted other =
+      fault_serves state old new call (lawful old.log.device) still was free (failed (λ e. cc))
+  undrafted_serves old new call was still free takes (store.Log log.Halted) failed halted other = absurd (let on = halted refl in cc)
+  undrafted_serves old new call was still free takes (store.Log log.Full) failed halted other = absurd (other refl)
+
+  -- and the draft is given up
+  module _ (old mid : Fs D) (tried gone : Store D) (call : Call) (was : old.store.log.halted ≡ false)
+      (still : IsStill state (seen old) (seen mid)) (reads : Reads state mid.store.log tried.log)
+      (saved : tried.log.saved ≡ mid.store.log.saved) (same_log : gone.log ≡ tried.log)
+      (same_saved : gone.log.saved ≡ tried.log.saved) where
+    still_gone : IsStill state (seen mid) (seen record { alloc = mid.alloc; store = gone; handles = mid.handles })
+    still_gone = record {
+      reads = subst (λ (x : Held D). Reads state mid.store.log x) (sym same_log) reads;
+      saved = same_saved ∙ saved;
+      blocks = ap (λ (t : BlockTotals). t.data_blocks) (ap (λ (h : Held D). h.totals) same_log ∙ reads.totals);
+      others = ap (λ (t : BlockTotals). t.meta_blocks) (ap (λ (h : Held D). h.totals) same_log ∙ reads.totals);
+      table = refl;
+    }
+
+    pub given_up_serves : never_for_device call ≡ false → takes_no_memory call ≡ false → (fault : StoreFault)
+        → ((fault ≡ store.NoMemory → ⊥) → IsReadFault state mid.store.log tried.log)
+        → (fault ≡ store.Log log.Halted → mid.store.log.halted ≡ true) → (fault ≡ store.Log log.Full → ⊥) → (e : FsError)
+        → e ≡ error_of_store fault
+        → Serves state (seen old) (seen record { alloc = mid.alloc; store = gone; handles = mid.handles }) call (Refuse (refusal_of e))
+    given_up_serves free takes fault failed halted other e is =
+        subst (λ (x : FsError). Serves state (seen old) (seen record { alloc = mid.alloc; store = gone; handles = mid.handles }) call
+        (Refuse (refusal_of x))) (sym is)
+        (undrafted_serves (seen old) (seen record { alloc = mid.alloc; store = gone; handles = mid.handles }) call was
+        (still_more (seen old) (seen mid) (seen record { alloc = mid.alloc; store = gone; handles = mid.handles }) still still_gone) free
+        takes fault
+        (λ device. subst (λ (x : Held D). IsReadFault state old.store.log x) (sym same_log)
+        (fault_more state old.store.log mid.store.log tried.log still.reads (failed device)))
+        (λ on. sym still.reads.halted ∙ halted on) other)
+
+  -- an open file has a header, unless a call of the device failed
+  pub headerless_serves : (old mid : Fs D) (call : Call) (h n : ℕ) → find nat_cmp h old.handles ≡ Some n
+      → old.store.log.halted ≡ false → IsNoChange old.store.draft.changes
+      → IsStill state (seen old) (seen mid) → never_for_device call ≡ false → (fault : FsError) → LacksHeader state old mid n fault
+      → Serves state (seen old) (seen mid) call (Refuse (refusal_of fault))
+  headerless_serves old mid call h n opens was empty still free fault lacks = ⊎_elim
+      (λ halted. absurd (let is = halted.1 in cc))
+      (λ failed. subst (λ (e : FsError). Serves state (seen old) (seen mid) call (Refuse (refusal_of e))) (sym failed.0)
+      (served_still state (seen old) (seen mid) call (Refuse refusal.Device) (lawful old.store.log.device) still was tt
+      (λ p keeps here k m0 m is. (
+      let file = opened_in (seen old) (seen mid) call was h n opens k m0 m p.state is in
+      inr (
+        refusal.Device,
+        refl,
+        (
+          free,
+          ⊎_elim
+              (λ (rose : (state old.store.log.device).failures < (state mid.store.log.device).failures).
+              (let f = here.failures in omega (arith, f, rose)))
+              (λ none. absurd (
+              let both : None ≡ Some file.head = sym none ∙ ap (λ (x : LogMap). x.header n) (draft_empty old.store.draft.changes m empty).0
+              ∙ file.there in cc))
+              (failed.1 k m0 m keeps is.stores.holds),
+        ),
+        refl,
+      )))
+      (not_acknowledged call refusal.Device)))
+      lacks
+
+  -- ---- what becomes of a draft
+
+  module _ (v : Mounted D) (ready new : Fs D) (call : Call) (a : Answer) (still : IsStill state v (seen ready)) (was : v.log.halted ≡ false)
+      (rest : new.handles ≡ ready.handles) where
+    abbrev c : Changes
+    c = ready.store.draft.changes
+
+    pub table_same : new.handles ≡ v.table
+    table_same = rest ∙ still.table
+
+    pub accepts_old : StagesDraft state ready new → Accepts state v.log v.saved new.store.log new.store.log.saved c
+    accepts_old done = accepts_after v.log ready.store.log still.reads new.store.log v.saved new.store.log.saved c
+        (subst (λ (b : Bool). Accepts state ready.store.log b new.store.log new.store.log.saved c) still.saved done.accepts)
+
+    declines_old : IsDeclined state ready new → Declines state v.log v.saved new.store.log new.store.log.saved c
+    declines_old done = declines_after v.log ready.store.log still.reads new.store.log v.saved new.store.log.saved c
+        (subst (λ (b : Bool). Declines state ready.store.log b new.store.log new.store.log.saved c) still.saved done.declines)
+
+    tells_old : TellsFew state ready.store.log new.store.log → TellsFew state v.log new.store.log
+    tells_old = tells_after v.log ready.store.log still.reads new.store.log
+
+    fault_old : IsAcceptFault state ready.store.log ready.store.log.saved new.store.log c
+        → IsAcceptFault state v.log v.saved new.store.log c
+    fault_old fault = fault_after v.log ready.store.log still.reads new.store.log v.saved c
+        (subst (λ (b : Bool). IsAcceptFault state ready.store.log b new.store.log c) still.saved fault)
+
+    rest_old : IsDeclined state ready new → IsRest state v (seen new)
+    rest_old done = record {
+      blocks = ap (λ (t : BlockTotals). t.data_blocks) done.totals ∙ still.blocks;
+      others = ap (λ (t : BlockTotals). t.meta_blocks) done.totals ∙ still.others;
+      table = table_same;
+    }
+
+    pub low_old : ready.store.log.number < 2 ^ 62 → v.log.number < 2 ^ 62
+    low_old low = let same = still.reads.number in omega (arith, same, low)
+
+    still_new : seen new ≡ seen ready → IsStill state v (seen new)
+    still_new same = subst (λ (x : Mounted D). IsStill state v x) (sym same) still
+
+    -- the ends that differ from call to call
+    abbrev pub Kept : Type 0
+    Kept = (state ready.store.log.device).keeps_model
+
+    abbrev pub InState : Answer → Type 0
+    InState x = Kept → (k : CheckpointValue) (m0 m : LogMap) (s : State) → IsIn state v k m0 m s → Serves state v (seen new) call x
+
+    module _ (change : changes call ≡ true) (free : never_for_device call ≡ false) (takes : takes_no_memory call ≡ false)
+        (fits : Kept → (k : CheckpointValue) (m0 m : LogMap) (s : State) → IsIn state v k m0 m s → InEach state v (λ m s. FitsBatch m c))
+        (lacks_ends : IsStill state v (seen new) → limit_of ready < need_of ready → InState (Refuse refusal.NoSpace))
+        (worn_ends : IsStill state v (seen new) → 2 ^ 62 ≤ v.log.number → need_of ready ≤ limit_of ready
+        → InState (Refuse refusal.Worn)) where
+      -- nothing has changed
+      same_by : (x : Answer) → IsOrdinary x → seen new ≡ seen ready → InState x → Serves state v (seen new) call x
+      same_by x ordinary same each = when_in v (seen new) call was x (still_new same).reads.looks.carries
+          (ap (λ (v : LogMemory). length v.usage.segments) (still_new same).reads.memory)
+          (not_halted x ordinary) (still_behaves state v (seen new) call x (still_new same) ordinary)
+          (λ keeps. each (subst (λ (x : Mounted D). (state x.log.device).keeps_model) same keeps))
+
+      few_written : most_written ready.store.log ready.store.log.saved ≤ segments_of v / 8 + 1
+      few_written =
+          subst (λ (n : ℕ). most_written ready.store.log ready.store.log.saved ≤ n / 8 + 1)
+          (ap (λ (x : LogMemory). length x.usage.segments) still.reads.memory)
+          (written_most D ready.store.log ready.store.log.saved)
+
+      declined_bounded : (done : IsDeclined state ready new) → IsBounded state v (seen new) call
+      declined_bounded done = change_bounded state v (seen new) call change (declines_old done).saves.few (tells_old done.tells)
+
+      declined_by : (x : Answer) → (x ≡ Refuse refusal.Halted → ⊥) → (x ≡ Refuse refusal.Stuck → ⊥) → (done : IsDeclined state ready new)
+          → ((state new.store.log.device).keeps_model → InState x) → Serves state v (seen new) call x
+      declined_by x other none done each = when_in v (seen new) call was x (declines_old done).carries (declines_old done).segments other
+          (write_behaves state v (seen new) call x (change_writes call change) table_same none (λ never e. absurd (not_both
+          (takes_no_memory call) never takes)) (declined_bounded done)) (λ keeps. each keeps (done.declines.carries.kept_before keeps))
+
+      pub by_fault : (e : FsError) → TurnsDown state ready new e → Serves state v (seen new) call (Refuse (refusal_of e))
+      by_fault error.NoSpace down = same_by (Refuse refusal.NoSpace) tt down.0 (lacks_ends (still_new down.0) down.1)
+      by_fault error.Worn down = same_by (Refuse refusal.Worn) tt down.0
+          (worn_ends (still_new down.0) (let same = still.reads.number in let high = down.1 in omega (arith, same, high)) down.2)
+      by_fault error.NoMemory down = declined_by (Refuse refusal.NoMemory) (λ e. cc) (λ e. cc) down (λ after keeps k m0 m s is.
+          no_room_serves state v (seen new) call (lawful v.log.device) (lawful new.store.log.device) was (declines_old down).saves.number c
+          (rest_old down) (declines_old down) (low_old down.young)
+          (fits keeps k m0 m s is) (declined_bounded down) change takes)
+      by_fault error.Device down = declined_by (Refuse refusal.Device) (λ e. cc) (λ e. cc) down.0 (λ after keeps k m0 m s is. ⊎_elim
+          (λ (failed : IsAcceptFault state ready.store.log ready.store.log.saved new.store.log c).
+          accept_fault_serves state v (seen new) call (lawful v.log.device) (lawful new.store.log.device) was
+          (declines_old down.0).saves.number c (rest_old down.0) (declines_old down.0) (low_old down.0.young)
+          (fits keeps k m0 m s is) (declined_bounded down.0) change free (fault_old failed))
+          (λ (cannot : CannotMakeRoom state ready.store.log ready.store.log.saved new.store.log).
+          absurd (cannot k m0 m after (has_room state (seen ready) (lawful ready.store.log.device) refl refl down.0.young k m0 m s
+          (still_in state v (seen ready) k m0 m s still is))))
+          down.1)
+      by_fault error.Halted down =
+          halts_serves v (seen new) call was (change_writes call change) table_same _ few_written
+          (λ few. change_bounded state v (seen new) call change few (tells_old down.1))
+          (halts_after v.log ready.store.log still.reads new.store.log (most_written ready.store.log ready.store.log.saved) down.0)
+      by_fault fault down = absurd down
+
+    -- ---- a draft that is one step of the model
+    limit_same : limit_of ready ≡ 47 * segments_of v
+    limit_same = ap (λ (x : LogMemory). 47 * length x.usage.segments) still.reads.memory
+
+    -- the volume with the draft, and with this table of open files
+    abbrev pub with_table : Handles → Mounted D
+    with_table table = record {
+      log = new.store.log;
+      saved = new.store.log.saved;
+      blocks = new.store.log.totals.data_blocks;
+      others = new.store.log.totals.meta_blocks;
+      table = table;
+    }
+
+    abbrev pub HasRoom : Type 0
+    HasRoom = need_of ready ≤ 47 * segments_of v
+
+    -- What the draft makes of a state: with room the next one, by a step with this answer.
+    pub record IsDraft (m : LogMap) (s : State) : Type 0 where
+      pub next : State
+      pub answer : Answer
+      pub ok : is_ok answer ≡ true
+      pub fits : FitsBatch m c
+      pub counted : IsCounted (staged c m) ready.store.drafted.data_blocks
+          ready.store.drafted.meta_blocks
+      pub map : HasRoom → IsMapOf (segments_of v) (staged c m) next
+      pub done : HasRoom → Step (segments_of v) s call answer next
+      pub lacks : 47 * segments_of v < need_of ready
+          → Step (segments_of v) s call (Refuse refusal.NoSpace) s
+
+    abbrev pub AreDrafts : Type 0
+    AreDrafts = Kept → (k : CheckpointValue) (m0 m : LogMap) (s : State) → IsIn state v k m0 m s
+        → IsDraft m s
+
+    -- the answer, and the open files
+    abbrev pub EndIn : AreDrafts → Answer → Handles → Type 0
+    EndIn drafts x table = (keeps : Kept) (k : CheckpointValue) (m0 m : LogMap) (s : State)
+        (is : IsIn state v k m0 m s) → ((drafts keeps k m0 m s is).answer ≡ x)
+        × ((drafts keeps k m0 m s is).next.handles ≡ table)
+
+    -- it is staged
+    pub accepted_serves : changes call ≡ true → never_for_device call ≡ false → (drafts : AreDrafts) (x : Answer)
+        → is_ok x ≡ true → (table : Handles) → EndIn drafts x table
+        → (IsBounded state v (with_table table) call → Behaves state v (with_table table) call x) → StagesDraft state ready new
+        → Serves state v (with_table table) call x
+    accepted_serves change free drafts x ok table ends behaves stages =
+        let accepts = accepts_old stages in
+        let low = low_old stages.young in
+        accepts_by state v (with_table table) call (lawful v.log.device)
+        (lawful new.store.log.device) accepts.carries accepts.segments was accepts.saves.number c
+        accepts low x (ok_refuses_none x refusal.Halted ok)
+        (λ e. let no : acknowledges call x ≡ false = ap (λ (b : Bool). b && is_ok x) (commits_none call free) in cc)
+        (behaves (change_bounded state v (with_table table) call change accepts.saves.few
+        (tells_old stages.tells)))
+        (λ p keeps here k m0 m is. (
+        let before = stages.accepts.carries.kept_before keeps in
+        let draft = drafts before k m0 m p.state is in
+        let end = ends before k m0 m p.state is in
+        let room : HasRoom = subst (λ (n : ℕ). need_of ready ≤ n) limit_same stages.room in
+        record {
+          next = draft.next;
+          fits = draft.fits;
+          map = draft.map room;
+          handles = end.1;
+          counted = subst (λ (t : BlockTotals). IsCounted (staged c m) t.data_blocks t.meta_blocks)
+              (sym stages.totals) draft.counted;
+          steps = inl (
+            subst (λ (y : Answer). Step (segments_of v) p.state call y draft.next) end.0
+                (draft.done room),
+            not_worn (segments_of v) call p (let n = here.number in omega (arith, n, low)),
+          );
+        }))
+
+    module _ (change : changes call ≡ true) (free : never_for_device call ≡ false)
+        (takes : takes_no_memory call ≡ false) (unclean : cleans call ≡ false)
+        (drafts : AreDrafts) where
+      fits_each : Kept → (k : CheckpointValue) (m0 m : LogMap) (s : State) → IsIn state v k m0 m s
+          → InEach state v (λ m s. FitsBatch m c)
+      fits_each keeps k m0 m s is k' m0' m' s' before is' = (drafts keeps k' m0' m' s' is').fits
+
+      -- the tree would need more than there is
+      lacks_by : IsStill state v (seen new) → limit_of ready < need_of ready
+          → InState (Refuse refusal.NoSpace)
+      lacks_by same more keeps k m0 m s is = served_still state v (seen new) call
+          (Refuse refusal.NoSpace) (lawful v.log.device) same was tt
+          (λ p keeps_new here k' m0' m' is'. (
+          let step = (drafts keeps k' m0' m' p.state is').lacks
+          (subst (λ (n : ℕ). n < need_of ready) limit_same more) in
+          inl (step, refused_not_worn (segments_of v) call p refusal.NoSpace p.state step unclean)))
+          (not_acknowledged call refusal.NoSpace)
+
+      -- the last number is reached
+      past_last : IsStill state v (seen new) → 2 ^ 62 ≤ v.log.number
+          → need_of ready ≤ limit_of ready → InState (Refuse refusal.Worn)
+      past_last same high room keeps k m0 m s is = served_still state v (seen new) call
+          (Refuse refusal.Worn) (lawful v.log.device) same was tt
+          (λ p keeps_new here k' m0' m' is'. (
+          let draft = drafts keeps k' m0' m' p.state is' in inr (
+            refusal.Worn,
+            refl,
+            worn (segments_of v) call p (point_of state (seen new) p.state)
+                (let n = here.number in omega (arith, n, high)) change draft.answer draft.next
+                (draft.done (subst (λ (n : ℕ). need_of ready ≤ n) limit_same room)) draft.ok,
+            refl,
+          )))
+          (not_acknowledged call refusal.Worn)
+
+      -- it isn't
+      pub draft_turned : (e : FsError) → TurnsDown state ready new e
+          → Serves state v (seen new) call (Refuse (refusal_of e))
+      draft_turned = by_fault change free takes fits_each lacks_by past_last
+
+      -- it is, or it isn't; the open files stay
+      pub draft_ends : is_ok a ≡ true → EndIn drafts a v.table → {X : Type 0} (r : Result X FsError)
+          → OnOk r (StagesDraft state ready new) → IfErr r (TurnsDown state ready new)
+          → Serves state v (seen new) call (answer_by (λ _. a) r)
+      draft_ends ok ends (Ok x) stages down = accepted_serves change free drafts a ok
+          new.handles (subst (EndIn drafts a) (sym table_same) ends)
+          (write_behaves state v (seen new) call a (change_writes call change) table_same
+          (ok_refuses_none a refusal.Stuck ok)
+          (λ never. ok_refuses_none a refusal.NoMemory ok)) stages
+      draft_ends ok ends (Err e) stages down = draft_turned e down

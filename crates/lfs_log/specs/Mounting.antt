@@ -1,0 +1,33 @@
+-- What a mount gives, and why it gives none.
+use Rattle.std.specs.Prelude.{◌≡◌, ◌≤◌, ◌*◌, true, length, Result, IfOk, IfErr, MatchResult}
+use Rattle.lfs_model.specs.Device.{DeviceState, Only, IsUntouched, Carries, LeavesOnly}
+use Rattle.lfs_memory.specs.segments.Early.{AreUntaken}
+use Rattle.lfs_memory.specs.segments.Table.{clean_in}
+use Rattle.lfs_verify.specs.declared.fault.MountFault.{MountFault}
+use Rattle.lfs_verify.specs.declared.fault.MountFault.TheVariants as fault
+use Rattle.lfs_verify.specs.Faults.{IsOpenFault}
+use Rattle.lfs_verify.specs.Verified.{HasLogMap, IsRefusedLog}
+use Rattle.lfs_log.specs.Held.{Held, Mounts, AreAllSaved}
+use Rattle.lfs_log.specs.Opening.{CountsOpened}
+
+module _ {D : Type 0} (state : D → DeviceState) (d : D) where
+  -- The log of a volume that is mounted: it holds the log map that the device stands for, all of it saved, and knows its totals.
+  pub record OpenedLog (h : Held D) : Type 0 where
+    pub holds : Mounts state d h
+    pub counts : CountsOpened (state d) (state h.device) h.totals
+    pub saved : h.saved ≡ true
+    pub empty : AreAllSaved h
+    pub untaken : (state h.device).keeps_model → AreUntaken h.memory.usage
+    pub many : (state h.device).keeps_model → length h.memory.usage.segments ≤ 8 * clean_in h.memory.usage.segments
+
+  -- A mount, which writes nothing: the log, or why the device holds none.
+  pub record OpensLog (result : Result (Held D) (MountFault × D)) : Type 0 where
+    pub opened : IfOk result (λ log. OpenedLog log)
+    pub found : IfOk result (λ log. HasLogMap (state d) (state log.device))
+    pub durable : IfOk result (λ log. (state log.device).keeps_model → Only (state d).content (state log.device))
+    pub cause : IfErr result (λ e. (e.0 ≡ fault.NoMemory → ⊥) → IsOpenFault (state d) (state e.1) e.0)
+    pub reason : IfErr result (λ e. IsRefusedLog (state d) (state e.1) e.0)
+    pub untouched : MatchResult result (λ log. IsUntouched (state d) (state log.device)) (λ e. IsUntouched (state d) (state e.1))
+    pub carries : MatchResult result (λ log. Carries (state d) (state log.device)) (λ e. Carries (state d) (state e.1))
+    pub any_moment : MatchResult result (λ log. LeavesOnly (state d) (state log.device) (state d).may_leave)
+        (λ e. LeavesOnly (state d) (state e.1) (state d).may_leave)
