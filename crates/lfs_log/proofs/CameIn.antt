@@ -1,5 +1,5 @@
 -- Which blocks come into memory: what calls one after the other bring, and that these blocks stood on the device before.
-use Rattle.std.proofs.Common.{◌≡◌, ◌<◌, ◌≤◌, ⊎_elim, ◌+◌, ◌*◌, ℕ, zero, suc, List, [], ◌∷◌, length, get_or, Some, None, refl, sym, ◌∙◌, ap}
+use Rattle.std.proofs.Common.{◌≡◌, ◌<◌, ◌≤◌, ⊎_elim, ◌+◌, ℕ, zero, suc, List, [], ◌∷◌, length, get_or, Some, None, refl, sym, ◌∙◌, ap}
 use Rattle.std.proofs.Common.{subst, arith, inl, inr}
 use Rattle.std.proofs.lemmas.Bool.{cases_eq}
 use Rattle.lfs_model.specs.Checkpoint.{CheckpointValue}
@@ -16,7 +16,8 @@ use Rattle.lfs_memory.specs.declared.memory.LogMemory.{LogMemory}
 use Rattle.lfs_memory.specs.Lifting.{IsInMemory}
 use Rattle.lfs_memory.specs.Memory.{IsLoose}
 use Rattle.lfs_memory.specs.Present.{AnswersAddress}
-use Rattle.lfs_log.specs.Relocating.{BringsOne, BringsWay, CameFrom, IsAmong, IsBetween, IsDataBlock, IsInOrder, IsOnWay, LacksOnWay}
+use Rattle.lfs_log.specs.Relocating.{BringsOne, BringsWay, CameFrom, IsAmong, IsBetween, IsDataBlock, IsInOrder, IsInSegment, IsOnWay}
+use Rattle.lfs_log.specs.Relocating.{LacksOnWay}
 use Rattle.lfs_log.specs.Relocating.{Misses, Relocates, StandsWhere, climb}
 use Rattle.lfs_log.proofs.TableEntries.{one_came}
 
@@ -179,19 +180,13 @@ in_list [] i lt = absurd (omega (arith, lt))
 in_list (v ∷ vs) zero lt = inl refl
 in_list (v ∷ vs) (suc i) lt = inr (in_list vs i (omega (arith, lt)))
 
-among_one : (vs : List ℕ) (i s : ℕ) → s ≡ get_or vs i 0 → i < length vs → (at : ℕ) → IsBetween (2 + 64 * s) (66 + 64 * s) at → IsAmong vs at
+pub among_one : (vs : List ℕ) (i s : ℕ) → s ≡ get_or vs i 0 → i < length vs → (at : ℕ) → IsInSegment s at
+    → IsAmong vs at
 among_one vs i s is lt at between =
     let from = between.0 in
     let to = between.1 in
     let here : segment_of at ≡ s = omega (arith, from, to) in
     subst (IsIn vs) (sym (here ∙ is)) (in_list vs i lt)
-
-module _ (d d' : DeviceState) (v v' : LogMemory) (vs : List ℕ) (i s : ℕ) (is : s ≡ get_or vs i 0) (lt : i < length vs) where
-  pub came_among : CameFrom d d' v v' (IsBetween (2 + 64 * s) (66 + 64 * s)) → CameFrom d d' v v' (IsAmong vs)
-  came_among came = came_wider d d' v v' (IsBetween (2 + 64 * s) (66 + 64 * s)) (IsAmong vs) (among_one vs i s is lt) came
-
-  pub misses_among : Misses d d' v v' (IsBetween (2 + 64 * s) (66 + 64 * s)) → Misses d d' v v' (IsAmong vs)
-  misses_among misses = misses_wider d d' v v' (IsBetween (2 + 64 * s) (66 + 64 * s)) (IsAmong vs) (among_one vs i s is lt) misses
 
 -- ---- after the device was only looked at, before or behind
 pub came_looked : (a b c : DeviceState) (v v' : LogMemory) (P : ℕ → Type 0) → (c.keeps_model → b.keeps_model) → CameFrom a b v v' P

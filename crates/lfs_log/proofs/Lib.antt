@@ -5,11 +5,13 @@ pub mod UsageMoves
 pub mod UsageWrites
 pub mod PublishSteps
 pub mod Saves
+pub mod SavedBlocks
 pub mod Opens
 pub mod Linked
 pub mod Volumes
 pub mod StoredBlocks
 pub mod Relocated
+pub mod Relocations
 pub mod TableBlocks
 pub mod RowLabels
 pub mod Vacated

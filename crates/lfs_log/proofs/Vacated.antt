@@ -7,7 +7,7 @@ use Rattle.lfs_model.specs.Content.{Content, block, bytes_of}
 use Rattle.lfs_model.specs.Device.{DeviceState, IsLawful, cell_at}
 use Rattle.lfs_model.specs.Entry.{Entry, entry_of, entries_in}
 use Rattle.lfs_model.specs.Memory.{Memory}
-use Rattle.lfs_model.specs.Reach.{Row, row_by, place_in}
+use Rattle.lfs_model.specs.Reach.{Row, row_by, place_in, segment_start}
 use Rattle.lfs_model.specs.Stands.{LogMap}
 use Rattle.lfs_model.specs.Summary.{BlockNameValue, no_block, summary_in}
 use Rattle.lfs_model.proofs.Tables.{block_at}
@@ -68,7 +68,7 @@ module _ (d : DeviceState) (v : LogMemory) (k : CheckpointValue) (m0 m : LogMap)
   pub has_row : HasRow (row_by d.content (used_of v.usage segment) segment)
   has_row = (M.rows segment, row_known)
 
-  pub stands_named : (y : Entry) → 2 + 64 * segment ≤ M.at y → M.at y < 66 + 64 * segment
+  pub stands_named : (y : Entry) → segment_start segment ≤ M.at y → M.at y < segment_start (segment + 1)
       → place_in (row_by d.content (used_of v.usage segment) segment) (M.at y - (2 + 64 * segment)) ≡ Some y
   stands_named y from to =
       let s : (M.at y - 2) / 64 ≡ segment = omega (arith, from, to) in
@@ -180,7 +180,7 @@ module _ (a b c : DeviceState) (v v' : LogMemory) (segment used at : ℕ) (was :
 pub all_cleared : (a b : DeviceState) (v v' : LogMemory) (segment used : ℕ) → v.chunk.names ≡ [] → segment < length v.usage.segments
     → used ≡ used_of v.usage segment
     → 2 + 64 * segment + used ≤ length a.content → ClearsTo a b v v' segment used used
-    → Vacates a b v v' (2 + 64 * segment) (66 + 64 * segment)
+    → Vacates a b v v' (segment_start segment) (segment_start (segment + 1))
 all_cleared a b v v' segment used closed low is_used long was k m0 m keeps is =
     let here = was k m0 m keeps is in
     let now = here.0 in (
@@ -210,7 +210,8 @@ vacates_none d v segments k m0 m keeps is = (is, traces_none is.running.memory, 
 
 pub vacates_more : (a b c : DeviceState) (v v' v'' : LogMemory) (segments : List ℕ) (at segment : ℕ) → segment ≡ get_or segments at 0
     → (c.keeps_model → b.keeps_model)
-    → Vacates b c v' v'' (2 + 64 * segment) (66 + 64 * segment) → VacatesAll a b v v' segments at → VacatesAll a c v v'' segments (at + 1)
+    → Vacates b c v' v'' (segment_start segment) (segment_start (segment + 1)) → VacatesAll a b v v' segments at
+    → VacatesAll a c v v'' segments (at + 1)
 vacates_more a b c v v' v'' segments at segment is_segment back one was k m0 m keeps is =
     let so_far = was k m0 m (back keeps) is in
     let now = one k m0 m keeps so_far.0 in (

@@ -1,5 +1,5 @@
 -- What a pass of the cleaner does: all that lives in some segments goes elsewhere, and they are clean.
-use Rattle.std.specs.Prelude.{◌≡◌, ◌<◌, ◌≤◌, ◌+◌, ◌*◌, ◌-◌, ◌/◌, ℕ, true, false, List, [], length, get_or, Some}
+use Rattle.std.specs.Prelude.{◌≡◌, ◌<◌, ◌≤◌, ◌+◌, ◌*◌, ◌-◌, ◌/◌, ℕ, true, false, List, [], length, get_or, Some, Result, OnOk, IsErrOf}
 use Rattle.lfs_model.specs.Checkpoint.{CheckpointValue}
 use Rattle.lfs_model.specs.Crash.{StandsOn}
 use Rattle.lfs_model.specs.declared.limits.TheConstants.{CHUNK_BLOCKS, TABLE_BLOCKS}
@@ -12,7 +12,9 @@ use Rattle.lfs_memory.specs.segments.Emptied.{IsEmptied}
 use Rattle.lfs_memory.specs.segments.Table.{UsageTable, used_of, kept_of, clean_in}
 use Rattle.lfs_memory.specs.declared.memory.LogMemory.{LogMemory}
 use Rattle.lfs_memory.specs.Memory.{IsLog, IsMemory}
-use Rattle.lfs_memory.specs.Present.{Looks}
+use Rattle.lfs_memory.specs.declared.lifting.LiftFault.{LiftFault}
+use Rattle.lfs_memory.specs.declared.lifting.LiftFault.TheVariants as lift
+use Rattle.lfs_memory.specs.Present.{FailsFromDevice, Looks}
 use Rattle.lfs_log.specs.Held.{Held, Holds, LeavesSaved, AreAllSaved}
 use Rattle.lfs_memory.specs.segments.Early.{AreUntaken}
 use Rattle.lfs_log.specs.Relocating.{CameFrom, IsAmong, IsInOrder, Misses, Relocates}
@@ -39,6 +41,12 @@ pub record Empties (d d' : DeviceState) (v v' : LogMemory) (vs : List ℕ) : Typ
   pub chunk : v'.chunk ≡ v.chunk
   pub emptied : AreEmptied v'.usage vs
   pub log : (k : CheckpointValue) (m0 m : LogMap) → d'.keeps_model → IsLog d v k m0 m → IsLog d' v' k m0 m
+
+-- A call that orders nothing: one that is done counts no failure, and one that a failure of the device ended counts one.
+pub record EndsReading {T : Type 0} (d d' : DeviceState) (v : LogMemory) (result : Result T LiftFault) : Type 0 where
+  pub looks : Looks d d'
+  pub failed : IsErrOf result lift.Device → FailsFromDevice d d' v
+  pub no_failure : OnOk result (d'.failures ≡ d.failures)
 
 -- how many blocks of files a pass over so many segments may bring into memory: with all blocks of the tables they fill fewer segments
 abbrev pub most_brought : ℕ → ℕ

@@ -7,6 +7,7 @@ pub mod Mounting
 pub mod Relocating
 pub mod Cleaning
 pub mod Telling
+pub mod Placing
 pub mod Early
 pub mod Thresholds
 pub mod Keeping

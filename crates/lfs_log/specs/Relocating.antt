@@ -1,12 +1,15 @@
 -- Blocks of segments come into memory, so that the next commit writes them elsewhere.
-use Rattle.std.specs.Prelude.{◌≡◌, ◌<◌, ◌≤◌, ◌⊎◌, ◌+◌, ◌*◌, T, ℕ, zero, suc, true, List, length, get_or}
+use Rattle.std.specs.Prelude.{◌≡◌, ◌<◌, ◌≤◌, ◌⊎◌, ◌+◌, T, ℕ, zero, suc, Bool, true, List, length, get_or, Result, IfOk, IsErrOf}
+use Rattle.std.specs.Prelude.{IsTrue, IsFalse}
 use Rattle.std.specs.FinMap.{is_sorted}
 use Rattle.std.specs.Ordering.{nat_cmp}
 use Rattle.lfs_model.specs.Checkpoint.{CheckpointValue}
 use Rattle.lfs_model.specs.Counting.{segment_of}
+use Rattle.lfs_model.specs.declared.limits.TheConstants.{CHECKPOINT_SLOTS}
 use Rattle.lfs_model.specs.Device.{DeviceState}
 use Rattle.lfs_model.specs.Entry.{Entry, Data, Leaf, Double, Inode, Map, Usage, entry_of}
 use Rattle.lfs_model.specs.Members.{IsIn}
+use Rattle.lfs_model.specs.Reach.{segment_start}
 use Rattle.lfs_model.specs.Memory.{Memory, IsOfFile, parent}
 use Rattle.lfs_model.specs.Stands.{LogMap}
 use Rattle.lfs_model.specs.Summary.{BlockNameValue, no_block}
@@ -15,7 +18,9 @@ use Rattle.lfs_memory.specs.inodes.Code.{IsCode}
 use Rattle.lfs_memory.specs.segments.Steps.{Lifts, PutsPlace}
 use Rattle.lfs_memory.specs.segments.Table.{UsageTable, address_of, clean_in}
 use Rattle.lfs_memory.specs.declared.memory.LogMemory.{LogMemory}
-use Rattle.lfs_memory.specs.Lifting.{Gathers, HasTraces, IsCountedAbove, IsInMemory}
+use Rattle.lfs_memory.specs.declared.lifting.LiftFault.{LiftFault}
+use Rattle.lfs_memory.specs.declared.lifting.LiftFault.TheVariants as fault
+use Rattle.lfs_memory.specs.Lifting.{EndsLifting, Gathers, HasTraces, IsCountedAbove, IsInMemory}
 use Rattle.lfs_memory.specs.Memory.{IsLoose, IsMemory}
 use Rattle.lfs_memory.specs.Present.{Looks}
 
@@ -66,16 +71,19 @@ IsDataBlock (Inode n) = ⊥
 IsDataBlock (Map j) = ⊥
 IsDataBlock (Usage j) = ⊥
 
--- addresses from this one on, to before that one, and those in some segments
+-- addresses from this one on, to before that one, those of a segment, and those in some segments
 abbrev pub IsBetween : ℕ → ℕ → ℕ → Type 0
 IsBetween from to at = (from ≤ at) × (at < to)
+
+abbrev pub IsInSegment : ℕ → ℕ → Type 0
+IsInSegment s = IsBetween (segment_start s) (segment_start (s + 1))
 
 abbrev pub IsAmong : List ℕ → ℕ → Type 0
 IsAmong segments at = IsIn segments (segment_of at)
 
 -- the block stands on the device, at such an address if it is one of data
 abbrev pub StandsWhere : (ℕ → Type 0) → Memory → Entry → Type 0
-StandsWhere P M x = (2 ≤ M.at x) × (IsDataBlock x → P (M.at x))
+StandsWhere P M x = (CHECKPOINT_SLOTS ≤ M.at x) × (IsDataBlock x → P (M.at x))
 
 -- each block that came into memory stood so before
 abbrev pub CameFrom : DeviceState → DeviceState → LogMemory → LogMemory → (ℕ → Type 0) → Type 0
@@ -95,6 +103,20 @@ pub record Misses (d d' : DeviceState) (v v' : LogMemory) (P : ℕ → Type 0) :
 abbrev pub IsNoBlock : DeviceState → LogMemory → Entry → Type 0
 IsNoBlock d v x = (k : CheckpointValue) (m0 m : LogMap) → d.keeps_model → (is : IsLoose d v k m0 m) → is.running.memory.at x ≡ 0
 
+-- A call that brings this block into memory, if it is stored: whether it is there then.
+pub record EndsBringing (d d' : DeviceState) (v v' : LogMemory) (x : Entry) (result : Result Bool LiftFault) : Type 0 where
+  pub relocates : Relocates d d' v v'
+  pub inside : IfOk result (λ found. IsTrue found → IsInMemory v' x)
+  pub none : IfOk result (λ found. IsFalse found → IsNoBlock d' v' x)
+  pub ends : EndsLifting d d' v v' result
+
+-- A call that brings blocks into memory that stand at such addresses, with those above them; `Full` where one more was to come.
+pub record EndsRelocating {T : Type 0} (d d' : DeviceState) (v v' : LogMemory) (P : ℕ → Type 0) (result : Result T LiftFault) : Type 0 where
+  pub relocates : Relocates d d' v v'
+  pub came : CameFrom d d' v v' P
+  pub misses : IsErrOf result fault.Full → Misses d d' v v' P
+  pub ends : EndsLifting d d' v v' result
+
 -- the block doesn't stand at this address any more
 abbrev pub HasLeft : DeviceState → DeviceState → LogMemory → LogMemory → Entry → ℕ → Type 0
 HasLeft d d' v v' x address = (k : CheckpointValue) (m0 m : LogMap) → d'.keeps_model
@@ -103,7 +125,7 @@ HasLeft d d' v v' x address = (k : CheckpointValue) (m0 m : LogMap) → d'.keeps
 
 -- Usage block j leaves its address, and isn't as the device has it.
 pub record UsageLeaves (old new : UsageTable) (j : ℕ) : Type 0 where
-  pub above : 2 ≤ address_of old j
+  pub above : CHECKPOINT_SLOTS ≤ address_of old j
   pub lifted : UsageTable
   pub lifts : Lifts old lifted (segment_of (address_of old j)) true
   pub puts : PutsPlace lifted new j 1 true
@@ -116,7 +138,7 @@ pub record UsageLeavesIn (v v' : LogMemory) (j : ℕ) : Type 0 where
 
 -- it isn't counted where it stands
 pub record IsUsageLost (v : LogMemory) (j : ℕ) : Type 0 where
-  pub above : 2 ≤ address_of v.usage j
+  pub above : CHECKPOINT_SLOTS ≤ address_of v.usage j
   pub lost : IsCountedAbove v.usage (address_of v.usage j) true → ⊥
 
 -- the memory of a log after a call, traced from that before it
@@ -141,7 +163,8 @@ Vacates d d' v v' from to = (k : CheckpointValue) (m0 m : LogMap) → d'.keeps_m
 
 -- nor in any of these segments
 abbrev pub AreVacant : List ℕ → ℕ → Memory → Type 0
-AreVacant segments upto M = (i : ℕ) → i < upto → IsVacantTo (2 + 64 * get_or segments i 0) (66 + 64 * get_or segments i 0) M
+AreVacant segments upto M = (i : ℕ) → i < upto
+    → IsVacantTo (segment_start (get_or segments i 0)) (segment_start (get_or segments i 0 + 1)) M
 
 abbrev pub VacatesAll : DeviceState → DeviceState → LogMemory → LogMemory → List ℕ → ℕ → Type 0
 VacatesAll d d' v v' segments upto = (k : CheckpointValue) (m0 m : LogMap) → d'.keeps_model → (is : IsLoose d v k m0 m)

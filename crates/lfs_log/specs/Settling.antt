@@ -1,7 +1,7 @@
 -- What the steps do by which the usage blocks that changed get new places.
 use Rattle.std.specs.Prelude.{◌≡◌, ◌<◌, ◌≤◌, ◌+◌, ◌-◌, ◌/◌, ℕ, true, false, length}
 use Rattle.lfs_model.specs.declared.BlockKind.TheVariants as kind
-use Rattle.lfs_model.specs.declared.limits.TheConstants.{BLOCK_SEGMENTS}
+use Rattle.lfs_model.specs.declared.limits.TheConstants.{BLOCK_SEGMENTS, CHECKPOINT_SLOTS}
 use Rattle.lfs_model.specs.Counting.{segment_of}
 use Rattle.lfs_model.specs.Summary.{BlockNameValue}
 use Rattle.lfs_model.specs.Running.{IsSet}
@@ -13,7 +13,7 @@ use Rattle.lfs_memory.specs.Memory.{Places}
 
 -- usage block j lives on the device
 pub record IsThere (t : UsageTable) (j : ℕ) : Type 0 where
-  pub above : 2 ≤ address_of t j
+  pub above : CHECKPOINT_SLOTS ≤ address_of t j
   pub inside : segment_of (address_of t j) < length t.segments
   pub live : 0 < live_of t (segment_of (address_of t j))
 
@@ -25,7 +25,7 @@ pub record IsNowhere (t : UsageTable) (j : ℕ) : Type 0 where
 -- it lives no more at its address, which it may have left before
 pub record Leaves (old new : UsageTable) (j : ℕ) : Type 0 where
   pub left : address_of old j ≡ 1 → new ≡ old
-  pub above : (address_of old j ≡ 1 → ⊥) → 2 ≤ address_of old j
+  pub above : (address_of old j ≡ 1 → ⊥) → CHECKPOINT_SLOTS ≤ address_of old j
   pub lifts : (address_of old j ≡ 1 → ⊥) → Lifts old new (segment_of (address_of old j)) true
 
 abbrev pub usage_name : ℕ → BlockNameValue
@@ -45,7 +45,7 @@ pub record Resettles (v v' : LogMemory) (j number : ℕ) : Type 0 where
 
 -- usage block j stands where the acknowledged checkpoint needs nothing
 abbrev pub IsAnew : UsageTable → ℕ → Type 0
-IsAnew t j = (2 ≤ address_of t j) × (segment_of (address_of t j) < length t.segments) × IsUnkeptBy t (address_of t j)
+IsAnew t j = (CHECKPOINT_SLOTS ≤ address_of t j) × (segment_of (address_of t j) < length t.segments) × IsUnkeptBy t (address_of t j)
 
 -- usage block j stands there now, the others as before
 pub record IsResettled (old new : UsageTable) (j : ℕ) : Type 0 where

@@ -1,12 +1,11 @@
 //! A pass of the cleaner: all that lives in some segments comes into memory, whole or not at all,
 //! and a commit writes it elsewhere. After the cleaner of the Sprite LFS paper (1992, section 3.3).
-ghost use Rattle.std.specs.Prelude.{◌≡◌, ◌<◌, ◌≤◌, ◌+◌, ◌*◌, ◌-◌, ◌/◌, ℕ, [], length, get_or, IfOk, OnOk, OnErr, IfSome, IsErrOf, IsTrue, IsFalse};
+ghost use Rattle.std.specs.Prelude.{◌≡◌, ◌<◌, ◌≤◌, ◌+◌, ◌*◌, ◌-◌, ◌/◌, ℕ, [], length, get_or, IfOk, OnOk, OnErr, IsErrOf, IsTrue, IsFalse};
 ghost use Rattle.lfs_memory.specs.segments.Emptied.{IsEmptied};
 ghost use Rattle.lfs_memory.specs.Memory.{HasRoom, IsMemory};
-ghost use Rattle.lfs_memory.specs.Present.{FailsFromDevice, Looks};
-ghost use Rattle.lfs_log.specs.Cleaning.{AreCleanable, AreEmptied, Crowds, Empties, IsCleanable, MayClean, Overfills, most_brought};
+ghost use Rattle.lfs_log.specs.Cleaning.{AreCleanable, AreEmptied, Crowds, Empties, EndsReading, IsCleanable, MayClean, Overfills, most_brought};
 ghost use Rattle.lfs_log.specs.Keeping.{KeepsShape};
-ghost use Rattle.lfs_log.specs.Relocating.{CameFrom, IsAmong, Misses, Relocates, VacatesAll};
+ghost use Rattle.lfs_log.specs.Relocating.{EndsRelocating, IsAmong, VacatesAll};
 
 use crate::relocating::{are_in_order, relocate_segment};
 use crate::thresholds::{is_eighth_clean, most_victims};
@@ -53,31 +52,18 @@ fn relocate_all<D: SectorDevice>(
     memory: &mut LogMemory,
     victims: &[u16],
 ) -> Result<(), LiftFault>
-    requires memory { IsMemory memory.old }
-    requires size { HasRoom (D.state device.old) memory.old }
-    requires closed { memory.old.chunk.names ≡ [] }
     requires inside { (i : ℕ) → i < length victims.now
         → get_or victims.now i 0 < length memory.old.usage.segments }
-    ensures relocates { Relocates (D.state device.old) (D.state device.new) memory.old memory.new }
+    requires closed { memory.old.chunk.names ≡ [] }
+    requires memory { IsMemory memory.old }
+    requires size { HasRoom (D.state device.old) memory.old }
+    ensures relocates { EndsRelocating (D.state device.old) (D.state device.new) memory.old
+        memory.new (IsAmong victims.now) result }
     ensures vacates { OnOk result (VacatesAll (D.state device.old) (D.state device.new) memory.old
         memory.new victims.now (length victims.now)) }
-    ensures came { CameFrom (D.state device.old) (D.state device.new) memory.old memory.new
-        (IsAmong victims.now) }
-    ensures misses { IsErrOf result LiftFault.Full
-        → Misses (D.state device.old) (D.state device.new) memory.old memory.new
-        (IsAmong victims.now) }
-    ensures full { IsErrOf result LiftFault.Full
-        → memory.new.dirty.capacity.limit ≤ length memory.new.dirty.blocks }
-    ensures failed { IsErrOf result LiftFault.Device
-        → FailsFromDevice (D.state device.old) (D.state device.new) memory.old }
-    ensures no_failure { OnOk result ((D.state device.new).failures
-        ≡ (D.state device.old).failures) }
 {
     for victim in victims {
-        match relocate_segment(device, memory, u32::from(*victim)) {
-            Ok(()) => {}
-            Err(fault) => return Err(fault),
-        }
+        relocate_segment(device, memory, u32::from(*victim))?;
     }
     Ok(())
 }
@@ -127,20 +113,16 @@ fn empty_segments<D: SectorDevice>(
     memory: &mut LogMemory,
     victims: &[u16],
 ) -> Result<(), LiftFault>
+    requires victims { AreCleanable memory.old.usage victims.now }
+    requires closed { memory.old.chunk.names ≡ [] }
     requires memory { IsMemory memory.old }
     requires size { HasRoom (D.state device.old) memory.old }
-    requires closed { memory.old.chunk.names ≡ [] }
-    requires victims { AreCleanable memory.old.usage victims.now }
     ensures done { OnOk result (Empties (D.state device.old) (D.state device.new) memory.old
         memory.new victims.now) }
-    ensures looks { Looks (D.state device.old) (D.state device.new) }
+    ensures reads { EndsReading (D.state device.old) (D.state device.new) memory.old result }
     ensures shape { KeepsShape memory.old memory.new }
     ensures full { IsErrOf result LiftFault.Full
         → Crowds (D.state device.old) (D.state device.new) memory.old memory.new victims.now }
-    ensures failed { IsErrOf result LiftFault.Device
-        → FailsFromDevice (D.state device.old) (D.state device.new) memory.old }
-    ensures no_failure { OnOk result ((D.state device.new).failures
-        ≡ (D.state device.old).failures) }
 {
     match relocate_all(device, memory, victims) {
         Ok(()) => {}
@@ -170,27 +152,23 @@ pub fn relocate<D: SectorDevice>(
     victims: &[u16],
     most: u32,
 ) -> Result<(), LiftFault>
-    requires memory { IsMemory memory.old }
-    requires size { HasRoom (D.state device.old) memory.old }
     requires closed { memory.old.chunk.names ≡ [] }
     requires nothing { memory.old.dirty.blocks ≡ [] }
     requires victims { AreCleanable memory.old.usage victims.now }
     requires same_size { length before.old.usage.segments ≡ length memory.old.usage.segments }
     requires few { most + TABLE_BLOCKS ≤ CHUNK_BLOCKS * (length memory.old.usage.segments / 8) }
     requires room { most ≤ memory.old.dirty.capacity.room }
+    requires memory { IsMemory memory.old }
+    requires size { HasRoom (D.state device.old) memory.old }
     ensures done { OnOk result (Empties (D.state device.old) (D.state device.new) memory.old
         memory.new victims.now) }
     ensures few { OnOk result (length memory.new.dirty.blocks ≤ most) }
     ensures room { OnOk result (memory.new.dirty.capacity.room ≡ memory.old.dirty.capacity.room) }
     ensures same { OnErr result (memory.new ≡ memory.old) }
     ensures kept { length before.new.usage.segments ≡ length before.old.usage.segments }
-    ensures looks { Looks (D.state device.old) (D.state device.new) }
+    ensures reads { EndsReading (D.state device.old) (D.state device.new) memory.old result }
     ensures full { IsErrOf result LiftFault.Full
         → Overfills (D.state device.old) (D.state device.new) memory.old victims.now most }
-    ensures failed { IsErrOf result LiftFault.Device
-        → FailsFromDevice (D.state device.old) (D.state device.new) memory.old }
-    ensures no_failure { OnOk result ((D.state device.new).failures
-        ≡ (D.state device.old).failures) }
 {
     let limit = memory.dirty.capacity() as u32;
     before.map.copy_from(&memory.map);
@@ -235,12 +213,9 @@ fn are_cleanable(usage: &Usage, victims: &[u16]) -> bool
     ensures yes { IsTrue result → AreCleanable usage.now victims.now }
     ensures no { IsFalse result → AreCleanable usage.now victims.now → ⊥ }
 {
-    for victim in victims {
-        if !is_cleanable(usage, u32::from(*victim)) {
-            return false;
-        }
-    }
-    true
+    victims
+        .iter()
+        .all(|victim| is_cleanable(usage, u32::from(*victim)))
 }
 
 /// Whether a pass over these segments may begin: nothing is unsaved, and enough segments are clean

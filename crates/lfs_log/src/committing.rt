@@ -1,6 +1,6 @@
 //! A commit: all that changed goes to clean segments, and then the next checkpoint to its slot.
 //! After the checkpoints of the Sprite LFS paper (1992, section 4.1).
-ghost use Rattle.std.specs.Prelude.{◌≡◌, ◌<◌, ◌≤◌, ◌+◌, ◌*◌, ◌^◌, ◌-◌, [], length, OnOk, OnErr};
+ghost use Rattle.std.specs.Prelude.{◌≡◌, ◌<◌, ◌≤◌, ◌+◌, ◌^◌, ◌-◌, [], length, OnOk, OnErr};
 ghost use Rattle.lfs_memory.specs.segments.Table.{clean_in};
 ghost use Rattle.lfs_log.specs.Settling.{AreAnew};
 ghost use Rattle.lfs_memory.specs.Memory.{IsMemory, AreMapsOut, HasRoom, Goes, Stops, room_of};
@@ -8,6 +8,7 @@ ghost use Rattle.lfs_log.specs.Publishing.{IsAllOut};
 ghost use Rattle.lfs_log.specs.Versions.{number_of};
 ghost use Rattle.lfs_log.specs.Saving.{CommitsAll, CommitFails, IsSpared, orders_for, segments_for};
 ghost use Rattle.lfs_log.specs.Keeping.{OnlyChunk};
+ghost use Rattle.lfs_log.specs.Placing.{EndsSaving};
 ghost use Rattle.lfs_log.specs.Telling.{orders_due};
 
 use crate::layout_version::LayoutVersion;
@@ -17,7 +18,7 @@ use crate::publishing::publish;
 use crate::settling::{fill_usage, settle_usage};
 use lfs_device::{DeviceFault, SectorDevice};
 use lfs_memory::LogMemory;
-use lfs_model::limits::{MAP_BLOCKS, TABLE_BLOCKS};
+use lfs_model::limits::{MAP_BLOCKS, OPEN_CHUNK_BLOCKS, TABLE_BLOCKS};
 
 /// All that is to be saved gets its place, each block before those that point to it.
 fn place_all<D: SectorDevice>(
@@ -25,22 +26,16 @@ fn place_all<D: SectorDevice>(
     memory: &mut LogMemory,
     age: u32,
 ) -> Result<(), DeviceFault>
+    requires room { length memory.old.dirty.blocks + TABLE_BLOCKS ≤ room_of memory.old }
     requires memory { IsMemory memory.old }
     requires size { HasRoom (D.state device.old) memory.old }
-    requires room { length memory.old.dirty.blocks + TABLE_BLOCKS ≤ room_of memory.old }
-    ensures done { OnOk result (Goes (D.state device.old) (D.state device.new)
-        memory.old memory.new (length memory.old.dirty.blocks + TABLE_BLOCKS)) }
-    ensures stopped { OnErr result (Stops (D.state device.old) (D.state device.new) memory.old) }
+    ensures saves { EndsSaving (D.state device.old) (D.state device.new) memory.old memory.new
+        (length memory.old.dirty.blocks + TABLE_BLOCKS)
+        (length memory.old.dirty.blocks + MAP_BLOCKS) result }
     ensures dirty { OnOk result (memory.new.dirty.blocks ≡ []) }
     ensures capacity { OnOk result (memory.new.dirty.capacity ≡ memory.old.dirty.capacity) }
     ensures maps { OnOk result (AreMapsOut memory.new.map) }
     ensures anew { OnOk result (AreAnew memory.new.usage) }
-    ensures room { room_of memory.old ≤ room_of memory.new
-        + (length memory.old.dirty.blocks + TABLE_BLOCKS) }
-    ensures tells { OnOk result (orders_due (D.state device.new) memory.new
-        ≤ orders_due (D.state device.old) memory.old + length memory.old.dirty.blocks + MAP_BLOCKS) }
-    ensures most { orders_due (D.state device.new) memory.new
-        ≤ orders_due (D.state device.old) memory.old + length memory.old.dirty.blocks + MAP_BLOCKS + 1 }
 {
     save_files(device, memory, age)?;
     save_map(device, memory, age)?;
@@ -53,17 +48,17 @@ pub fn seal_rest<D: SectorDevice>(device: &mut D, memory: &mut LogMemory) -> Res
     requires memory { IsMemory memory.old }
     requires size { HasRoom (D.state device.old) memory.old }
     ensures done { OnOk result (Goes (D.state device.old) (D.state device.new) memory.old memory.new
-        62) }
+        OPEN_CHUNK_BLOCKS) }
     ensures stopped { OnErr result (Stops (D.state device.old) (D.state device.new) memory.old) }
     ensures only { OnlyChunk memory.old memory.new }
     ensures ended { OnOk result (memory.new.chunk.names ≡ []) }
     ensures told { length (D.state device.new).told + clean_in memory.new.usage.segments
         ≤ orders_due (D.state device.old) memory.old }
 {
-    if !memory.chunk.is_empty() {
-        seal(device, memory)?;
+    if memory.chunk.is_empty() {
+        return Ok(());
     }
-    Ok(())
+    seal(device, memory)
 }
 
 /// Writes all that changed to segments that were clean.
@@ -72,14 +67,14 @@ fn write_out<D: SectorDevice>(
     memory: &mut LogMemory,
     age: u32,
 ) -> Result<(), DeviceFault>
-    requires memory { IsMemory memory.old }
-    requires size { HasRoom (D.state device.old) memory.old }
-    requires closed { memory.old.chunk.names ≡ [] }
     requires clean { segments_for (length memory.old.dirty.blocks)
         ≤ clean_in memory.old.usage.segments }
+    requires closed { memory.old.chunk.names ≡ [] }
     requires spare { IsSpared memory.old }
+    requires memory { IsMemory memory.old }
+    requires size { HasRoom (D.state device.old) memory.old }
     ensures done { OnOk result (Goes (D.state device.old) (D.state device.new)
-        memory.old memory.new (length memory.old.dirty.blocks + TABLE_BLOCKS + 62)) }
+        memory.old memory.new (length memory.old.dirty.blocks + TABLE_BLOCKS + OPEN_CHUNK_BLOCKS)) }
     ensures stopped { OnErr result (Stops (D.state device.old) (D.state device.new) memory.old) }
     ensures capacity { OnOk result (memory.new.dirty.capacity ≡ memory.old.dirty.capacity) }
     ensures out { OnOk result (IsAllOut memory.new) }
@@ -107,13 +102,13 @@ pub fn save<D: SectorDevice>(
     version: LayoutVersion,
     number: u64,
 ) -> Result<(), DeviceFault>
-    requires memory { IsMemory memory.old }
-    requires size { HasRoom (D.state device.old) memory.old }
-    requires number { number < 2 ^ 64 - 1 }
     requires closed { memory.old.chunk.names ≡ [] }
+    requires number { number < 2 ^ 64 - 1 }
     requires clean { segments_for (length memory.old.dirty.blocks)
         ≤ clean_in memory.old.usage.segments }
     requires spare { IsSpared memory.old }
+    requires memory { IsMemory memory.old }
+    requires size { HasRoom (D.state device.old) memory.old }
     ensures done { OnOk result (CommitsAll (D.state device.old) (D.state device.new) memory.old
         memory.new (number_of version) number) }
     ensures stopped { OnErr result (CommitFails (D.state device.old) (D.state device.new) memory.old

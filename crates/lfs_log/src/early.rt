@@ -4,70 +4,32 @@
 ghost use Rattle.std.specs.Prelude.{◌≡◌, ◌<◌, ◌≤◌, ◌+◌, ◌⊎◌, [], length, OnOk, OnErr};
 ghost use Rattle.lfs_memory.specs.segments.Table.{clean_in};
 ghost use Rattle.lfs_memory.specs.inodes.Data.{data_count};
-ghost use Rattle.lfs_memory.specs.Memory.{IsMemory, HasRoom, Goes, Stops, room_of};
-ghost use Rattle.lfs_log.specs.Early.{GoesEarly, IsFresh, WritesChunks, blocks_due};
+ghost use Rattle.lfs_memory.specs.Memory.{IsMemory, HasRoom, Goes, Stops};
 ghost use Rattle.lfs_log.specs.Thresholds.{reserve_of};
 ghost use Rattle.lfs_log.specs.Saving.{orders_for};
-ghost use Rattle.lfs_log.specs.Telling.{orders_due};
+ghost use Rattle.lfs_log.specs.Early.{WritesChunks, blocks_due};
 
 use crate::committing::seal_rest;
 use crate::placing::save_block;
 use crate::thresholds::exceeds_reserve;
 use lfs_device::{DeviceFault, SectorDevice};
 use lfs_memory::LogMemory;
-use lfs_model::limits::CHUNK_BLOCKS;
+use lfs_model::limits::{CHUNK_BLOCKS, OPEN_CHUNK_BLOCKS};
 
-/// The age of blocks that are written after the checkpoint of this number: the next one's.
-pub fn age_after(number: u64) -> u32 {
-    u32::try_from(number.saturating_add(1)).unwrap_or(u32::MAX)
-}
-
-/// Writes as many data blocks as a chunk has, those of the least keys.
-fn save_chunk<D: SectorDevice>(
-    device: &mut D,
-    memory: &mut LogMemory,
-    age: u32,
-) -> Result<(), DeviceFault>
-    requires memory { IsMemory memory.old }
-    requires size { HasRoom (D.state device.old) memory.old }
-    requires room { CHUNK_BLOCKS ≤ room_of memory.old }
-    requires many { CHUNK_BLOCKS ≤ length memory.old.dirty.blocks }
-    requires data_blocks { CHUNK_BLOCKS ≤ data_count memory.old.dirty }
-    requires fresh { IsFresh memory.old }
-    ensures done { OnOk result (Goes (D.state device.old) (D.state device.new) memory.old memory.new
-        CHUNK_BLOCKS) }
-    ensures stopped { OnErr result (Stops (D.state device.old) (D.state device.new) memory.old) }
-    ensures early { OnOk result (GoesEarly memory.old memory.new CHUNK_BLOCKS) }
-    ensures data_blocks { OnOk result (data_count memory.new.dirty + CHUNK_BLOCKS
-        ≡ data_count memory.old.dirty) }
-    ensures capacity { OnOk result (memory.new.dirty.capacity ≡ memory.old.dirty.capacity) }
-    ensures room { room_of memory.old ≤ room_of memory.new + CHUNK_BLOCKS }
-    ensures tells { OnOk result (orders_due (D.state device.new) memory.new
-        ≤ orders_due (D.state device.old) memory.old + CHUNK_BLOCKS) }
-    ensures most { orders_due (D.state device.new) memory.new
-        ≤ orders_due (D.state device.old) memory.old + CHUNK_BLOCKS + 1 }
-{
-    for _ in 0..CHUNK_BLOCKS {
-        let key = memory.dirty.next().unwrap();
-        save_block(device, memory, key, age)?;
-    }
-    Ok(())
-}
-
-/// Writes a chunk of data blocks to a clean segment, and its summary.
+/// Writes a chunk of data blocks, those of the least keys, to a clean segment, and its summary.
 fn write_chunk<D: SectorDevice>(
     device: &mut D,
     memory: &mut LogMemory,
     age: u32,
 ) -> Result<(), DeviceFault>
-    requires memory { IsMemory memory.old }
-    requires size { HasRoom (D.state device.old) memory.old }
-    requires closed { memory.old.chunk.names ≡ [] }
-    requires clean { 0 < clean_in memory.old.usage.segments }
     requires many { CHUNK_BLOCKS ≤ length memory.old.dirty.blocks }
     requires data_blocks { CHUNK_BLOCKS ≤ data_count memory.old.dirty }
+    requires closed { memory.old.chunk.names ≡ [] }
+    requires clean { 0 < clean_in memory.old.usage.segments }
+    requires memory { IsMemory memory.old }
+    requires size { HasRoom (D.state device.old) memory.old }
     ensures done { OnOk result (Goes (D.state device.old) (D.state device.new) memory.old memory.new
-        (CHUNK_BLOCKS + 62)) }
+        (CHUNK_BLOCKS + OPEN_CHUNK_BLOCKS)) }
     ensures stopped { OnErr result (Stops (D.state device.old) (D.state device.new) memory.old) }
     ensures closed { OnOk result (memory.new.chunk.names ≡ []) }
     ensures fewer { OnOk result (length memory.new.dirty.blocks + CHUNK_BLOCKS
@@ -84,9 +46,17 @@ fn write_chunk<D: SectorDevice>(
         ≤ length (D.state device.old).told + CHUNK_BLOCKS + 2 }
 {
     memory.usage.end_last();
-    save_chunk(device, memory, age)?;
+    for _ in 0..CHUNK_BLOCKS {
+        let key = memory.dirty.next().unwrap();
+        save_block(device, memory, key, age)?;
+    }
     seal_rest(device, memory)?;
     Ok(())
+}
+
+/// The age of blocks that are written after the checkpoint of this number: the next one's.
+pub fn age_after(number: u64) -> u32 {
+    u32::try_from(number.saturating_add(1)).unwrap_or(u32::MAX)
 }
 
 /// Writes full chunks of data blocks to clean segments, as long as memory has one and more than
@@ -100,9 +70,9 @@ pub fn write_chunks<D: SectorDevice>(
     memory: &mut LogMemory,
     age: u32,
 ) -> Result<(), DeviceFault>
+    requires closed { memory.old.chunk.names ≡ [] }
     requires memory { IsMemory memory.old }
     requires size { HasRoom (D.state device.old) memory.old }
-    requires closed { memory.old.chunk.names ≡ [] }
     ensures done { OnOk result (WritesChunks (D.state device.old) (D.state device.new)
         memory.old memory.new) }
     ensures left { OnOk result ((data_count memory.new.dirty < CHUNK_BLOCKS)

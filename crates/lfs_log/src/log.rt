@@ -1,20 +1,16 @@
 //! The log of a volume, over its device.
-ghost use Rattle.std.specs.Prelude.{[], None, ◌≡◌, ◌≢◌, ◌⊎◌, ◌<◌, ◌≤◌, ◌+◌, ◌-◌, ◌*◌, ◌^◌, true, false, length, IfSome, IfNone, IfOk, IfErr, OnOk, OnErr, IsErrOf, MatchResult, IsTrue, IsFalse};
+ghost use Rattle.std.specs.Prelude.{None, ◌≡◌, ◌≢◌, ◌⊎◌, ◌<◌, ◌≤◌, ◌+◌, ◌-◌, ◌^◌, true, false, length, IfSome, IfNone, IfOk, IfErr, OnOk, OnErr, IsErrOf, MatchResult, IsTrue, IsFalse};
 ghost use Rattle.lfs_model.specs.Checkpoint.{IsVersion};
-ghost use Rattle.lfs_model.specs.Device.{Only, IsUntouched, Carries, LeavesOnly};
+ghost use Rattle.lfs_model.specs.Device.{Only};
 ghost use Rattle.lfs_model.specs.Fields.{zeros};
 ghost use Rattle.lfs_model.specs.Members.{AreApart};
 ghost use Rattle.lfs_memory.specs.segments.Table.{clean_in};
-ghost use Rattle.lfs_verify.specs.Faults.{IsOpenFault};
 ghost use Rattle.lfs_verify.specs.Loading.{HasTables, IsLoaded};
-ghost use Rattle.lfs_verify.specs.Verified.{HasLogMap, IsRefusedLog};
-ghost use Rattle.lfs_log.specs.Opening.{CountsOpened};
 ghost use Rattle.lfs_memory.specs.Preparing.{LacksRoom};
 ghost use Rattle.lfs_memory.specs.Batch.{room_for};
 ghost use Rattle.lfs_memory.specs.Memory.{IsMemory};
 ghost use Rattle.lfs_memory.specs.inodes.Data.{data_count};
 ghost use Rattle.lfs_memory.specs.inodes.MapValue.{IsMap};
-ghost use Rattle.lfs_memory.specs.segments.Early.{AreUntaken};
 
 use crate::cleaning::{SavedTables, may_clean, most_of, relocate};
 use crate::committing::save;

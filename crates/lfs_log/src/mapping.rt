@@ -1,13 +1,13 @@
 //! How blocks of the inode map go to the log.
-ghost use Rattle.std.specs.Prelude.{◌≡◌, ◌≢◌, ◌<◌, ◌≤◌, ◌+◌, ◌*◌, ℕ, None, OnOk, OnErr};
+ghost use Rattle.std.specs.Prelude.{◌≡◌, ◌≢◌, ◌<◌, ◌≤◌, ℕ, None, OnOk};
 ghost use Rattle.lfs_model.specs.Committing.{SpellsMap};
 ghost use Rattle.lfs_model.specs.Entry.{Entry};
 ghost use Rattle.lfs_model.specs.Running.{Tables};
 ghost use Rattle.lfs_model.specs.Stands.{LogMap};
 ghost use Rattle.lfs_memory.specs.inodes.Blocks.{blocks_of};
 ghost use Rattle.lfs_memory.specs.inodes.MapValue.{IsMap, IsMapOf, AreSettled, block_in};
-ghost use Rattle.lfs_log.specs.Telling.{orders_due};
-ghost use Rattle.lfs_memory.specs.Memory.{IsMemory, AreMapsOut, HasRoom, Goes, GoesUpTo, IsBlockAt, Stops, room_of};
+ghost use Rattle.lfs_log.specs.Placing.{EndsSaving, WritesNext};
+ghost use Rattle.lfs_memory.specs.Memory.{IsMemory, AreMapsOut, HasRoom, IsBlockAt, room_of};
 
 use crate::placing::seal_full;
 use lfs_device::{DeviceFault, SectorDevice};
@@ -15,7 +15,7 @@ use lfs_layout::BlockName;
 use lfs_memory::LogMemory;
 use lfs_memory::segments::write;
 use lfs_model::BlockKind;
-use lfs_model::limits::MAP_BLOCKS;
+use lfs_model::limits::{CHECKPOINT_SLOTS, MAP_BLOCKS};
 
 /// Writes a block of the inode map to the next place.
 fn write_map_block<D: SectorDevice>(
@@ -25,25 +25,21 @@ fn write_map_block<D: SectorDevice>(
     bytes: &[u8; 512],
     age: u32,
 ) -> Result<(), DeviceFault>
-    requires memory { IsMemory memory.old }
-    requires size { HasRoom (D.state device.old) memory.old }
-    requires room { 0 < room_of memory.old }
     requires index { index < MAP_BLOCKS }
     requires wanted { block_in memory.old.map index ≡ 1 }
     requires empty { (x : Entry) → blocks_of memory.old.dirty x ≡ None }
     requires spelt { (m : LogMap) (t : Tables) → IsMapOf memory.old.map m t → AreSettled m t index
         → SpellsMap m t index bytes.now }
-    ensures done { OnOk result (GoesUpTo 63 (D.state device.old) (D.state device.new) memory.old
-        memory.new 1) }
-    ensures stopped { OnErr result (Stops (D.state device.old) (D.state device.new) memory.old) }
+    requires room { 0 < room_of memory.old }
+    requires memory { IsMemory memory.old }
+    requires size { HasRoom (D.state device.old) memory.old }
+    ensures writes { WritesNext (D.state device.old) (D.state device.new) memory.old memory.new
+        result }
     ensures placed { OnOk result (IsBlockAt memory.old.map memory.new.map index
         (block_in memory.new.map index)) }
-    ensures known { OnOk result (2 ≤ block_in memory.new.map index) }
+    ensures known { OnOk result (CHECKPOINT_SLOTS ≤ block_in memory.new.map index) }
     ensures long { OnOk result (IsMap memory.new.map) }
     ensures dirty { memory.new.dirty ≡ memory.old.dirty }
-    ensures room { room_of memory.old ≤ room_of memory.new + 1 }
-    ensures tells { orders_due (D.state device.new) memory.new
-        ≤ orders_due (D.state device.old) memory.old + 1 }
 {
     let name = BlockName {
         file: 0,
@@ -56,33 +52,30 @@ fn write_map_block<D: SectorDevice>(
     Ok(())
 }
 
-/// Saves a block of the inode map that is to be written. One that would show no inode isn't stored.
-fn save_waiting_block<D: SectorDevice>(
+/// Saves a block of the inode map, if it is to be written. One that would show no inode isn't
+/// stored.
+fn save_map_block<D: SectorDevice>(
     device: &mut D,
     memory: &mut LogMemory,
     index: u32,
     age: u32,
 ) -> Result<(), DeviceFault>
+    requires index { index < MAP_BLOCKS }
+    requires empty { (x : Entry) → blocks_of memory.old.dirty x ≡ None }
+    requires room { 0 < room_of memory.old }
     requires memory { IsMemory memory.old }
     requires size { HasRoom (D.state device.old) memory.old }
-    requires room { 0 < room_of memory.old }
-    requires index { index < MAP_BLOCKS }
-    requires waits { block_in memory.old.map index ≡ 1 }
-    requires empty { (x : Entry) → blocks_of memory.old.dirty x ≡ None }
-    ensures done { OnOk result (Goes (D.state device.old) (D.state device.new) memory.old memory.new
-        1) }
-    ensures stopped { OnErr result (Stops (D.state device.old) (D.state device.new) memory.old) }
+    ensures saves { EndsSaving (D.state device.old) (D.state device.new) memory.old memory.new 1 1
+        result }
     ensures others { OnOk result ((j : ℕ) → (j ≡ index → ⊥)
         → block_in memory.new.map j ≡ block_in memory.old.map j) }
     ensures known { OnOk result (block_in memory.new.map index ≢ 1) }
     ensures long { OnOk result (IsMap memory.new.map) }
     ensures dirty { memory.new.dirty ≡ memory.old.dirty }
-    ensures room { room_of memory.old ≤ room_of memory.new + 1 }
-    ensures tells { OnOk result (orders_due (D.state device.new) memory.new
-        ≤ orders_due (D.state device.old) memory.old + 1) }
-    ensures most { orders_due (D.state device.new) memory.new
-        ≤ orders_due (D.state device.old) memory.old + 2 }
 {
+    if memory.map.block_address(index as usize) != 1 {
+        return Ok(());
+    }
     let Some(bytes) = memory.map.encode(index as usize) else {
         memory.map.set_block_address(index as usize, 0);
         return Ok(());
@@ -92,58 +85,20 @@ fn save_waiting_block<D: SectorDevice>(
     Ok(())
 }
 
-/// Saves a block of the inode map, if it is to be written.
-fn save_map_block<D: SectorDevice>(
-    device: &mut D,
-    memory: &mut LogMemory,
-    index: u32,
-    age: u32,
-) -> Result<(), DeviceFault>
-    requires memory { IsMemory memory.old }
-    requires size { HasRoom (D.state device.old) memory.old }
-    requires room { 0 < room_of memory.old }
-    requires index { index < MAP_BLOCKS }
-    requires empty { (x : Entry) → blocks_of memory.old.dirty x ≡ None }
-    ensures done { OnOk result (Goes (D.state device.old) (D.state device.new) memory.old memory.new
-        1) }
-    ensures stopped { OnErr result (Stops (D.state device.old) (D.state device.new) memory.old) }
-    ensures others { OnOk result ((j : ℕ) → (j ≡ index → ⊥)
-        → block_in memory.new.map j ≡ block_in memory.old.map j) }
-    ensures known { OnOk result (block_in memory.new.map index ≢ 1) }
-    ensures long { OnOk result (IsMap memory.new.map) }
-    ensures dirty { memory.new.dirty ≡ memory.old.dirty }
-    ensures room { room_of memory.old ≤ room_of memory.new + 1 }
-    ensures tells { OnOk result (orders_due (D.state device.new) memory.new
-        ≤ orders_due (D.state device.old) memory.old + 1) }
-    ensures most { orders_due (D.state device.new) memory.new
-        ≤ orders_due (D.state device.old) memory.old + 2 }
-{
-    if memory.map.block_address(index as usize) != 1 {
-        return Ok(());
-    }
-    save_waiting_block(device, memory, index, age)
-}
-
 /// Saves the blocks of the inode map that are to be written.
 pub fn save_map<D: SectorDevice>(
     device: &mut D,
     memory: &mut LogMemory,
     age: u32,
 ) -> Result<(), DeviceFault>
+    requires empty { (x : Entry) → blocks_of memory.old.dirty x ≡ None }
+    requires room { MAP_BLOCKS ≤ room_of memory.old }
     requires memory { IsMemory memory.old }
     requires size { HasRoom (D.state device.old) memory.old }
-    requires room { MAP_BLOCKS ≤ room_of memory.old }
-    requires empty { (x : Entry) → blocks_of memory.old.dirty x ≡ None }
-    ensures done { OnOk result (Goes (D.state device.old) (D.state device.new) memory.old memory.new
-        MAP_BLOCKS) }
-    ensures stopped { OnErr result (Stops (D.state device.old) (D.state device.new) memory.old) }
+    ensures saves { EndsSaving (D.state device.old) (D.state device.new) memory.old memory.new
+        MAP_BLOCKS MAP_BLOCKS result }
     ensures known { OnOk result (AreMapsOut memory.new.map) }
     ensures dirty { memory.new.dirty ≡ memory.old.dirty }
-    ensures room { room_of memory.old ≤ room_of memory.new + MAP_BLOCKS }
-    ensures tells { OnOk result (orders_due (D.state device.new) memory.new
-        ≤ orders_due (D.state device.old) memory.old + MAP_BLOCKS) }
-    ensures most { orders_due (D.state device.new) memory.new
-        ≤ orders_due (D.state device.old) memory.old + MAP_BLOCKS + 1 }
 {
     for index in 0..MAP_BLOCKS {
         save_map_block(device, memory, index, age)?;

@@ -1,26 +1,27 @@
 //! How blocks of files and of the inode map go to the log.
-ghost use Rattle.std.specs.Prelude.{◌≡◌, ◌≢◌, ◌<◌, ◌≤◌, ◌+◌, ◌*◌, [], true, length, None, OnOk, OnErr};
+ghost use Rattle.std.specs.Prelude.{◌≡◌, ◌<◌, ◌≤◌, ◌+◌, [], true, length, None, OnOk, OnErr};
 ghost use Rattle.lfs_model.specs.Entry.{Entry};
 ghost use Rattle.lfs_model.specs.Running.{IsLowest};
 ghost use Rattle.lfs_memory.specs.inodes.Blocks.{blocks_of};
 ghost use Rattle.lfs_memory.specs.inodes.Data.{data_count, is_data_code};
 ghost use Rattle.lfs_memory.specs.inodes.Key.{entry_of};
-ghost use Rattle.lfs_memory.specs.Memory.{IsMemory, IsMemoryUpTo, HasRoom, Goes, GoesUpTo, Stops, room_of};
+ghost use Rattle.lfs_memory.specs.Memory.{IsMemory, IsMemoryUpTo, HasRoom, Goes, Stops, room_of};
 ghost use Rattle.lfs_memory.specs.segments.Chunk.{room_in};
 ghost use Rattle.lfs_memory.specs.segments.Early.{early_in};
 ghost use Rattle.lfs_log.specs.Early.{GoesEarly, IsBegunFresh, IsFresh};
 ghost use Rattle.lfs_log.specs.Keeping.{OnlyChunk};
-ghost use Rattle.lfs_log.specs.Telling.{orders_due};
+ghost use Rattle.lfs_log.specs.Placing.{EndsSaving, WritesNext};
 
 use lfs_device::{DeviceFault, SectorDevice};
 use lfs_memory::LogMemory;
 use lfs_memory::inodes::BlockKey;
 use lfs_memory::segments::write;
+use lfs_model::limits::CHUNK_BLOCKS;
 
 /// Writes the summary of the chunk, which ends it.
 pub fn seal<D: SectorDevice>(device: &mut D, memory: &mut LogMemory) -> Result<(), DeviceFault>
-    requires memory { IsMemoryUpTo 63 memory.old }
     requires begun { 0 < length memory.old.chunk.names }
+    requires memory { IsMemoryUpTo CHUNK_BLOCKS memory.old }
     requires size { HasRoom (D.state device.old) memory.old }
     ensures done { OnOk result (Goes (D.state device.old) (D.state device.new) memory.old memory.new
         (room_in memory.old.chunk)) }
@@ -37,17 +38,11 @@ pub fn seal<D: SectorDevice>(device: &mut D, memory: &mut LogMemory) -> Result<(
 
 /// Writes the summary of a chunk that is full.
 pub fn seal_full<D: SectorDevice>(device: &mut D, memory: &mut LogMemory) -> Result<(), DeviceFault>
-    requires memory { IsMemoryUpTo 63 memory.old }
+    requires memory { IsMemoryUpTo CHUNK_BLOCKS memory.old }
     requires size { HasRoom (D.state device.old) memory.old }
-    ensures done { OnOk result (Goes (D.state device.old) (D.state device.new) memory.old memory.new
-        0) }
-    ensures stopped { OnErr result (Stops (D.state device.old) (D.state device.new) memory.old) }
+    ensures saves { EndsSaving (D.state device.old) (D.state device.new) memory.old memory.new 0 0
+        result }
     ensures only { OnlyChunk memory.old memory.new }
-    ensures room { room_of memory.old ≤ room_of memory.new }
-    ensures tells { OnOk result (orders_due (D.state device.new) memory.new
-        ≤ orders_due (D.state device.old) memory.old) }
-    ensures most { orders_due (D.state device.new) memory.new
-        ≤ orders_due (D.state device.old) memory.old + 1 }
     ensures fresh { OnOk result (IsBegunFresh memory.old → IsFresh memory.new) }
 {
     if memory.chunk.is_full() {
@@ -64,19 +59,15 @@ fn write_block<D: SectorDevice>(
     key: BlockKey,
     age: u32,
 ) -> Result<(), DeviceFault>
+    requires lowest { IsLowest (blocks_of memory.old.dirty) (entry_of key) }
+    requires room { 0 < room_of memory.old }
     requires memory { IsMemory memory.old }
     requires size { HasRoom (D.state device.old) memory.old }
-    requires room { 0 < room_of memory.old }
-    requires lowest { IsLowest (blocks_of memory.old.dirty) (entry_of key) }
-    ensures done { OnOk result (GoesUpTo 63 (D.state device.old) (D.state device.new) memory.old
-        memory.new 1) }
-    ensures stopped { OnErr result (Stops (D.state device.old) (D.state device.new) memory.old) }
+    ensures writes { WritesNext (D.state device.old) (D.state device.new) memory.old memory.new
+        result }
     ensures fewer { OnOk result (length memory.new.dirty.blocks + 1
         ≡ length memory.old.dirty.blocks) }
     ensures capacity { OnOk result (memory.new.dirty.capacity ≡ memory.old.dirty.capacity) }
-    ensures room { room_of memory.old ≤ room_of memory.new + 1 }
-    ensures tells { orders_due (D.state device.new) memory.new
-        ≤ orders_due (D.state device.old) memory.old + 1 }
     ensures fresh { OnOk result (IsFresh memory.old → IsBegunFresh memory.new) }
     ensures early { OnOk result (IsFresh memory.old
         → early_in memory.new.usage.segments ≡ early_in memory.old.usage.segments + 1) }
@@ -100,21 +91,15 @@ pub fn save_block<D: SectorDevice>(
     key: BlockKey,
     age: u32,
 ) -> Result<(), DeviceFault>
-    requires memory { IsMemory memory.old }
-    requires size { HasRoom (D.state device.old) memory.old }
     requires room { 0 < room_of memory.old }
     requires lowest { IsLowest (blocks_of memory.old.dirty) (entry_of key) }
-    ensures done { OnOk result (Goes (D.state device.old) (D.state device.new) memory.old memory.new
-        1) }
-    ensures stopped { OnErr result (Stops (D.state device.old) (D.state device.new) memory.old) }
+    requires memory { IsMemory memory.old }
+    requires size { HasRoom (D.state device.old) memory.old }
+    ensures saves { EndsSaving (D.state device.old) (D.state device.new) memory.old memory.new 1 1
+        result }
     ensures fewer { OnOk result (length memory.new.dirty.blocks + 1
         ≡ length memory.old.dirty.blocks) }
     ensures capacity { OnOk result (memory.new.dirty.capacity ≡ memory.old.dirty.capacity) }
-    ensures room { room_of memory.old ≤ room_of memory.new + 1 }
-    ensures tells { OnOk result (orders_due (D.state device.new) memory.new
-        ≤ orders_due (D.state device.old) memory.old + 1) }
-    ensures most { orders_due (D.state device.new) memory.new
-        ≤ orders_due (D.state device.old) memory.old + 2 }
     ensures early { OnOk result (IsFresh memory.old → GoesEarly memory.old memory.new 1) }
     ensures data_blocks { OnOk result (is_data_code key.code ≡ true
         → data_count memory.new.dirty + 1 ≡ data_count memory.old.dirty) }
@@ -130,20 +115,14 @@ pub fn save_files<D: SectorDevice>(
     memory: &mut LogMemory,
     age: u32,
 ) -> Result<(), DeviceFault>
+    requires room { length memory.old.dirty.blocks ≤ room_of memory.old }
     requires memory { IsMemory memory.old }
     requires size { HasRoom (D.state device.old) memory.old }
-    requires room { length memory.old.dirty.blocks ≤ room_of memory.old }
-    ensures done { OnOk result (Goes (D.state device.old) (D.state device.new) memory.old memory.new
-        (length memory.old.dirty.blocks)) }
-    ensures stopped { OnErr result (Stops (D.state device.old) (D.state device.new) memory.old) }
+    ensures saves { EndsSaving (D.state device.old) (D.state device.new) memory.old memory.new
+        (length memory.old.dirty.blocks) (length memory.old.dirty.blocks) result }
     ensures empty { OnOk result ((x : Entry) → blocks_of memory.new.dirty x ≡ None) }
     ensures blocks { OnOk result (memory.new.dirty.blocks ≡ []) }
     ensures capacity { OnOk result (memory.new.dirty.capacity ≡ memory.old.dirty.capacity) }
-    ensures room { room_of memory.old ≤ room_of memory.new + length memory.old.dirty.blocks }
-    ensures tells { OnOk result (orders_due (D.state device.new) memory.new
-        ≤ orders_due (D.state device.old) memory.old + length memory.old.dirty.blocks) }
-    ensures most { orders_due (D.state device.new) memory.new
-        ≤ orders_due (D.state device.old) memory.old + length memory.old.dirty.blocks + 1 }
 {
     while let Some(key) = memory.dirty.next() {
         save_block(device, memory, key, age)?;

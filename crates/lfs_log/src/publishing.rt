@@ -69,10 +69,10 @@ pub fn publish<D: SectorDevice>(
     version: LayoutVersion,
     number: u64,
 ) -> Result<(), DeviceFault>
-    requires memory { IsMemory memory.old }
-    requires size { HasRoom (D.state device.old) memory.old }
     requires number { number < 2 ^ 64 - 1 }
     requires out { IsAllOut memory.old }
+    requires memory { IsMemory memory.old }
+    requires size { HasRoom (D.state device.old) memory.old }
     ensures done { OnOk result (Publishes (D.state device.old) (D.state device.new) memory.old
         memory.new (number_of version) number) }
     ensures stopped { OnErr result (PublishFails (D.state device.old) (D.state device.new)

@@ -1,17 +1,18 @@
 //! The blocks of segments come into memory, so that the next commit writes them elsewhere.
-ghost use Rattle.std.specs.Prelude.{◌≡◌, ◌<◌, ◌≤◌, ◌⊎◌, ◌+◌, ◌*◌, [], true, false, None, length, OnOk, OnErr, IfOk, IsErrOf, IsTrue, IsFalse};
+ghost use Rattle.std.specs.Prelude.{◌≡◌, ◌<◌, ◌≤◌, ◌⊎◌, ◌+◌, ◌*◌, [], true, false, None, length, OnOk, OnErr, IsErrOf};
 ghost use Rattle.lfs_model.specs.Content.{block};
 ghost use Rattle.lfs_model.specs.Device.{cell_at};
 ghost use Rattle.lfs_model.specs.Entry as entry;
 ghost use Rattle.lfs_model.specs.Memory.{parent};
+ghost use Rattle.lfs_model.specs.Reach.{segment_start};
 ghost use Rattle.lfs_model.specs.Summary.{FitsSummary, IsPlaced};
 ghost use Rattle.lfs_memory.specs.Lifting.{IsCountedAbove, IsInMemory, IsMapLost, MapLifts};
 ghost use Rattle.lfs_memory.specs.Memory.{HasRoom, IsMemory};
-ghost use Rattle.lfs_memory.specs.Present.{FailsFromDevice, Looks};
+ghost use Rattle.lfs_memory.specs.Present.{Looks};
 ghost use Rattle.lfs_memory.specs.inodes.Key.{entry_of};
 ghost use Rattle.lfs_memory.specs.inodes.MapValue.{block_in};
 ghost use Rattle.lfs_memory.specs.segments.Table.{address_of};
-ghost use Rattle.lfs_log.specs.Relocating.{BringsOne, BringsWay, CameFrom, HasLeft, IsBetween, IsInOrder, IsNoBlock, IsUsageLost, LacksOnWay, LeavesNames, Misses, Relocates, UsageLeaves, UsageLeavesIn, Vacates};
+ghost use Rattle.lfs_log.specs.Relocating.{BringsOne, BringsWay, EndsBringing, EndsRelocating, HasLeft, IsBetween, IsInOrder, IsInSegment, IsUsageLost, LacksOnWay, LeavesNames, UsageLeaves, UsageLeavesIn, Vacates};
 
 use lfs_cache::CachedDevice;
 use lfs_device::{DeviceFault, SectorDevice};
@@ -43,20 +44,12 @@ fn bring_inode<D: SectorDevice>(
     memory: &mut LogMemory,
     key: BlockKey,
 ) -> Result<bool, LiftFault>
-    requires memory { IsMemory memory.old }
     requires top { parent (entry_of key) ≡ entry_of key }
-    ensures relocates { Relocates (D.state device.old) (D.state device.new) memory.old memory.new }
+    requires memory { IsMemory memory.old }
+    ensures brings { EndsBringing (D.state device.old) (D.state device.new) memory.old memory.new
+        (entry_of key) result }
     ensures came { BringsOne memory.old memory.new (entry_of key) }
     ensures lacks { IsErrOf result LiftFault.Full → IsInMemory memory.new (entry_of key) → ⊥ }
-    ensures inside { IfOk result (λ found. IsTrue found → IsInMemory memory.new (entry_of key)) }
-    ensures none { IfOk result (λ found. IsFalse found
-        → IsNoBlock (D.state device.new) memory.new (entry_of key)) }
-    ensures full { IsErrOf result LiftFault.Full → memory.new.dirty.capacity.limit
-        ≤ length memory.new.dirty.blocks }
-    ensures failed { IsErrOf result LiftFault.Device
-        → FailsFromDevice (D.state device.old) (D.state device.new) memory.old }
-    ensures no_failure { OnOk result ((D.state device.new).failures
-        ≡ (D.state device.old).failures) }
 {
     if has_block(memory, key) {
         return Ok(true);
@@ -83,21 +76,13 @@ fn bring_child<D: SectorDevice>(
     memory: &mut LogMemory,
     key: BlockKey,
 ) -> Result<bool, LiftFault>
-    requires memory { IsMemory memory.old }
     requires below { parent (entry_of key) ≡ entry_of key → ⊥ }
     requires above { IsInMemory memory.old (parent (entry_of key)) }
-    ensures relocates { Relocates (D.state device.old) (D.state device.new) memory.old memory.new }
+    requires memory { IsMemory memory.old }
+    ensures brings { EndsBringing (D.state device.old) (D.state device.new) memory.old memory.new
+        (entry_of key) result }
     ensures came { BringsOne memory.old memory.new (entry_of key) }
     ensures lacks { IsErrOf result LiftFault.Full → IsInMemory memory.new (entry_of key) → ⊥ }
-    ensures inside { IfOk result (λ found. IsTrue found → IsInMemory memory.new (entry_of key)) }
-    ensures none { IfOk result (λ found. IsFalse found
-        → IsNoBlock (D.state device.new) memory.new (entry_of key)) }
-    ensures full { IsErrOf result LiftFault.Full → memory.new.dirty.capacity.limit
-        ≤ length memory.new.dirty.blocks }
-    ensures failed { IsErrOf result LiftFault.Device
-        → FailsFromDevice (D.state device.old) (D.state device.new) memory.old }
-    ensures no_failure { OnOk result ((D.state device.new).failures
-        ≡ (D.state device.old).failures) }
 {
     if has_block(memory, key) {
         return Ok(true);
@@ -125,18 +110,10 @@ fn bring_block<D: SectorDevice>(
     key: BlockKey,
 ) -> Result<bool, LiftFault>
     requires { IsMemory memory.old }
-    ensures relocates { Relocates (D.state device.old) (D.state device.new) memory.old memory.new }
+    ensures brings { EndsBringing (D.state device.old) (D.state device.new) memory.old memory.new
+        (entry_of key) result }
     ensures came { BringsWay memory.old memory.new (entry_of key) }
     ensures lacks { IsErrOf result LiftFault.Full → LacksOnWay memory.new (entry_of key) }
-    ensures inside { IfOk result (λ found. IsTrue found → IsInMemory memory.new (entry_of key)) }
-    ensures none { IfOk result (λ found. IsFalse found
-        → IsNoBlock (D.state device.new) memory.new (entry_of key)) }
-    ensures full { IsErrOf result LiftFault.Full → memory.new.dirty.capacity.limit
-        ≤ length memory.new.dirty.blocks }
-    ensures failed { IsErrOf result LiftFault.Device
-        → FailsFromDevice (D.state device.old) (D.state device.new) memory.old }
-    ensures no_failure { OnOk result ((D.state device.new).failures
-        ≡ (D.state device.old).failures) }
 {
     let Some(above) = key.parent() else {
         return bring_inode(device, memory, key);
@@ -160,22 +137,12 @@ fn relocate_file_block<D: SectorDevice>(
     key: BlockKey,
     address: u32,
 ) -> Result<(), LiftFault>
-    requires memory { IsMemory memory.old }
     requires above { CHECKPOINT_SLOTS ≤ address }
-    ensures relocates { Relocates (D.state device.old) (D.state device.new) memory.old memory.new }
+    requires memory { IsMemory memory.old }
+    ensures relocates { EndsRelocating (D.state device.old) (D.state device.new) memory.old
+        memory.new (IsBetween address (address + 1)) result }
     ensures left { OnOk result (HasLeft (D.state device.old) (D.state device.new) memory.old
         memory.new (entry_of key) address) }
-    ensures came { CameFrom (D.state device.old) (D.state device.new) memory.old memory.new
-        (IsBetween address (address + 1)) }
-    ensures misses { IsErrOf result LiftFault.Full
-        → Misses (D.state device.old) (D.state device.new) memory.old memory.new
-        (IsBetween address (address + 1)) }
-    ensures full { IsErrOf result LiftFault.Full → memory.new.dirty.capacity.limit
-        ≤ length memory.new.dirty.blocks }
-    ensures failed { IsErrOf result LiftFault.Device
-        → FailsFromDevice (D.state device.old) (D.state device.new) memory.old }
-    ensures no_failure { OnOk result ((D.state device.new).failures
-        ≡ (D.state device.old).failures) }
 {
     let there = match locate(device, memory, key) {
         Ok(there) => there,
@@ -280,23 +247,13 @@ fn relocate_block<D: SectorDevice>(
     name: BlockName,
     address: u32,
 ) -> Result<(), LiftFault>
-    requires memory { IsMemory memory.old }
     requires placed { IsPlaced name.kind name.file name.index }
     requires above { CHECKPOINT_SLOTS ≤ address }
-    ensures relocates { Relocates (D.state device.old) (D.state device.new) memory.old memory.new }
+    requires memory { IsMemory memory.old }
+    ensures relocates { EndsRelocating (D.state device.old) (D.state device.new) memory.old
+        memory.new (IsBetween address (address + 1)) result }
     ensures left { OnOk result (HasLeft (D.state device.old) (D.state device.new) memory.old
         memory.new (entry.entry_of name) address) }
-    ensures came { CameFrom (D.state device.old) (D.state device.new) memory.old memory.new
-        (IsBetween address (address + 1)) }
-    ensures misses { IsErrOf result LiftFault.Full
-        → Misses (D.state device.old) (D.state device.new) memory.old memory.new
-        (IsBetween address (address + 1)) }
-    ensures full { IsErrOf result LiftFault.Full → memory.new.dirty.capacity.limit
-        ≤ length memory.new.dirty.blocks }
-    ensures failed { IsErrOf result LiftFault.Device
-        → FailsFromDevice (D.state device.old) (D.state device.new) memory.old }
-    ensures no_failure { OnOk result ((D.state device.new).failures
-        ≡ (D.state device.old).failures) }
 {
     match name.kind {
         BlockKind::Map => match relocate_map(memory, name.index, address) {
@@ -322,30 +279,17 @@ fn relocate_chunk<D: SectorDevice>(
     names: &SummaryView<'_>,
     first: u32,
 ) -> Result<(), LiftFault>
-    requires memory { IsMemory memory.old }
     requires fits { FitsSummary names.now }
     requires above { CHECKPOINT_SLOTS ≤ first }
     requires few { first ≤ CHECKPOINT_SLOTS + SEGMENT_SECTORS * (MOST_SEGMENTS + 1) }
-    ensures relocates { Relocates (D.state device.old) (D.state device.new) memory.old memory.new }
+    requires memory { IsMemory memory.old }
+    ensures relocates { EndsRelocating (D.state device.old) (D.state device.new) memory.old
+        memory.new (IsBetween first (first + length names.now)) result }
     ensures left { OnOk result (LeavesNames (D.state device.old) (D.state device.new) memory.old
         memory.new names.now first (length names.now)) }
-    ensures came { CameFrom (D.state device.old) (D.state device.new) memory.old memory.new
-        (IsBetween first (first + length names.now)) }
-    ensures misses { IsErrOf result LiftFault.Full
-        → Misses (D.state device.old) (D.state device.new) memory.old memory.new
-        (IsBetween first (first + length names.now)) }
-    ensures full { IsErrOf result LiftFault.Full → memory.new.dirty.capacity.limit
-        ≤ length memory.new.dirty.blocks }
-    ensures failed { IsErrOf result LiftFault.Device
-        → FailsFromDevice (D.state device.old) (D.state device.new) memory.old }
-    ensures no_failure { OnOk result ((D.state device.new).failures
-        ≡ (D.state device.old).failures) }
 {
     for place in 0..names.len() {
-        match relocate_block(device, memory, names.get(place), first + place as u32) {
-            Ok(()) => {}
-            Err(fault) => return Err(fault),
-        }
+        relocate_block(device, memory, names.get(place), first + place as u32)?;
     }
     Ok(())
 }
@@ -387,27 +331,17 @@ pub fn relocate_segment<D: SectorDevice>(
     memory: &mut LogMemory,
     segment: u32,
 ) -> Result<(), LiftFault>
+    requires inside { segment < length memory.old.usage.segments }
+    requires closed { memory.old.chunk.names ≡ [] }
     requires memory { IsMemory memory.old }
     requires size { HasRoom (D.state device.old) memory.old }
-    requires closed { memory.old.chunk.names ≡ [] }
-    requires inside { segment < length memory.old.usage.segments }
-    ensures relocates { Relocates (D.state device.old) (D.state device.new) memory.old memory.new }
+    ensures relocates { EndsRelocating (D.state device.old) (D.state device.new) memory.old
+        memory.new (IsInSegment segment) result }
     ensures vacates { OnOk result (Vacates (D.state device.old) (D.state device.new) memory.old
-        memory.new (2 + 64 * segment) (66 + 64 * segment)) }
-    ensures came { CameFrom (D.state device.old) (D.state device.new) memory.old memory.new
-        (IsBetween (2 + 64 * segment) (66 + 64 * segment)) }
-    ensures misses { IsErrOf result LiftFault.Full
-        → Misses (D.state device.old) (D.state device.new) memory.old memory.new
-        (IsBetween (2 + 64 * segment) (66 + 64 * segment)) }
-    ensures full { IsErrOf result LiftFault.Full → memory.new.dirty.capacity.limit
-        ≤ length memory.new.dirty.blocks }
-    ensures failed { IsErrOf result LiftFault.Device
-        → FailsFromDevice (D.state device.old) (D.state device.new) memory.old }
-    ensures no_failure { OnOk result ((D.state device.new).failures
-        ≡ (D.state device.old).failures) }
+        memory.new (segment_start segment) (segment_start (segment + 1))) }
 {
     let mut sector = [0; 512];
-    let first = 2 + 64 * segment;
+    let first = CHECKPOINT_SLOTS + SEGMENT_SECTORS * segment;
     let used = u32::from(memory.usage.state(segment).used);
     let mut at = 0;
     while at < used {
@@ -422,10 +356,7 @@ pub fn relocate_segment<D: SectorDevice>(
         if count >= used - at {
             return Err(LiftFault::Device);
         }
-        match relocate_chunk(device, memory, &names, first + at + 1) {
-            Ok(()) => {}
-            Err(fault) => return Err(fault),
-        }
+        relocate_chunk(device, memory, &names, first + at + 1)?;
         at += 1 + count;
     }
     Ok(())

@@ -3,9 +3,9 @@
 ghost use Rattle.std.specs.Prelude.{◌≡◌, ◌≢◌, ◌<◌, ◌≤◌, ◌+◌, ◌/◌, ℕ, true, false, length, IfSome, IfNone, OnOk, OnErr};
 ghost use Rattle.lfs_memory.specs.segments.Chunk.{due_in};
 ghost use Rattle.lfs_memory.specs.segments.Table.{address_of, stale_of, used_of, clean_in};
-ghost use Rattle.lfs_memory.specs.Memory.{IsMemory, IsMemoryUpTo, HasRoom, Goes, Stops, room_of};
+ghost use Rattle.lfs_memory.specs.Memory.{IsMemory, HasRoom, Goes, Stops, room_of};
 ghost use Rattle.lfs_log.specs.Keeping.{OnlyPlaces, OnlyUsage};
-ghost use Rattle.lfs_log.specs.Telling.{orders_due};
+ghost use Rattle.lfs_log.specs.Placing.{EndsSaving};
 ghost use Rattle.lfs_log.specs.Settling.{IsNowhere, Leaves, Resettles, IsResettled, IsAnew, AreAnew, IsFilled, blocks_in};
 
 use crate::placing::seal_full;
@@ -15,7 +15,7 @@ use lfs_memory::LogMemory;
 use lfs_memory::inodes::IN_MEMORY;
 use lfs_memory::segments::{Usage, write};
 use lfs_model::BlockKind;
-use lfs_model::limits::USAGE_BLOCKS;
+use lfs_model::limits::{BLOCK_SEGMENTS, CHECKPOINT_SLOTS, USAGE_BLOCKS};
 
 /// The usage block lives no more at its address, which it may have left before. Only under a device
 /// that broke its word it doesn't live there.
@@ -31,7 +31,7 @@ fn leave(usage: &mut Usage, index: u32) -> Result<(), DeviceFault>
     if address == IN_MEMORY {
         return Ok(());
     }
-    if address < 2 {
+    if address < CHECKPOINT_SLOTS {
         return Err(DeviceFault);
     }
     let segment = segment_of(address);
@@ -47,9 +47,9 @@ fn leave(usage: &mut Usage, index: u32) -> Result<(), DeviceFault>
 
 /// The usage block leaves its address and gets the next place.
 fn resettle(memory: &mut LogMemory, index: u32, age: u32) -> Result<(), DeviceFault>
-    requires memory { IsMemory memory.old }
-    requires room { 0 < room_of memory.old }
     requires index { index < blocks_in memory.old.usage }
+    requires room { 0 < room_of memory.old }
+    requires memory { IsMemory memory.old }
     ensures done { OnOk result (Resettles memory.old memory.new index age) }
     ensures nowhere { OnErr result (IsNowhere memory.old.usage index) }
     ensures only { OnlyUsage memory.old memory.new }
@@ -81,21 +81,15 @@ pub fn settle_block<D: SectorDevice>(
     index: u32,
     age: u32,
 ) -> Result<(), DeviceFault>
-    requires memory { IsMemory memory.old }
-    requires size { HasRoom (D.state device.old) memory.old }
-    requires room { 0 < room_of memory.old }
     requires index { index < blocks_in memory.old.usage }
     requires stale { stale_of memory.old.usage index ≡ true }
-    ensures done { OnOk result (Goes (D.state device.old) (D.state device.new) memory.old memory.new
-        1) }
-    ensures stopped { OnErr result (Stops (D.state device.old) (D.state device.new) memory.old) }
+    requires room { 0 < room_of memory.old }
+    requires memory { IsMemory memory.old }
+    requires size { HasRoom (D.state device.old) memory.old }
+    ensures saves { EndsSaving (D.state device.old) (D.state device.new) memory.old memory.new 1 0
+        result }
     ensures moved { OnOk result (IsResettled memory.old.usage memory.new.usage index) }
     ensures only { OnlyUsage memory.old memory.new }
-    ensures room { room_of memory.old ≤ room_of memory.new + 1 }
-    ensures tells { OnOk result (orders_due (D.state device.new) memory.new
-        ≤ orders_due (D.state device.old) memory.old) }
-    ensures most { orders_due (D.state device.new) memory.new
-        ≤ orders_due (D.state device.old) memory.old + 1 }
 {
     resettle(memory, index, age)?;
     seal_full(device, memory)
@@ -108,7 +102,7 @@ fn is_anew(usage: &Usage, index: u32) -> bool
     ensures no { result ≢ true → IsAnew usage.now index → ⊥ }
 {
     let address = usage.block(index).address;
-    if address < 2 {
+    if address < CHECKPOINT_SLOTS {
         return false;
     }
     let segment = segment_of(address);
@@ -118,13 +112,21 @@ fn is_anew(usage: &Usage, index: u32) -> bool
     u32::from(usage.state(segment).kept) <= place_in_segment(address)
 }
 
+/// How many usage blocks there are.
+fn block_count(usage: &Usage) -> u32
+    ensures count { result ≡ blocks_in usage.now }
+    ensures most { result ≤ USAGE_BLOCKS }
+{
+    (usage.segments() + (BLOCK_SEGMENTS - 1)) / BLOCK_SEGMENTS
+}
+
 /// The first usage block that changed and doesn't stand at such a place.
 fn next_out(usage: &Usage) -> Option<u32>
     ensures some { IfSome result (λ j. (j < blocks_in usage.now) × (stale_of usage.now j ≡ true)
         × (IsAnew usage.now j → ⊥)) }
     ensures none { IfNone result (AreAnew usage.now) }
 {
-    for index in 0..(usage.segments() + 63) / 64 {
+    for index in 0..block_count(usage) {
         if usage.block(index).stale && !is_anew(usage, index) {
             return Some(index);
         }
@@ -143,19 +145,13 @@ pub fn settle_usage<D: SectorDevice>(
     memory: &mut LogMemory,
     age: u32,
 ) -> Result<(), DeviceFault>
+    requires room { USAGE_BLOCKS ≤ room_of memory.old }
     requires memory { IsMemory memory.old }
     requires size { HasRoom (D.state device.old) memory.old }
-    requires room { USAGE_BLOCKS ≤ room_of memory.old }
-    ensures done { OnOk result (Goes (D.state device.old) (D.state device.new) memory.old memory.new
-        USAGE_BLOCKS) }
-    ensures stopped { OnErr result (Stops (D.state device.old) (D.state device.new) memory.old) }
+    ensures saves { EndsSaving (D.state device.old) (D.state device.new) memory.old memory.new
+        USAGE_BLOCKS 0 result }
     ensures anew { OnOk result (AreAnew memory.new.usage) }
     ensures only { OnlyUsage memory.old memory.new }
-    ensures room { room_of memory.old ≤ room_of memory.new + USAGE_BLOCKS }
-    ensures tells { OnOk result (orders_due (D.state device.new) memory.new
-        ≤ orders_due (D.state device.old) memory.old) }
-    ensures most { orders_due (D.state device.new) memory.new
-        ≤ orders_due (D.state device.old) memory.old + 1 }
 {
     for round in 0..USAGE_BLOCKS {
         let Some(index) = next_out(&memory.usage) else {
@@ -172,10 +168,10 @@ fn fill_block<D: SectorDevice>(
     memory: &mut LogMemory,
     index: u32,
 ) -> Result<(), DeviceFault>
+    requires anew { AreAnew memory.old.usage }
+    requires index { index < blocks_in memory.old.usage }
     requires memory { IsMemory memory.old }
     requires size { HasRoom (D.state device.old) memory.old }
-    requires index { index < blocks_in memory.old.usage }
-    requires anew { AreAnew memory.old.usage }
     ensures done { OnOk result (Goes (D.state device.old) (D.state device.new) memory.old memory.new
         0) }
     ensures stopped { OnErr result (Stops (D.state device.old) (D.state device.new) memory.old) }
@@ -202,9 +198,9 @@ pub fn fill_usage<D: SectorDevice>(
     device: &mut D,
     memory: &mut LogMemory,
 ) -> Result<(), DeviceFault>
+    requires anew { AreAnew memory.old.usage }
     requires memory { IsMemory memory.old }
     requires size { HasRoom (D.state device.old) memory.old }
-    requires anew { AreAnew memory.old.usage }
     ensures done { OnOk result (Goes (D.state device.old) (D.state device.new) memory.old memory.new
         0) }
     ensures stopped { OnErr result (Stops (D.state device.old) (D.state device.new) memory.old) }
@@ -213,9 +209,10 @@ pub fn fill_usage<D: SectorDevice>(
     ensures address { OnOk result ((j : ℕ)
         → address_of memory.new.usage j ≡ address_of memory.old.usage j) }
     ensures only { OnlyPlaces memory.old memory.new }
-    ensures told { length (D.state device.new).told ≤ length (D.state device.old).told + USAGE_BLOCKS }
+    ensures told { length (D.state device.new).told
+        ≤ length (D.state device.old).told + USAGE_BLOCKS }
 {
-    for index in 0..(memory.usage.segments() + 63) / 64 {
+    for index in 0..block_count(&memory.usage) {
         fill_block(device, memory, index)?;
     }
     Ok(())

@@ -8,11 +8,14 @@ returns-in-Ok-clause-done g c =
     (g.D.SectorDevice.state c.empty_segments.new.device)
     c.empty_segments.new.memory c.args.victims.now c.in-Ok.ensures.done
 
-pub returns-in-Err-clause-failed : goal.returns-in-Err-clause-failed
-returns-in-Err-clause-failed g c is =
-    limited_excused c.args.memory.now c.set_limit.new.self c.set_limit.ensures.blocks (g.D.SectorDevice.state c.args.device.now)
-    (g.D.SectorDevice.state c.empty_segments.new.device)
-    (c.in-Err.ensures.failed (search rules))
+pub returns-in-Err-clause-reads : goal.returns-in-Err-clause-reads
+returns-in-Err-clause-reads g c = record {
+  looks = c.in-Err.ensures.reads.looks;
+  failed = λ is. limited_excused c.args.memory.now c.set_limit.new.self c.set_limit.ensures.blocks
+      (g.D.SectorDevice.state c.args.device.now) (g.D.SectorDevice.state c.empty_segments.new.device)
+      (c.in-Err.ensures.reads.failed (search rules));
+  no_failure = tt;
+}
 
 pub returns-in-Err-clause-full : goal.returns-in-Err-clause-full
 returns-in-Err-clause-full g c is =

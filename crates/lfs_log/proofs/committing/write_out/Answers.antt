@@ -14,7 +14,7 @@ returns-in_err-seal_rest-clause-stopped g c =
     (Stops (g.D.SectorDevice.state c.args.device.now) (g.D.SectorDevice.state c.seal_rest.new.device) c.args.memory.now)
     (stops_then 62 (g.D.SectorDevice.state c.args.device.now) (g.D.SectorDevice.state c.place_all.new.device)
     (g.D.SectorDevice.state c.seal_rest.new.device)
-    c.args.memory.now c.place_all.new.memory _ c.in_ok-place_all.ensures.done c.in_err-seal_rest.ensures.stopped)
+    c.args.memory.now c.place_all.new.memory _ c.in_ok-place_all.ensures.saves.done.goes c.in_err-seal_rest.ensures.stopped)
 
 -- src/committing.rt:76:5
 pub returns-in_err-fill_usage-clause-stopped : goal.returns-in_err-fill_usage-clause-stopped
@@ -23,7 +23,7 @@ returns-in_err-fill_usage-clause-stopped g c =
     (Stops (g.D.SectorDevice.state c.args.device.now) (g.D.SectorDevice.state c.fill_usage.new.device) c.args.memory.now)
     (stops_then 62 (g.D.SectorDevice.state c.args.device.now) (g.D.SectorDevice.state c.place_all.new.device)
     (g.D.SectorDevice.state c.fill_usage.new.device)
-    c.args.memory.now c.place_all.new.memory _ c.in_ok-place_all.ensures.done
+    c.args.memory.now c.place_all.new.memory _ c.in_ok-place_all.ensures.saves.done.goes
     (stops_then 62 (g.D.SectorDevice.state c.place_all.new.device) (g.D.SectorDevice.state c.seal_rest.new.device)
     (g.D.SectorDevice.state c.fill_usage.new.device)
     c.place_all.new.memory c.seal_rest.new.memory _ c.in_ok-seal_rest.ensures.done c.in_err-fill_usage.ensures.stopped))
@@ -40,7 +40,7 @@ returns-clause-done g c =
     (goes_then 62 62 (g.D.SectorDevice.state c.args.device.now) (g.D.SectorDevice.state c.place_all.new.device)
     (g.D.SectorDevice.state c.seal_rest.new.device)
     c.args.memory.now c.place_all.new.memory c.seal_rest.new.memory
-    (length c.args.memory.now.dirty.blocks + 48) 62 c.in_ok-place_all.ensures.done c.in_ok-seal_rest.ensures.done)
+    (length c.args.memory.now.dirty.blocks + 48) 62 c.in_ok-place_all.ensures.saves.done.goes c.in_ok-seal_rest.ensures.done)
     c.in_ok-fill_usage.ensures.done)
 
 -- src/committing.rt:76:5
@@ -50,7 +50,7 @@ place_all-requires-clause-room g c = room_there c.args.memory.now (length c.args
 pub returns-clause-taken : goal.returns-clause-taken
 returns-clause-taken g c =
     let taken = segments_taken c.args.memory.now c.place_all.new.memory (length c.args.memory.now.dirty.blocks) c.requires.closed
-    c.in_ok-place_all.ensures.done.memory c.in_ok-place_all.ensures.done.room in
+    c.in_ok-place_all.ensures.saves.done.goes.memory c.in_ok-place_all.ensures.saves.done.goes.room in
     let same =
     ap clean_in (c.in_ok-fill_usage.ensures.only.segments ∙ ap (λ (u : UsageTable). u.segments) c.seal_rest.ensures.only.usage) in
     omega (arith, taken, same)

@@ -1,65 +1,82 @@
-use Rattle.std.proofs.Common.{◌+◌, ◌∙◌, length, ap, arith}
+use Rattle.std.proofs.Common.{rules, ◌≡◌, ◌≤◌, ◌∙◌, true, length, refl, ap, arith}
 use Rattle.lfs_memory.specs.segments.Table.{UsageTable, clean_in}
 use Rattle.lfs_memory.specs.inodes.Blocks.{TableValue}
-use Rattle.lfs_memory.specs.inodes.Data.{data_count}
+use Rattle.lfs_memory.specs.inodes.Data.{data_count, is_data_code}
 use Rattle.lfs_memory.specs.Memory.{Stops}
 use Rattle.lfs_memory.proofs.Going.{on_err, goes_then, stops_then}
-use Rattle.lfs_log.proofs.EarlyBlocks.{ended_fresh, ended_goes, one_segment, chunk_due, chunk_told}
+use Rattle.lfs_log.proofs.EarlyBlocks.{chunk_due, chunk_told, early_none, early_then, ended_fresh, ended_goes, one_segment}
+use Rattle.lfs_log.proofs.SavedBlocks.{saves_at_most, saves_none, saves_then, stops_behind}
 use Rattle.lfs_log.proofs.early.write_chunk.Goals as goal
 
-pub save_chunk-requires-clause-memory : goal.save_chunk-requires-clause-memory
-save_chunk-requires-clause-memory g c =
-    (ended_goes (g.D.SectorDevice.state c.args.device.now) c.args.memory.now c.end_last.new.self c.end_last.ensures
-    (g.met.D.SectorDevice.lawful c.args.device.now) c.requires.memory c.requires.closed).memory
+pub loop-init : goal.loop-init
+loop-init g c = record {
+  saves = saves_none (g.D.SectorDevice.state c.args.device.now) (record c.args.memory.now { usage = c.end_last.new.self })
+      (g.met.D.SectorDevice.lawful c.args.device.now)
+      (ended_goes (g.D.SectorDevice.state c.args.device.now) c.args.memory.now c.end_last.new.self c.end_last.ensures
+      (g.met.D.SectorDevice.lawful c.args.device.now) c.requires.memory c.requires.closed).memory;
+  early = early_none (record c.args.memory.now { usage = c.end_last.new.self })
+      (ended_fresh c.args.memory.now c.end_last.new.self c.end_last.ensures c.requires.closed);
+  left = omega arith;
+  capacity = refl;
+}
 
-pub save_chunk-requires-clause-fresh : goal.save_chunk-requires-clause-fresh
-save_chunk-requires-clause-fresh g c = ended_fresh c.args.memory.now c.end_last.new.self c.end_last.ensures c.requires.closed
+pub loop-preserved : goal.loop-preserved
+loop-preserved g c =
+    let left = c.loop.invariant.left in
+    let many = c.requires.data_blocks in
+    let lt = c.loop-test.true in
+    let kind : is_data_code c.unwrap-key.result.code ≡ true =
+    (let some : 1 ≤ data_count c.loop.memory.dirty = omega (arith, left, many, lt) in search rules) in
+    let one = c.in_ok-save_block.ensures.data_blocks kind in
+    record {
+      saves = saves_then c.loop.invariant.saves c.in_ok-save_block.ensures.saves.done;
+      early = early_then (record c.args.memory.now { usage = c.end_last.new.self }) c.loop.memory c.save_block.new.memory _ 1
+          c.loop.invariant.early (c.in_ok-save_block.ensures.early c.loop.invariant.early.fresh);
+      left = omega (arith, left, one);
+      capacity = c.in_ok-save_block.ensures.capacity ∙ c.loop.invariant.capacity;
+    }
 
-pub save_chunk-requires-clause-room : goal.save_chunk-requires-clause-room
-save_chunk-requires-clause-room g c =
-    let same = ap (λ (u : UsageTable). clean_in u.segments) c.end_last.ensures in
-    let clean = c.requires.clean in
-    omega (arith, same, clean)
-
-pub returns-in_err-save_chunk-clause-stopped : goal.returns-in_err-save_chunk-clause-stopped
-returns-in_err-save_chunk-clause-stopped g c =
+pub returns-in_err-save_block-clause-stopped : goal.returns-in_err-save_block-clause-stopped
+returns-in_err-save_block-clause-stopped g c =
     let d = g.D.SectorDevice.state c.args.device.now in
     let v = c.args.memory.now in
-    on_err c.from_residual.result (Stops d (g.D.SectorDevice.state c.save_chunk.new.device) v)
-    (stops_then 62 d d (g.D.SectorDevice.state c.save_chunk.new.device) v (record v { usage = c.end_last.new.self }) 0
+    on_err c.from_residual.result (Stops d (g.D.SectorDevice.state c.save_block.new.device) v)
+    (stops_then 62 d d (g.D.SectorDevice.state c.save_block.new.device) v (record v { usage = c.end_last.new.self }) 0
     (ended_goes d v c.end_last.new.self c.end_last.ensures (g.met.D.SectorDevice.lawful c.args.device.now) c.requires.memory
-    c.requires.closed) c.in_err-save_chunk.ensures.stopped)
+    c.requires.closed) (stops_behind c.loop.invariant.saves c.in_err-save_block.ensures.saves.stopped).stops)
 
-pub returns-in_err-save_chunk-clause-most : goal.returns-in_err-save_chunk-clause-most
-returns-in_err-save_chunk-clause-most g c =
-    let most = c.save_chunk.ensures.most in
+pub returns-in_err-save_block-clause-most : goal.returns-in_err-save_block-clause-most
+returns-in_err-save_block-clause-most g c =
+    let lt = c.loop-test.true in
+    let here = stops_behind c.loop.invariant.saves c.in_err-save_block.ensures.saves.stopped in
+    let most = here.tells in
+    let room = here.room in
     let same = ap (λ (u : UsageTable). clean_in u.segments) c.end_last.ensures in
-    let room = c.save_chunk.ensures.room in
-    let le = chunk_told c.args.memory.now c.save_chunk.new.memory c.end_last.new.self
-    (length (g.D.SectorDevice.state c.args.device.now).told) (length (g.D.SectorDevice.state c.save_chunk.new.device).told) 64
-    c.end_last.ensures c.requires.closed (omega (arith, same, room)) (omega (arith, most)) in
+    let le = chunk_told c.args.memory.now c.save_block.new.memory c.end_last.new.self
+    (length (g.D.SectorDevice.state c.args.device.now).told) (length (g.D.SectorDevice.state c.save_block.new.device).told) 64
+    c.end_last.ensures c.requires.closed (omega (arith, same, room, lt)) (omega (arith, most, lt)) in
     omega (arith, le)
 
 pub returns-in_err-seal_rest-clause-stopped : goal.returns-in_err-seal_rest-clause-stopped
 returns-in_err-seal_rest-clause-stopped g c =
     let d = g.D.SectorDevice.state c.args.device.now in
     let v = c.args.memory.now in
-    let middle = g.D.SectorDevice.state c.save_chunk.new.device in
+    let middle = g.D.SectorDevice.state c.loop.device in
     on_err c.from_residual-in_err-seal_rest.result (Stops d (g.D.SectorDevice.state c.seal_rest.new.device) v)
-    (stops_then 62 d middle (g.D.SectorDevice.state c.seal_rest.new.device) v c.save_chunk.new.memory 63
-    (goes_then 62 62 d d middle v (record v { usage = c.end_last.new.self }) c.save_chunk.new.memory 0 63
+    (stops_then 62 d middle (g.D.SectorDevice.state c.seal_rest.new.device) v c.loop.memory 63
+    (goes_then 62 62 d d middle v (record v { usage = c.end_last.new.self }) c.loop.memory 0 63
     (ended_goes d v c.end_last.new.self c.end_last.ensures (g.met.D.SectorDevice.lawful c.args.device.now) c.requires.memory
-    c.requires.closed) c.in_ok-save_chunk.ensures.done)
+    c.requires.closed) (saves_at_most 63 63 (omega arith) (omega arith) c.loop.invariant.saves).goes)
     c.in_err-seal_rest.ensures.stopped)
 
 pub returns-in_err-seal_rest-clause-most : goal.returns-in_err-seal_rest-clause-most
 returns-in_err-seal_rest-clause-most g c =
-    let tells = c.in_ok-save_chunk.ensures.tells in
+    let tells = c.loop.invariant.saves.tells in
     let told = c.seal_rest.ensures.told in
     let before = ap (λ (u : UsageTable). clean_in u.segments) c.end_last.ensures in
     let after = ap (λ (u : UsageTable). clean_in u.segments) c.seal_rest.ensures.only.usage in
-    let room = c.save_chunk.ensures.room in
-    let le = chunk_told c.args.memory.now c.save_chunk.new.memory c.end_last.new.self
+    let room = c.loop.invariant.saves.goes.room in
+    let le = chunk_told c.args.memory.now c.loop.memory c.end_last.new.self
     (length (g.D.SectorDevice.state c.args.device.now).told) (length (g.D.SectorDevice.state c.seal_rest.new.device).told) 63
     c.end_last.ensures c.requires.closed (omega (arith, before, room)) (omega (arith, tells, told, after)) in
     omega (arith, le)
@@ -68,41 +85,43 @@ pub returns-clause-done : goal.returns-clause-done
 returns-clause-done g c =
     let d = g.D.SectorDevice.state c.args.device.now in
     let v = c.args.memory.now in
-    let middle = g.D.SectorDevice.state c.save_chunk.new.device in
-    goes_then 62 62 d middle (g.D.SectorDevice.state c.seal_rest.new.device) v c.save_chunk.new.memory c.seal_rest.new.memory 63 62
-    (goes_then 62 62 d d middle v (record v { usage = c.end_last.new.self }) c.save_chunk.new.memory 0 63
+    let middle = g.D.SectorDevice.state c.loop.device in
+    goes_then 62 62 d middle (g.D.SectorDevice.state c.seal_rest.new.device) v c.loop.memory c.seal_rest.new.memory 63 62
+    (goes_then 62 62 d d middle v (record v { usage = c.end_last.new.self }) c.loop.memory 0 63
     (ended_goes d v c.end_last.new.self c.end_last.ensures (g.met.D.SectorDevice.lawful c.args.device.now) c.requires.memory
-    c.requires.closed) c.in_ok-save_chunk.ensures.done)
+    c.requires.closed) (saves_at_most 63 63 (omega arith) (omega arith) c.loop.invariant.saves).goes)
     c.in_ok-seal_rest.ensures.done
 
 pub returns-clause-fewer : goal.returns-clause-fewer
-returns-clause-fewer g c = ap (λ (t : TableValue). length t.blocks + 63) c.seal_rest.ensures.only.dirty
-    ∙ c.in_ok-save_chunk.ensures.early.fewer
+returns-clause-fewer g c =
+    let same = ap (λ (t : TableValue). length t.blocks) c.seal_rest.ensures.only.dirty in
+    let fewer = c.loop.invariant.early.fewer in
+    omega (arith, same, fewer)
 
 pub returns-clause-due : goal.returns-clause-due
 returns-clause-due g c =
-    chunk_due c.args.memory.now c.save_chunk.new.memory c.seal_rest.new.memory c.end_last.new.self c.end_last.ensures
-    c.seal_rest.ensures.only.dirty c.seal_rest.ensures.only.usage c.in_ok-save_chunk.ensures.early.due
+    chunk_due c.args.memory.now c.loop.memory c.seal_rest.new.memory c.end_last.new.self c.end_last.ensures
+    c.seal_rest.ensures.only.dirty c.seal_rest.ensures.only.usage c.loop.invariant.early.due
 
 pub returns-clause-capacity : goal.returns-clause-capacity
-returns-clause-capacity g c = ap (λ (t : TableValue). t.capacity) c.seal_rest.ensures.only.dirty ∙ c.in_ok-save_chunk.ensures.capacity
+returns-clause-capacity g c = ap (λ (t : TableValue). t.capacity) c.seal_rest.ensures.only.dirty ∙ c.loop.invariant.capacity
 
 pub returns-clause-taken : goal.returns-clause-taken
 returns-clause-taken g c =
-    let room = c.save_chunk.ensures.room in
+    let room = c.loop.invariant.saves.goes.room in
     let before = ap (λ (u : UsageTable). clean_in u.segments) c.end_last.ensures in
     let after = ap (λ (u : UsageTable). clean_in u.segments) c.seal_rest.ensures.only.usage in
-    let one = one_segment c.args.memory.now c.save_chunk.new.memory c.requires.closed (omega (arith, before, room)) in
+    let one = one_segment c.args.memory.now c.loop.memory c.requires.closed (omega (arith, before, room)) in
     omega (arith, one, after)
 
 pub returns-clause-told : goal.returns-clause-told
 returns-clause-told g c =
-    let tells = c.in_ok-save_chunk.ensures.tells in
+    let tells = c.loop.invariant.saves.tells in
     let told = c.seal_rest.ensures.told in
     let before = ap (λ (u : UsageTable). clean_in u.segments) c.end_last.ensures in
     let after = ap (λ (u : UsageTable). clean_in u.segments) c.seal_rest.ensures.only.usage in
-    let room = c.save_chunk.ensures.room in
-    chunk_told c.args.memory.now c.save_chunk.new.memory c.end_last.new.self (length (g.D.SectorDevice.state c.args.device.now).told)
+    let room = c.loop.invariant.saves.goes.room in
+    chunk_told c.args.memory.now c.loop.memory c.end_last.new.self (length (g.D.SectorDevice.state c.args.device.now).told)
     (length (g.D.SectorDevice.state c.seal_rest.new.device).told) 63
     c.end_last.ensures c.requires.closed (omega (arith, before, room)) (omega (arith, tells, told, after))
 
@@ -110,5 +129,7 @@ pub returns-clause-most : goal.returns-clause-most
 returns-clause-most g c = let told = returns-clause-told g c in omega (arith, told)
 
 pub returns-clause-data_blocks : goal.returns-clause-data_blocks
-returns-clause-data_blocks g c = ap (λ (t : TableValue). data_count t + 63) c.seal_rest.ensures.only.dirty
-    ∙ c.in_ok-save_chunk.ensures.data_blocks
+returns-clause-data_blocks g c =
+    let same = ap (λ (t : TableValue). data_count t) c.seal_rest.ensures.only.dirty in
+    let left = c.loop.invariant.left in
+    omega (arith, same, left)

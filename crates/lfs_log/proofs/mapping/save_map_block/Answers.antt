@@ -1,10 +1,35 @@
-use Rattle.std.proofs.Common.{arith}
-use Rattle.lfs_memory.proofs.Going.{goes_at_most, goes_none}
+use Rattle.std.proofs.Common.{rules, ap, arith}
+use Rattle.lfs_memory.specs.inodes.MapValue.{MapValue}
+use Rattle.lfs_log.proofs.MapSteps.{drop_goes}
+use Rattle.lfs_log.proofs.SavedBlocks.{saves_at_most, saves_none, saving_done, saving_failed, sealed_then, stops_sealing}
 use Rattle.lfs_log.proofs.mapping.save_map_block.Goals as goal
 
-pub returns-then-block_address-ne1-clause-done : goal.returns-then-block_address-ne1-clause-done
-returns-then-block_address-ne1-clause-done g c =
-    goes_at_most (g.D.SectorDevice.state c.args.device.now) (g.D.SectorDevice.state c.args.device.now) c.args.memory.now c.args.memory.now 0
-    1 (omega arith)
-    (goes_none (g.D.SectorDevice.state c.args.device.now) c.args.memory.now
-    (g.met.D.SectorDevice.lawful c.args.device.now) c.requires.memory)
+pub returns-then-block_address-ne1-clause-saves : goal.returns-then-block_address-ne1-clause-saves
+returns-then-block_address-ne1-clause-saves g c =
+    saving_done (saves_at_most 1 1 (omega arith) (omega arith)
+    (saves_none (g.D.SectorDevice.state c.args.device.now) c.args.memory.now
+    (g.met.D.SectorDevice.lawful c.args.device.now) c.requires.memory))
+
+pub returns-in_default-clause-saves : goal.returns-in_default-clause-saves
+returns-in_default-clause-saves g c =
+    saving_done (record {
+      goes = drop_goes (g.D.SectorDevice.state c.args.device.now) c.args.memory.now c.args.index c.set_block_address.new.self
+          (record {
+            block = c.set_block_address.ensures.changed;
+            addresses = ap (λ (a : MapValue). a.addresses) c.set_block_address.ensures.set;
+            hidden = ap (λ (a : MapValue). a.hidden) c.set_block_address.ensures.set;
+          })
+          (search rules) c.requires.memory (g.met.D.SectorDevice.lawful c.args.device.now) c.in_default.ensures.dropped;
+      tells = omega arith;
+    })
+
+pub returns-in_err-seal_full-clause-saves : goal.returns-in_err-seal_full-clause-saves
+returns-in_err-seal_full-clause-saves g c =
+    saving_failed _ _ c.from_residual-in_err-seal_full.ensures
+    (stops_sealing c.in_ok-write_map_block.ensures.writes.done c.write_map_block.ensures.writes.tells
+    c.in_err-seal_full.ensures.saves.stopped)
+
+pub returns-clause-saves : goal.returns-clause-saves
+returns-clause-saves g c =
+    saving_done (sealed_then c.in_ok-write_map_block.ensures.writes.done c.write_map_block.ensures.writes.tells
+    c.in_ok-seal_full.ensures.saves.done)

@@ -1,31 +1,31 @@
-use Rattle.std.proofs.Common.{true, refl, sym, ap, subst}
+use Rattle.std.proofs.Common.{rules, true, refl, sym, ap, subst, arith}
 use Rattle.lfs_memory.specs.inodes.Blocks.{TableValue}
 use Rattle.lfs_memory.specs.inodes.MapValue.{MapValue}
-use Rattle.lfs_memory.specs.Memory.{GoesUpTo, IsBlockAt, Stops}
+use Rattle.lfs_memory.specs.Memory.{GoesUpTo, IsBlockAt}
 use Rattle.lfs_log.proofs.mapping.write_map_block.Goals as goal
-use Rattle.lfs_memory.proofs.Going.{on_err}
+use Rattle.lfs_memory.proofs.Rooms.{takes_place}
 use Rattle.lfs_memory.proofs.FileSteps.{place_stops}
+use Rattle.lfs_log.proofs.SavedBlocks.{writing_done, writing_failed}
 use Rattle.lfs_log.proofs.MapSteps.{map_goes, placed_map}
 
 -- src/mapping.rt:44:9
 pub next_place-address-requires-clause-placed : goal.next_place-address-requires-clause-placed
 next_place-address-requires-clause-placed g c = placed_map c.args.index c.requires.index
 
--- src/mapping.rt:45:5
-pub returns-in_err-write-clause-stopped : goal.returns-in_err-write-clause-stopped
-returns-in_err-write-clause-stopped g c =
-    on_err c.from_residual.result
-    (Stops (g.D.SectorDevice.state c.args.device.now) (g.D.SectorDevice.state c.write.new.device) c.args.memory.now)
+pub returns-in_err-write-clause-writes : goal.returns-in_err-write-clause-writes
+returns-in_err-write-clause-writes g c =
+    writing_failed _ _ c.from_residual.ensures
     (place_stops c.args.memory.now c.next_place-address.new.self _ true c.args.age c.next_place-address.result c.requires.memory
     c.next_place-address.ensures.placed
     (g.D.SectorDevice.state c.args.device.now) (g.D.SectorDevice.state c.write.new.device) c.args.bytes.now
     c.in_err-write.ensures.crash c.in_err-write.ensures.asks.carries c.in_err-write.ensures.asks.time
     (g.met.D.SectorDevice.lawful c.args.device.now)
     c.in_err-write.ensures.failed_write c.in_err-write.ensures.asks.failed)
+    (let room = takes_place c.args.memory.now c.next_place-address.new.self _ true c.args.age c.next_place-address.result
+    c.requires.memory c.next_place-address.ensures.placed in omega (arith, room)) (search rules)
 
--- src/mapping.rt:19:1
-pub returns-clause-done : goal.returns-clause-done
-returns-clause-done g c =
+pub returns-clause-writes : goal.returns-clause-writes
+returns-clause-writes g c =
     let map' = c.set_block_address.new.self in
     let v = c.args.memory.now in
     let same = c.next_place-address.ensures.placed.map in
@@ -36,7 +36,8 @@ returns-clause-done g c =
       addresses = ap (λ (a : MapValue). a.addresses) c.set_block_address.ensures.set;
       hidden = ap (λ (a : MapValue). a.hidden) c.set_block_address.ensures.set;
     }) in
-    subst (λ (t : TableValue). GoesUpTo 63 (g.D.SectorDevice.state c.args.device.now) (g.D.SectorDevice.state c.write.new.device) v
+    writing_done
+    (subst (λ (t : TableValue). GoesUpTo 63 (g.D.SectorDevice.state c.args.device.now) (g.D.SectorDevice.state c.write.new.device) v
     (record { map = map'; usage = c.next_place-address.new.self.usage; dirty = t; chunk = c.next_place-address.new.self.chunk }) 1)
     (sym c.next_place-address.ensures.placed.dirty)
     (map_goes v c.next_place-address.new.self _ c.args.age c.next_place-address.result c.requires.memory c.next_place-address.ensures.placed
@@ -44,4 +45,5 @@ returns-clause-done g c =
     (g.D.SectorDevice.state c.args.device.now) (g.D.SectorDevice.state c.write.new.device) c.args.bytes.now
     c.in_ok-write.ensures.crash c.in_ok-write.ensures.asks.carries c.in_ok-write.ensures.asks.time
     (g.met.D.SectorDevice.lawful c.args.device.now)
-    c.in_ok-write.ensures.written refl c.requires.wanted c.requires.spelt c.requires.empty c.in_ok-write.ensures.asks.no_failure)
+    c.in_ok-write.ensures.written refl c.requires.wanted c.requires.spelt c.requires.empty c.in_ok-write.ensures.asks.no_failure))
+    (search rules)

@@ -1,26 +1,19 @@
 use Rattle.std.proofs.Common.{◌+◌, ◌∙◌, ap}
 use Rattle.lfs_memory.specs.inodes.Blocks.{TableValue}
 use Rattle.lfs_memory.specs.inodes.Data.{data_count}
-use Rattle.lfs_memory.specs.Memory.{Stops}
 use Rattle.lfs_log.proofs.placing.save_block.Goals as goal
 use Rattle.lfs_log.proofs.EarlyBlocks.{goes_early}
-use Rattle.lfs_memory.proofs.Going.{on_err, goes_then, stops_then}
+use Rattle.lfs_log.proofs.SavedBlocks.{saving_done, saving_failed, sealed_then, stops_sealing}
 
--- src/placing.rt:86:5
-pub returns-in_err-seal_full-clause-stopped : goal.returns-in_err-seal_full-clause-stopped
-returns-in_err-seal_full-clause-stopped g c =
-    on_err c.from_residual-in_err-seal_full.result
-    (Stops (g.D.SectorDevice.state c.args.device.now) (g.D.SectorDevice.state c.seal_full.new.device) c.args.memory.now)
-    (stops_then 63 (g.D.SectorDevice.state c.args.device.now) (g.D.SectorDevice.state c.write_block.new.device)
-    (g.D.SectorDevice.state c.seal_full.new.device)
-    c.args.memory.now c.write_block.new.memory 1 c.in_ok-write_block.ensures.done c.in_err-seal_full.ensures.stopped)
+pub returns-in_err-seal_full-clause-saves : goal.returns-in_err-seal_full-clause-saves
+returns-in_err-seal_full-clause-saves g c =
+    saving_failed _ _ c.from_residual-in_err-seal_full.ensures
+    (stops_sealing c.in_ok-write_block.ensures.writes.done c.write_block.ensures.writes.tells c.in_err-seal_full.ensures.saves.stopped)
 
--- src/placing.rt:71:1
-pub returns-clause-done : goal.returns-clause-done
-returns-clause-done g c =
-    goes_then 63 62 (g.D.SectorDevice.state c.args.device.now) (g.D.SectorDevice.state c.write_block.new.device)
-    (g.D.SectorDevice.state c.seal_full.new.device)
-    c.args.memory.now c.write_block.new.memory c.seal_full.new.memory 1 0 c.in_ok-write_block.ensures.done c.in_ok-seal_full.ensures.done
+pub returns-clause-saves : goal.returns-clause-saves
+returns-clause-saves g c =
+    saving_done
+    (sealed_then c.in_ok-write_block.ensures.writes.done c.write_block.ensures.writes.tells c.in_ok-seal_full.ensures.saves.done)
 
 pub returns-clause-early : goal.returns-clause-early
 returns-clause-early g c fresh =

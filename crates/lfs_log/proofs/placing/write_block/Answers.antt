@@ -8,33 +8,35 @@ use Rattle.lfs_memory.specs.inodes.MapValue.{MapValue}
 use Rattle.lfs_memory.specs.inodes.Blocks.{TableValue, blocks_of}
 use Rattle.lfs_memory.specs.inodes.Data.{data_count}
 use Rattle.lfs_memory.specs.inodes.Key.{entry_of}
-use Rattle.lfs_memory.specs.Memory.{IsPointedAt, Stops}
+use Rattle.lfs_memory.specs.Memory.{IsPointedAt}
 use Rattle.lfs_log.proofs.placing.write_block.Goals as goal
-use Rattle.lfs_memory.proofs.Going.{on_err}
+use Rattle.lfs_log.proofs.SavedBlocks.{writing_done, writing_failed}
+use Rattle.lfs_memory.proofs.Rooms.{takes_place}
 use Rattle.lfs_memory.proofs.FileSteps.{place_stops, file_goes, file_by, goes_to}
 
--- src/placing.rt:63:5
-pub returns-in_err-write-clause-stopped : goal.returns-in_err-write-clause-stopped
-returns-in_err-write-clause-stopped g c =
-    on_err c.from_residual.result
-    (Stops (g.D.SectorDevice.state c.args.device.now) (g.D.SectorDevice.state c.write.new.device) c.args.memory.now)
+pub returns-in_err-write-clause-writes : goal.returns-in_err-write-clause-writes
+returns-in_err-write-clause-writes g c =
+    writing_failed _ _ c.from_residual.ensures
     (place_stops c.args.memory.now c.next_place-address.new.self c.name.result
     (not c.is_hidden-lives.result) c.args.age c.next_place-address.result c.requires.memory c.next_place-address.ensures.placed
     (g.D.SectorDevice.state c.args.device.now) (g.D.SectorDevice.state c.write.new.device) c.unwrap-bytes.result.now
     c.in_err-write.ensures.crash c.in_err-write.ensures.asks.carries c.in_err-write.ensures.asks.time
     (g.met.D.SectorDevice.lawful c.args.device.now)
     c.in_err-write.ensures.failed_write c.in_err-write.ensures.asks.failed)
+    (let room = takes_place c.args.memory.now c.next_place-address.new.self c.name.result
+    (not c.is_hidden-lives.result) c.args.age c.next_place-address.result c.requires.memory c.next_place-address.ensures.placed in
+    omega (arith, room)) (search rules)
 
--- src/placing.rt:46:1
-pub returns-clause-done : goal.returns-clause-done
-returns-clause-done g c =
+pub returns-clause-writes : goal.returns-clause-writes
+returns-clause-writes g c =
     let x = entry_of c.args.key in
     let file : file_of x ≡ Some c.file.result = file_by (c.args.key.code / 134217728) (c.args.key.code / 32768 % 4096)
     (c.args.key.code % 32768) ∙ ap Some (sym c.file.ensures.file) in
     let shown : blocks_of c.next_place-address.new.self.dirty x ≡ Some c.unwrap-bytes.result.now = search rules in
     let there = sym (ap (λ (t : TableValue). blocks_of t x) c.next_place-address.ensures.placed.dirty) ∙ shown in
     let few = c.file.ensures.few in
-    goes_to 63 (g.D.SectorDevice.state c.args.device.now) (g.D.SectorDevice.state c.write.new.device) c.args.memory.now c.point.new.self
+    writing_done
+    (goes_to 63 (g.D.SectorDevice.state c.args.device.now) (g.D.SectorDevice.state c.write.new.device) c.args.memory.now c.point.new.self
     c.next_place-address.new.self.usage c.moved.new.self c.next_place-address.new.self.chunk 1 c.point.ensures.usage c.point.ensures.dirty
     c.point.ensures.chunk
     (file_goes c.args.memory.now c.next_place-address.new.self c.name.result
@@ -48,7 +50,8 @@ returns-clause-done g c =
     (subst (λ (t : TableValue). Moves (blocks_of t) (blocks_of c.moved.new.self) x c.next_place-address.result)
     c.next_place-address.ensures.placed.dirty c.moved.ensures.moves)
     (omega (arith, few)) (ap not c.is_hidden-lives.ensures) (c.moved.ensures.capacity
-    ∙ ap (λ (t : TableValue). t.capacity) c.next_place-address.ensures.placed.dirty) c.in_ok-write.ensures.asks.no_failure)
+    ∙ ap (λ (t : TableValue). t.capacity) c.next_place-address.ensures.placed.dirty) c.in_ok-write.ensures.asks.no_failure))
+    (search rules)
 
 pub returns-clause-fresh : goal.returns-clause-fresh
 returns-clause-fresh g c fresh =

@@ -3,16 +3,15 @@ use Rattle.std.specs.Prelude.{None}
 use Rattle.lfs_memory.specs.declared.memory.LogMemory.{LogMemory}
 use Rattle.lfs_memory.specs.inodes.Blocks.{blocks_of}
 use Rattle.lfs_memory.specs.inodes.Key.{entry_of}
-use Rattle.lfs_memory.proofs.Presents.{looks_none}
+use Rattle.lfs_log.proofs.Relocations.{bringing_none, lifting_done}
 use Rattle.lfs_log.specs.Relocating.{IsInOrder}
 use Rattle.lfs_log.proofs.CameIn.{brings_one, brings_same, still_out}
-use Rattle.lfs_log.proofs.Relocated.{no_pointer_there, relocates_looks}
+use Rattle.lfs_log.proofs.Relocated.{no_pointer_there, relocates_of}
 use Rattle.lfs_log.proofs.relocating.bring_child.Goals as goal
 
-pub returns-then-has_block-clause-relocates : goal.returns-then-has_block-clause-relocates
-returns-then-has_block-clause-relocates g c =
-    let old = g.D.SectorDevice.state c.args.device.now in
-    relocates_looks old old c.args.memory.now c.requires.memory (looks_none old)
+pub returns-then-has_block-clause-brings : goal.returns-then-has_block-clause-brings
+returns-then-has_block-clause-brings g c =
+    bringing_none (g.D.SectorDevice.state c.args.device.now) c.args.memory.now (entry_of c.args.key) c.requires.memory (search rules)
 
 pub returns-then-has_block-clause-came : goal.returns-then-has_block-clause-came
 returns-then-has_block-clause-came g c = brings_same c.args.memory.now c.args.memory.now (entry_of c.args.key) refl
@@ -31,9 +30,15 @@ returns-in-Ok-false-clause-came g c =
     let same = c.in-Ok-false.ensures.same (search rules) in
     brings_same c.args.memory.now c.lift_child.new.memory (entry_of c.args.key) (ap (λ (v : LogMemory). v.dirty) same)
 
-pub returns-in-Ok-false-clause-none : goal.returns-in-Ok-false-clause-none
-returns-in-Ok-false-clause-none g c _ =
-    no_pointer_there (g.D.SectorDevice.state c.lift_child.new.device) c.lift_child.new.memory _ (c.in-Ok-false.ensures.none (search rules))
+pub returns-in-Ok-false-clause-brings : goal.returns-in-Ok-false-clause-brings
+returns-in-Ok-false-clause-brings g c = record {
+  relocates = relocates_of (g.D.SectorDevice.state c.args.device.now) (g.D.SectorDevice.state c.lift_child.new.device) c.args.memory.now
+      c.lift_child.new.memory 1 c.lift_child.ensures.prepares c.lift_child.ensures.gathers;
+  inside = λ is. absurd (cc);
+  none = λ _. no_pointer_there (g.D.SectorDevice.state c.lift_child.new.device) c.lift_child.new.memory _
+      (c.in-Ok-false.ensures.none (search rules));
+  ends = lifting_done c.in-Ok-false.ensures.ends.no_failure;
+}
 
 pub returns-in-Err-clause-came : goal.returns-in-Err-clause-came
 returns-in-Err-clause-came g c =

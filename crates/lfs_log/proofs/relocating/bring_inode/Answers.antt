@@ -6,28 +6,33 @@ use Rattle.lfs_memory.specs.inodes.Blocks.{blocks_of}
 use Rattle.lfs_memory.specs.inodes.Key.{entry_of}
 use Rattle.lfs_memory.specs.inodes.MapValue.{address_in}
 use Rattle.lfs_memory.specs.Lifting.{IsInMemory}
-use Rattle.lfs_memory.proofs.Presents.{looks_none}
+use Rattle.lfs_log.proofs.Relocations.{bringing_none, lifting_done}
 use Rattle.lfs_memory.proofs.LiftedKeys.{file_is}
 use Rattle.lfs_log.specs.Relocating.{IsInOrder}
 use Rattle.lfs_log.proofs.CameIn.{brings_one, brings_same, still_out}
-use Rattle.lfs_log.proofs.Relocated.{no_inode_there, relocates_looks, top_inode}
+use Rattle.lfs_log.proofs.Relocated.{no_inode_there, relocates_of, top_inode}
 use Rattle.lfs_log.proofs.relocating.bring_inode.Goals as goal
 
-pub returns-in-Ok-false-clause-none : goal.returns-in-Ok-false-clause-none
-returns-in-Ok-false-clause-none g c _ =
+pub returns-in-Ok-false-clause-brings : goal.returns-in-Ok-false-clause-brings
+returns-in-Ok-false-clause-brings g c =
     let some = c.file.ensures.some in
     let gone : address_in c.args.memory.now.map c.file.result ≡ 0 = ⊎_elim
     (λ (none : c.file.result ≡ 0). absurd (omega (arith, none, some)))
     (λ (none : address_in c.args.memory.now.map c.file.result ≡ 0). none)
     (c.in-Ok-false.ensures.none (search rules)) in
-    no_inode_there (g.D.SectorDevice.state c.lift_inode.new.device) c.lift_inode.new.memory _ c.file.result
-    (file_is c.args.key.code c.file.result c.file.ensures.file) c.requires.top
-    (ap (λ (v : LogMemory). address_in v.map c.file.result) (c.in-Ok-false.ensures.same (search rules)) ∙ gone)
+    record {
+      relocates = relocates_of (g.D.SectorDevice.state c.args.device.now) (g.D.SectorDevice.state c.lift_inode.new.device) c.args.memory.now
+          c.lift_inode.new.memory 1 c.lift_inode.ensures.prepares c.lift_inode.ensures.gathers;
+      inside = λ is. absurd (cc);
+      none = λ _. no_inode_there (g.D.SectorDevice.state c.lift_inode.new.device) c.lift_inode.new.memory _ c.file.result
+          (file_is c.args.key.code c.file.result c.file.ensures.file) c.requires.top
+          (ap (λ (v : LogMemory). address_in v.map c.file.result) (c.in-Ok-false.ensures.same (search rules)) ∙ gone);
+      ends = lifting_done c.in-Ok-false.ensures.ends.no_failure;
+    }
 
-pub returns-then-has_block-clause-relocates : goal.returns-then-has_block-clause-relocates
-returns-then-has_block-clause-relocates g c =
-    let old = g.D.SectorDevice.state c.args.device.now in
-    relocates_looks old old c.args.memory.now c.requires.memory (looks_none old)
+pub returns-then-has_block-clause-brings : goal.returns-then-has_block-clause-brings
+returns-then-has_block-clause-brings g c =
+    bringing_none (g.D.SectorDevice.state c.args.device.now) c.args.memory.now (entry_of c.args.key) c.requires.memory (search rules)
 
 pub returns-then-has_block-clause-came : goal.returns-then-has_block-clause-came
 returns-then-has_block-clause-came g c = brings_same c.args.memory.now c.args.memory.now (entry_of c.args.key) refl

@@ -5,36 +5,48 @@ use Rattle.lfs_memory.proofs.Lifted.{map_lost}
 use Rattle.lfs_memory.specs.declared.memory.LogMemory.{LogMemory}
 use Rattle.lfs_log.specs.Relocating.{HasLeft, IsBetween}
 use Rattle.lfs_log.proofs.CameIn.{came_none}
+use Rattle.lfs_log.proofs.Relocations.{relocated_still, relocating_done, relocating_lost}
 use Rattle.lfs_log.proofs.TableBlocks.{map_dirty, map_relocates, usage_dirty, usage_lost, usage_relocates}
 use Rattle.lfs_log.proofs.relocating.relocate_block.Goals as goal
 
 pub returns-in-Ok-clause-relocates : goal.returns-in-Ok-clause-relocates
 returns-in-Ok-clause-relocates g c =
-    map_relocates (g.D.SectorDevice.state c.args.device.now) c.args.memory.now c.relocate_map.new.memory c.name.inside.index
-    (g.met.D.SectorDevice.lawful c.args.device.now) c.requires.memory c.in-Ok.ensures.done
+    relocating_done (relocated_still (g.D.SectorDevice.state c.args.device.now) c.args.memory.now c.relocate_map.new.memory
+    (IsBetween c.args.address (c.args.address + 1))
+    (map_relocates (g.D.SectorDevice.state c.args.device.now) c.args.memory.now c.relocate_map.new.memory c.name.inside.index
+    (g.met.D.SectorDevice.lawful c.args.device.now) c.requires.memory
+    c.in-Ok.ensures.done)
+    (map_dirty c.args.memory.now c.relocate_map.new.memory c.name.inside.index c.in-Ok.ensures.done))
 
 pub returns-in-Err-clause-relocates : goal.returns-in-Err-clause-relocates
 returns-in-Err-clause-relocates g c =
-    map_relocates (g.D.SectorDevice.state c.args.device.now) c.args.memory.now c.relocate_map.new.memory c.name.inside.index
-    (g.met.D.SectorDevice.lawful c.args.device.now) c.requires.memory (inl c.in-Err.ensures.same)
-
-pub returns-in-Err-clause-failed : goal.returns-in-Err-clause-failed
-returns-in-Err-clause-failed g c is =
-    map_lost (g.D.SectorDevice.state c.args.device.now) c.args.memory.now c.name.inside.index c.in-Err.ensures.lost
+    relocating_lost
+    (map_relocates (g.D.SectorDevice.state c.args.device.now) c.args.memory.now c.relocate_map.new.memory c.name.inside.index
+    (g.met.D.SectorDevice.lawful c.args.device.now) c.requires.memory
+    (inl c.in-Err.ensures.same))
+    (came_none (g.D.SectorDevice.state c.args.device.now) (g.D.SectorDevice.state c.args.device.now) c.args.memory.now
+    c.relocate_map.new.memory (IsBetween c.args.address (c.args.address + 1)) (ap (λ (v : LogMemory). v.dirty) c.in-Err.ensures.same))
+    (map_lost (g.D.SectorDevice.state c.args.device.now) c.args.memory.now c.name.inside.index c.in-Err.ensures.lost)
 
 pub returns-in-Ok-relocate_usage-clause-relocates : goal.returns-in-Ok-relocate_usage-clause-relocates
 returns-in-Ok-relocate_usage-clause-relocates g c =
-    usage_relocates (g.D.SectorDevice.state c.args.device.now) c.args.memory.now c.relocate_usage.new.memory c.name.inside.index
-    c.requires.memory c.in-Ok-relocate_usage.ensures.done
+    relocating_done (relocated_still (g.D.SectorDevice.state c.args.device.now) c.args.memory.now c.relocate_usage.new.memory
+    (IsBetween c.args.address (c.args.address + 1))
+    (usage_relocates (g.D.SectorDevice.state c.args.device.now) c.args.memory.now c.relocate_usage.new.memory c.name.inside.index
+    c.requires.memory
+    c.in-Ok-relocate_usage.ensures.done)
+    (usage_dirty c.args.memory.now c.relocate_usage.new.memory c.name.inside.index c.in-Ok-relocate_usage.ensures.done))
 
 pub returns-in-Err-relocate_usage-clause-relocates : goal.returns-in-Err-relocate_usage-clause-relocates
 returns-in-Err-relocate_usage-clause-relocates g c =
-    usage_relocates (g.D.SectorDevice.state c.args.device.now) c.args.memory.now c.relocate_usage.new.memory c.name.inside.index
-    c.requires.memory (inl c.in-Err-relocate_usage.ensures.same)
-
-pub returns-in-Err-relocate_usage-clause-failed : goal.returns-in-Err-relocate_usage-clause-failed
-returns-in-Err-relocate_usage-clause-failed g c is =
-    usage_lost (g.D.SectorDevice.state c.args.device.now) c.args.memory.now c.name.inside.index c.in-Err-relocate_usage.ensures.lost
+    relocating_lost
+    (usage_relocates (g.D.SectorDevice.state c.args.device.now) c.args.memory.now c.relocate_usage.new.memory c.name.inside.index
+    c.requires.memory
+    (inl c.in-Err-relocate_usage.ensures.same))
+    (came_none (g.D.SectorDevice.state c.args.device.now) (g.D.SectorDevice.state c.args.device.now) c.args.memory.now
+    c.relocate_usage.new.memory (IsBetween c.args.address (c.args.address + 1))
+    (ap (λ (v : LogMemory). v.dirty) c.in-Err-relocate_usage.ensures.same))
+    (usage_lost (g.D.SectorDevice.state c.args.device.now) c.args.memory.now c.name.inside.index c.in-Err-relocate_usage.ensures.lost)
 
 pub returns-in_default-clause-left : goal.returns-in_default-clause-left
 returns-in_default-clause-left g c =
@@ -42,27 +54,3 @@ returns-in_default-clause-left g c =
     (subst (λ (x : Entry). HasLeft (g.D.SectorDevice.state c.args.device.now) (g.D.SectorDevice.state c.relocate_file_block.new.device)
     c.args.memory.now c.relocate_file_block.new.memory x c.args.address) c.key_of.ensures)
     c.relocate_file_block.ensures.left
-
-pub returns-in-Ok-clause-came : goal.returns-in-Ok-clause-came
-returns-in-Ok-clause-came g c =
-    came_none (g.D.SectorDevice.state c.args.device.now) (g.D.SectorDevice.state c.args.device.now) c.args.memory.now
-    c.relocate_map.new.memory (IsBetween c.args.address (c.args.address + 1))
-    (map_dirty c.args.memory.now c.relocate_map.new.memory c.name.inside.index c.in-Ok.ensures.done)
-
-pub returns-in-Err-clause-came : goal.returns-in-Err-clause-came
-returns-in-Err-clause-came g c =
-    came_none (g.D.SectorDevice.state c.args.device.now) (g.D.SectorDevice.state c.args.device.now) c.args.memory.now
-    c.relocate_map.new.memory (IsBetween c.args.address (c.args.address + 1))
-    (ap (λ (v : LogMemory). v.dirty) c.in-Err.ensures.same)
-
-pub returns-in-Ok-relocate_usage-clause-came : goal.returns-in-Ok-relocate_usage-clause-came
-returns-in-Ok-relocate_usage-clause-came g c =
-    came_none (g.D.SectorDevice.state c.args.device.now) (g.D.SectorDevice.state c.args.device.now) c.args.memory.now
-    c.relocate_usage.new.memory (IsBetween c.args.address (c.args.address + 1))
-    (usage_dirty c.args.memory.now c.relocate_usage.new.memory c.name.inside.index c.in-Ok-relocate_usage.ensures.done)
-
-pub returns-in-Err-relocate_usage-clause-came : goal.returns-in-Err-relocate_usage-clause-came
-returns-in-Err-relocate_usage-clause-came g c =
-    came_none (g.D.SectorDevice.state c.args.device.now) (g.D.SectorDevice.state c.args.device.now) c.args.memory.now
-    c.relocate_usage.new.memory (IsBetween c.args.address (c.args.address + 1))
-    (ap (λ (v : LogMemory). v.dirty) c.in-Err-relocate_usage.ensures.same)

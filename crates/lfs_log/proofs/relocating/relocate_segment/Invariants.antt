@@ -1,6 +1,7 @@
-use Rattle.std.proofs.Common.{◌≡◌, ◌≤◌, ◌+◌, ◌*◌, ◌-◌}
+use Rattle.std.proofs.Common.{◌≡◌, ◌≤◌, ◌-◌}
 use Rattle.lfs_memory.specs.segments.Table.{used_of}
-use Rattle.lfs_log.specs.Relocating.{CameFrom, IsBetween, Relocates}
+use Rattle.lfs_log.specs.Relocating.{IsInSegment}
+use Rattle.lfs_log.proofs.Relocations.{HasRelocated}
 use Rattle.lfs_log.proofs.Vacated.{ClearsTo}
 use Rattle.lfs_log.proofs.relocating.relocate_segment.Given as goal
 
@@ -9,10 +10,8 @@ invariant-loop-at g l =
     let old = g.D.SectorDevice.state l.initial.device in
     let now = g.D.SectorDevice.state l.device in
     record {
-      relocates : Relocates old now l.initial.memory l.memory;
+      so_far : HasRelocated old now l.initial.memory l.memory (IsInSegment l.segment);
       clears : ClearsTo old now l.initial.memory l.memory l.segment l.used l.at;
-      came : CameFrom old now l.initial.memory l.memory (IsBetween (2 + 64 * l.segment) (66 + 64 * l.segment));
-      no_failure : now.failures ≡ old.failures;
       within : l.at ≤ l.used;
       used_is : l.used ≡ used_of l.initial.memory.usage l.segment;
       few : l.used ≤ 64;

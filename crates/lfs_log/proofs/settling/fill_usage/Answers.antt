@@ -1,4 +1,4 @@
-use Rattle.std.proofs.Common.{◌+◌, ◌/◌, ◌∙◌, ap, refl, ℕ, arith}
+use Rattle.std.proofs.Common.{◌∙◌, refl, arith}
 use Rattle.lfs_memory.proofs.Going.{goes_none, goes_then, stops_then, on_err}
 use Rattle.lfs_log.proofs.UsageWrites.{filled_fresh, filled_anew}
 use Rattle.lfs_log.proofs.settling.fill_usage.Goals as goal
@@ -8,7 +8,7 @@ loop-index-init g c =
     record {
       goes = goes_none (g.D.SectorDevice.state c.args.device.now) c.args.memory.now
           (g.met.D.SectorDevice.lawful c.args.device.now) c.requires.memory;
-      end = ap (λ (n : ℕ). (n + 63) / 64) c.segments.ensures.value;
+      end = c.block_count-index-end.ensures.count;
       anew = c.requires.anew;
       fresh = λ j lt. absurd (omega arith);
       segments = refl;

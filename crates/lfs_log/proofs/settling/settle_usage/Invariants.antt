@@ -1,7 +1,6 @@
 use Rattle.std.proofs.Common.{◌≡◌, ◌≤◌, ◌+◌}
-use Rattle.lfs_memory.specs.Memory.{Goes}
 use Rattle.lfs_log.proofs.UsageCounts.{out_count}
-use Rattle.lfs_log.specs.Telling.{orders_due}
+use Rattle.lfs_log.specs.Placing.{SavesBlocks}
 use Rattle.lfs_log.proofs.settling.settle_usage.Given as goal
 
 abbrev pub invariant-loop-round : goal.invariant-loop-round
@@ -9,9 +8,8 @@ invariant-loop-round g l =
     let old = g.D.SectorDevice.state l.initial.device in
     let now = g.D.SectorDevice.state l.device in
     record {
-      goes : Goes old now l.initial.memory l.memory l.round;
+      saves : SavesBlocks old now l.initial.memory l.memory l.round 0;
       left : out_count l.memory.usage + l.round ≤ 16;
       map : l.memory.map ≡ l.initial.memory.map;
       dirty : l.memory.dirty ≡ l.initial.memory.dirty;
-      tells : orders_due now l.memory ≤ orders_due old l.initial.memory;
     }

@@ -30,7 +30,7 @@ returns-in-Err-Device-clause-failed g c is =
       totals = c.self.inside.totals;
     } in
     subst (λ (h : Held g.row.D.Denot). IsReadFault g.D.SectorDevice.state h after) c.self.view_is
-    (read_fault g.D.SectorDevice.state before after (c.in-Err-Device.ensures.failed (search rules)))
+    (read_fault g.D.SectorDevice.state before after (c.in-Err-Device.ensures.reads.failed (search rules)))
 
 pub save-requires-clause-spare : goal.save-requires-clause-spare
 save-requires-clause-spare g c =
@@ -75,7 +75,7 @@ returns-clause-done g c =
     (g.met.D.SectorDevice.lawful c.self.inside.device) c.in-Ok.ensures.done
     (c.if-not-may_clean.ensures.yes (search rules)) c.requires few c.save.new.device c.save.new.memory c.set_limit.new.self
     c.self.inside.halted c.if-self.false c.set_limit.ensures.blocks
-    c.in-Ok.ensures.no_failure c.in-Ok-save.ensures.done)
+    c.in-Ok.ensures.reads.no_failure c.in-Ok-save.ensures.done)
 
 pub returns-in_default-clause-halted : goal.returns-in_default-clause-halted
 returns-in_default-clause-halted g c is ne =
@@ -102,4 +102,4 @@ returns-in_default-clause-halted g c is ne =
     subst (λ (h : Held g.row.D.Denot). Halts g.D.SectorDevice.state h after) c.self.view_is
     (pass_halts g.D.SectorDevice.state before (g.D.SectorDevice.state c.relocate.new.device) c.relocate.new.memory c.args.victims.now
     (g.met.D.SectorDevice.lawful c.self.inside.device) c.in-Ok.ensures.done
-    c.save.new.device c.save.new.memory c.in-Ok.ensures.no_failure c.in_default.ensures.stopped)
+    c.save.new.device c.save.new.memory c.in-Ok.ensures.reads.no_failure c.in_default.ensures.stopped)
