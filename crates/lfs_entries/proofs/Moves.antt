@@ -433,7 +433,8 @@ module _ {S D : Type 0} (s a b t : FilesState S D) (source : Source) (target : T
       second_has None adds m x keeps has =
           let f = adds.has m x keeps has in record { map = f.map; has = f.has; named = record { file = f.file; more = f.more } }
       second_has (Some o) repoints m x keeps has =
-          let f = repoints.has m x keeps has in record { map = f.map; has = f.has; named = f.names }
+          let f = repoints.has m x keeps has in
+          record { map = f.map; has = f.has; named = record { place = repoints.place; file = f.file; names = f.names } }
 
       pub move_drafted : DraftsMove s s' source target is_open
       move_drafted = record {

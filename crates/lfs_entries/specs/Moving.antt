@@ -1,5 +1,5 @@
 -- An object drafted under another name, in place of what has it.
-use Rattle.std.specs.Prelude.{◌≡◌, ◌≢◌, ◌<◌, ◌≤◌, ◌+◌, ◌-◌, ◌==◌, ◌&&◌, ◌||◌, not, ℕ, Bool, true, false, List, length, max}
+use Rattle.std.specs.Prelude.{◌≡◌, ◌≢◌, ◌<◌, ◌≤◌, ◌+◌, ◌-◌, ◌*◌, ◌==◌, ◌&&◌, ◌||◌, not, ℕ, Bool, true, false, List, length, max}
 use Rattle.std.specs.Prelude.{if◌then◌else◌, Option, Some, None, is_some, is_none}
 use Rattle.lfs_model.specs.Encodes.{IsLogMap}
 use Rattle.lfs_model.specs.Entry.{Entry}
@@ -8,7 +8,7 @@ use Rattle.lfs_model.specs.Slot.{IsName}
 use Rattle.lfs_model.specs.Stands.{LogMap}
 use Rattle.lfs_model.specs.Tree.{name_len, slot_len}
 use Rattle.lfs_files.specs.declared.header.Header.{Header}
-use Rattle.lfs_files.specs.Files.{AreCounted, FilesState, IsApart}
+use Rattle.lfs_files.specs.Files.{AreCounted, FilesState, IsApart, WritesFile}
 use Rattle.lfs_files.specs.Headers.{FitsHeader, as_header, relinked}
 use Rattle.lfs_files.specs.Making.{TakesLinks}
 use Rattle.lfs_path.specs.dirs.Adding.{Adds, slot_for}
@@ -149,10 +149,16 @@ abbrev pub HasFoundName : Option Object → ℕ → Header → List ℕ → LogM
 HasFoundName None d head name m = Unit {0}
 HasFoundName (Some o) d head name m = HasNamed d head name m
 
+-- A slot of directory d is another; where it is a directory, a name that it has gives number n.
+pub record Renumbers (m m' : LogMap) (d : ℕ) (head : Header) (n : ℕ) (name : List ℕ) : Type 0 where
+  pub place : ℕ
+  pub file : WritesFile m m' d head head (slot_len head.form * place) (slot_for head.form n name)
+  pub names : IsDirectory m d (as_header head) → RepointsName m m' d head n name
+
 -- the name gives number n in the log map
 abbrev pub NamedFound : Option Object → LogMap → LogMap → ℕ → Header → ℕ → List ℕ → Type 0
 NamedFound None m m' d head n name = Names m m' d head n name
-NamedFound (Some o) m m' d head n name = IsDirectory m d (as_header head) → RepointsName m m' d head n name
+NamedFound (Some o) m m' d head n name = Renumbers m m' d head n name
 
 -- the size of the directory with it
 abbrev pub size_with : Option Object → Header → ℕ → List ℕ → ℕ

@@ -1,5 +1,5 @@
 //! Names, and links of what has them, drafted.
-ghost use Rattle.std.specs.Prelude.{◌≡◌, ◌≤◌, ◌<◌, ◌+◌, true, false, IfOk, IfErr, OnOk, IsErrOf};
+ghost use Rattle.std.specs.Prelude.{◌≡◌, ◌≤◌, ◌<◌, ◌+◌, true, false, IfOk, IfErr, OnOk};
 ghost use Rattle.lfs_model.specs.Slot.{IsName};
 ghost use Rattle.lfs_model.specs.Tree.{name_len};
 ghost use Rattle.lfs_files.specs.Files.{Redrafts};
@@ -9,7 +9,7 @@ ghost use Rattle.lfs_path.specs.dirs.Growing.{GrowsDirectory};
 ghost use Rattle.lfs_path.specs.dirs.Taking.{CountsDropped, Takes};
 ghost use Rattle.lfs_entries.specs.Drafting.{HasNamed, Relinks};
 ghost use Rattle.lfs_entries.specs.Sizes.{IsSmall};
-ghost use Rattle.lfs_entries.specs.Telling.{FailsAt, FailsWhere};
+ghost use Rattle.lfs_entries.specs.Telling.{DraftsOnly, FailsAt, FailsWhere};
 
 use crate::entry::with_links;
 use crate::fault::EntryFault;
@@ -30,16 +30,13 @@ pub fn take_name<F: Files>(
     place: u32,
 ) -> Result<(), EntryFault>
     requires size { IsSmall holder }
-    ensures redrafts { Redrafts (F.state files.old) (F.state files.new) }
+    ensures only { DraftsOnly (F.state files.old) (F.state files.new) result }
     ensures done { OnOk result (Takes (F.state files.old) (F.state files.new) directory.value holder
         name.now) }
     ensures counted { OnOk result (CountsDropped (F.state files.old) (F.state files.new)
         directory.value holder) }
     ensures failed { IfErr result (FailsWhere (F.state files.old) (F.state files.new)
         (HasNamed directory.value holder name.now)) }
-    ensures halted { IsErrOf result (EntryFault.Log LogFault.Halted)
-        → (F.state files.old).halted ≡ true }
-    ensures other { IsErrOf result (EntryFault.Log LogFault.Full) → ⊥ }
 {
     let found = take(files, directory, holder, name, place)?;
     if !found {

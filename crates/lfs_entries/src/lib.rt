@@ -19,7 +19,7 @@ mod replacing;
 mod rows;
 mod sizes;
 
-pub use entry::{Entry, Object};
+pub use entry::{Entry, Object, is_directory};
 pub use fault::EntryFault;
 pub use lfs_path as path;
 pub use listing::{list_entries, list_rows};
@@ -33,3 +33,4 @@ pub use old_name::drop_entry;
 pub use reading::{read_head, read_link, read_object};
 pub use renaming::check_rename;
 pub use rows::{ListedEntry, TreeRow};
+pub use sizes::is_too_large;

@@ -1,16 +1,15 @@
 //! The names of one directory, with what is told of their objects.
-ghost use Rattle.std.specs.Prelude.{◌≡◌, ◌++◌, ◌∷◌, [], true, IfOk, IfErr, OnOk, IsErrOf};
-ghost use Rattle.lfs_files.specs.Files.{Reads};
+ghost use Rattle.std.specs.Prelude.{◌≡◌, ◌++◌, ◌∷◌, [], IfOk, IfErr, OnOk};
 ghost use Rattle.lfs_path.specs.dirs.Directory.{names_at};
 ghost use Rattle.lfs_path.specs.dirs.Listing.{pair, pairs};
 ghost use Rattle.lfs_path.specs.Seeing.{HasObject};
 ghost use Rattle.lfs_entries.specs.Rows.{AreThere, AreTold, IsListable, IsListed, IsRow};
-ghost use Rattle.lfs_entries.specs.Telling.{FailsWhere, InEach};
+ghost use Rattle.lfs_entries.specs.Telling.{AsksOnly, FailsWhere, InEach};
 
 use crate::fault::EntryFault;
 use crate::reading::read_head;
 use crate::rows::{ListedEntry, TreeRow};
-use lfs_files::{Files, Header, LogFault};
+use lfs_files::{Files, Header};
 use lfs_model::FileNumber;
 use lfs_path::dirs::{Entry, list};
 use lfs_path::header_of;
@@ -29,14 +28,11 @@ pub fn list_entries<F: Files>(
     directory: FileNumber,
     header: Header,
 ) -> Result<Vec<ListedEntry>, EntryFault>
-    ensures reads { Reads (F.state files.old) (F.state files.new) }
+    ensures only { AsksOnly (F.state files.old) (F.state files.new) result }
     ensures answer { IfOk result (λ told. InEach (F.state files.old) (F.state files.new)
         (λ m. AreTold (IsListed m) (names_at m directory.value header) told.items)) }
     ensures failed { IfErr result (FailsWhere (F.state files.old) (F.state files.new)
         (IsListable directory.value header)) }
-    ensures halted { IsErrOf result (EntryFault.Log LogFault.Halted)
-        → (F.state files.old).halted ≡ true }
-    ensures other { IsErrOf result (EntryFault.Log LogFault.Full) → ⊥ }
 {
     let names = list(alloc, files, directory, header)?;
     entries_of(alloc, files, names)
@@ -53,14 +49,11 @@ pub fn list_rows<F: Files>(
     directory: FileNumber,
     header: Header,
 ) -> Result<Vec<TreeRow>, EntryFault>
-    ensures reads { Reads (F.state files.old) (F.state files.new) }
+    ensures only { AsksOnly (F.state files.old) (F.state files.new) result }
     ensures answer { IfOk result (λ told. InEach (F.state files.old) (F.state files.new)
         (λ m. AreTold (IsRow m directory.value) (names_at m directory.value header) told.items)) }
     ensures failed { IfErr result (FailsWhere (F.state files.old) (F.state files.new)
         (IsListable directory.value header)) }
-    ensures halted { IsErrOf result (EntryFault.Log LogFault.Halted)
-        → (F.state files.old).halted ≡ true }
-    ensures other { IsErrOf result (EntryFault.Log LogFault.Full) → ⊥ }
 {
     let names = list(alloc, files, directory, header)?;
     rows_of(alloc, files, directory, names)
@@ -72,14 +65,11 @@ fn entries_of<F: Files>(
     files: &mut F,
     names: Vec<Entry>,
 ) -> Result<Vec<ListedEntry>, EntryFault>
-    ensures reads { Reads (F.state files.old) (F.state files.new) }
+    ensures only { AsksOnly (F.state files.old) (F.state files.new) result }
     ensures answer { IfOk result (λ told. InEach (F.state files.old) (F.state files.new)
         (λ m. AreTold (IsListed m) (pairs names.items) told.items)) }
     ensures failed { IfErr result (FailsWhere (F.state files.old) (F.state files.new)
         (AreThere (pairs names.items))) }
-    ensures halted { IsErrOf result (EntryFault.Log LogFault.Halted)
-        → (F.state files.old).halted ≡ true }
-    ensures other { IsErrOf result (EntryFault.Log LogFault.Full) → ⊥ }
 {
     let Ok(mut entries) = Vec::with_capacity(alloc, names.len()) else {
         return Err(EntryFault::NoMemory);
@@ -97,14 +87,11 @@ fn rows_of<F: Files>(
     directory: FileNumber,
     names: Vec<Entry>,
 ) -> Result<Vec<TreeRow>, EntryFault>
-    ensures reads { Reads (F.state files.old) (F.state files.new) }
+    ensures only { AsksOnly (F.state files.old) (F.state files.new) result }
     ensures answer { IfOk result (λ told. InEach (F.state files.old) (F.state files.new)
         (λ m. AreTold (IsRow m directory.value) (pairs names.items) told.items)) }
     ensures failed { IfErr result (FailsWhere (F.state files.old) (F.state files.new)
         (AreThere (pairs names.items))) }
-    ensures halted { IsErrOf result (EntryFault.Log LogFault.Halted)
-        → (F.state files.old).halted ≡ true }
-    ensures other { IsErrOf result (EntryFault.Log LogFault.Full) → ⊥ }
 {
     let Ok(mut rows) = Vec::with_capacity(alloc, names.len()) else {
         return Err(EntryFault::NoMemory);
@@ -121,15 +108,12 @@ fn push_entry<F: Files>(
     name: Entry,
     entries: &mut Vec<ListedEntry>,
 ) -> Result<(), EntryFault>
-    ensures reads { Reads (F.state files.old) (F.state files.new) }
+    ensures only { AsksOnly (F.state files.old) (F.state files.new) result }
     ensures done { OnOk result ((told : ListedEntry)
         × (entries.new.items ≡ entries.old.items ++ told ∷ [])
         × InEach (F.state files.old) (F.state files.new) (λ m. IsListed m (pair name) told)) }
     ensures failed { IfErr result (FailsWhere (F.state files.old) (F.state files.new)
         (HasObject name.number.value)) }
-    ensures halted { IsErrOf result (EntryFault.Log LogFault.Halted)
-        → (F.state files.old).halted ≡ true }
-    ensures other { IsErrOf result (EntryFault.Log LogFault.Full) → ⊥ }
 {
     let header = header_of(files, name.number)?;
     let entry = ListedEntry {
@@ -151,16 +135,13 @@ fn push_row<F: Files>(
     name: Entry,
     rows: &mut Vec<TreeRow>,
 ) -> Result<(), EntryFault>
-    ensures reads { Reads (F.state files.old) (F.state files.new) }
+    ensures only { AsksOnly (F.state files.old) (F.state files.new) result }
     ensures done { OnOk result ((told : TreeRow)
         × (rows.new.items ≡ rows.old.items ++ told ∷ [])
         × InEach (F.state files.old) (F.state files.new)
         (λ m. IsRow m directory.value (pair name) told)) }
     ensures failed { IfErr result (FailsWhere (F.state files.old) (F.state files.new)
         (HasObject name.number.value)) }
-    ensures halted { IsErrOf result (EntryFault.Log LogFault.Halted)
-        → (F.state files.old).halted ≡ true }
-    ensures other { IsErrOf result (EntryFault.Log LogFault.Full) → ⊥ }
 {
     let header = header_of(files, name.number)?;
     let head = read_head(alloc, files, name.number, header)?;

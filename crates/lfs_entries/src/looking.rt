@@ -1,10 +1,10 @@
 //! A name looked up in a directory.
-ghost use Rattle.std.specs.Prelude.{◌≡◌, ◌≤◌, true, length, IfOk, IfErr, IsErrOf};
+ghost use Rattle.std.specs.Prelude.{◌≤◌, length, IfOk, IfErr};
 ghost use Rattle.lfs_model.specs.Tree.{name_len};
-ghost use Rattle.lfs_files.specs.Files.{Reads};
 ghost use Rattle.lfs_path.specs.dirs.Finding.{value_of};
 ghost use Rattle.lfs_entries.specs.Looking.{FindsName, FindsNumber, RefusesLook};
 ghost use Rattle.lfs_entries.specs.Sizes.{IsSmall};
+ghost use Rattle.lfs_entries.specs.Telling.{AsksOnly};
 
 use crate::entry::Object;
 use crate::fault::EntryFault;
@@ -26,15 +26,12 @@ pub fn look_in<F: Files>(
     directory: FileNumber,
     name: &[u8],
 ) -> Result<(Header, Option<Found>), EntryFault>
-    ensures reads { Reads (F.state files.old) (F.state files.new) }
+    ensures only { AsksOnly (F.state files.old) (F.state files.new) result }
     ensures found { IfOk result (λ r. FindsNumber (F.state files.old) (F.state files.new)
         directory.value name.now r.0 (value_of r.1)) }
     ensures short { IfOk result (λ r. length name.now ≤ name_len r.0.form) }
     ensures refused { IfErr result (RefusesLook (F.state files.old) (F.state files.new)
         directory.value name.now) }
-    ensures halted { IsErrOf result (EntryFault.Log LogFault.Halted)
-        → (F.state files.old).halted ≡ true }
-    ensures other { IsErrOf result (EntryFault.Log LogFault.Full) → ⊥ }
 {
     let header = header_of(files, directory)?;
     let longest = longest_name(header.form);
@@ -56,16 +53,13 @@ pub fn look_at<F: Files>(
     directory: FileNumber,
     name: &[u8],
 ) -> Result<(Header, Option<Object>), EntryFault>
-    ensures reads { Reads (F.state files.old) (F.state files.new) }
+    ensures only { AsksOnly (F.state files.old) (F.state files.new) result }
     ensures found { IfOk result (λ r. FindsName (F.state files.old) (F.state files.new)
         directory.value name.now r.0 r.1) }
     ensures size { IfOk result (λ r. IsSmall r.0) }
     ensures short { IfOk result (λ r. length name.now ≤ name_len r.0.form) }
     ensures refused { IfErr result (RefusesLook (F.state files.old) (F.state files.new)
         directory.value name.now) }
-    ensures halted { IsErrOf result (EntryFault.Log LogFault.Halted)
-        → (F.state files.old).halted ≡ true }
-    ensures other { IsErrOf result (EntryFault.Log LogFault.Full) → ⊥ }
 {
     let (holder, found) = look_in(files, directory, name)?;
     // No volume has such a directory.

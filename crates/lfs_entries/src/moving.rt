@@ -1,5 +1,5 @@
 //! A name drafted in another's place.
-ghost use Rattle.std.specs.Prelude.{◌≡◌, ◌==◌, true, None, IfOk, IfErr, OnOk, IsErrOf, if◌then◌else◌};
+ghost use Rattle.std.specs.Prelude.{◌≡◌, ◌==◌, None, IfOk, IfErr, OnOk, if◌then◌else◌};
 ghost use Rattle.lfs_model.specs.Slot.{IsName};
 ghost use Rattle.lfs_model.specs.Tree.{name_len};
 ghost use Rattle.lfs_files.specs.Files.{Counts, Redrafts};
@@ -9,7 +9,7 @@ ghost use Rattle.lfs_path.specs.dirs.Taking.{shrunk};
 ghost use Rattle.lfs_entries.specs.Drafting.{HasNamed};
 ghost use Rattle.lfs_entries.specs.Moving.{CountsMove, DraftsMove, HasFoundName, HasNames, LosesFound, MayMove, NamesFound, RelinksBoth, first_holder, gains_directory as gains_of, loses_directory as loses_of, second_linked};
 ghost use Rattle.lfs_entries.specs.Sizes.{HasRoom, IsSmall};
-ghost use Rattle.lfs_entries.specs.Telling.{FailsAt, FailsWhere};
+ghost use Rattle.lfs_entries.specs.Telling.{DraftsOnly, FailsAt, FailsWhere};
 
 use crate::drafting::{relink_where, take_name};
 use crate::entry::{Object, is_directory};
@@ -55,7 +55,7 @@ pub fn draft_move<F: Files>(
 ) -> Result<(), EntryFault>
     requires may { MayMove source target }
     requires empty { (F.state files.old).empty }
-    ensures redrafts { Redrafts (F.state files.old) (F.state files.new) }
+    ensures only { DraftsOnly (F.state files.old) (F.state files.new) result }
     ensures done { OnOk result (DraftsMove (F.state files.old) (F.state files.new)
         source.entry target.entry is_open) }
     ensures small { OnOk result (GrowsDirectory (F.state files.old) (F.state files.new) 6 4) }
@@ -63,9 +63,6 @@ pub fn draft_move<F: Files>(
         source.entry target.entry) }
     ensures failed { IfErr result (FailsWhere (F.state files.old) (F.state files.new)
         (HasNames source.entry target.entry)) }
-    ensures halted { IsErrOf result (EntryFault.Log LogFault.Halted)
-        → (F.state files.old).halted ≡ true }
-    ensures other { IsErrOf result (EntryFault.Log LogFault.Full) → ⊥ }
 {
     drop_replaced(files, target.replaced, is_open)?;
     let (from, to) = relink_holders(files, source, target)?;
@@ -87,14 +84,11 @@ fn drop_replaced<F: Files>(
     is_open: bool,
 ) -> Result<(), EntryFault>
     requires empty { (F.state files.old).empty }
-    ensures redrafts { Redrafts (F.state files.old) (F.state files.new) }
+    ensures only { DraftsOnly (F.state files.old) (F.state files.new) result }
     ensures done { OnOk result (LosesFound (F.state files.old) (F.state files.new) replaced
         is_open) }
     ensures small { OnOk result (GrowsDirectory (F.state files.old) (F.state files.new) 1 0) }
     ensures failed { IfErr result (FailsAt (F.state files.old) (F.state files.new)) }
-    ensures halted { IsErrOf result (EntryFault.Log LogFault.Halted)
-        → (F.state files.old).halted ≡ true }
-    ensures other { IsErrOf result (EntryFault.Log LogFault.Full) → ⊥ }
 {
     match replaced {
         None => Ok(()),
@@ -137,7 +131,7 @@ fn draft_target<F: Files>(
     requires size { IsSmall holder }
     requires room { target.replaced ≡ None → HasRoom holder }
     requires name { IsName (name_len holder.form) target.name.now }
-    ensures redrafts { Redrafts (F.state files.old) (F.state files.new) }
+    ensures only { DraftsOnly (F.state files.old) (F.state files.new) result }
     ensures done { OnOk result (NamesFound (F.state files.old) (F.state files.new)
         target.entry.replaced target.entry.directory.value holder number.value
         target.entry.name.now) }
@@ -146,9 +140,6 @@ fn draft_target<F: Files>(
     ensures failed { IfErr result (FailsWhere (F.state files.old) (F.state files.new)
         (HasFoundName target.entry.replaced target.entry.directory.value holder
         target.entry.name.now)) }
-    ensures halted { IsErrOf result (EntryFault.Log LogFault.Halted)
-        → (F.state files.old).halted ≡ true }
-    ensures other { IsErrOf result (EntryFault.Log LogFault.Full) → ⊥ }
 {
     match target.replaced {
         None => {
@@ -179,16 +170,13 @@ fn repoint_name<F: Files>(
 ) -> Result<(), EntryFault>
     requires size { IsSmall holder }
     requires name { IsName (name_len holder.form) name.now }
-    ensures redrafts { Redrafts (F.state files.old) (F.state files.new) }
+    ensures only { DraftsOnly (F.state files.old) (F.state files.new) result }
     ensures done { OnOk result (Repoints (F.state files.old) (F.state files.new) directory.value
         holder number.value name.now) }
     ensures small { OnOk result (GrowsDirectory (F.state files.old) (F.state files.new) 1 2) }
     ensures counted { OnOk result (Counts (F.state files.old) (F.state files.new)) }
     ensures failed { IfErr result (FailsWhere (F.state files.old) (F.state files.new)
         (HasNamed directory.value holder name.now)) }
-    ensures halted { IsErrOf result (EntryFault.Log LogFault.Halted)
-        → (F.state files.old).halted ≡ true }
-    ensures other { IsErrOf result (EntryFault.Log LogFault.Full) → ⊥ }
 {
     let found = repoint(files, directory, holder, name, place, number)?;
     if !found {

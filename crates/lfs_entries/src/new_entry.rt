@@ -1,12 +1,12 @@
 //! The rule of a new entry of a directory.
-ghost use Rattle.std.specs.Prelude.{◌≡◌, ◌&&◌, not, true, IfOk, IfErr, IsErrOf};
-ghost use Rattle.lfs_files.specs.Files.{Reads};
+ghost use Rattle.std.specs.Prelude.{◌≡◌, ◌&&◌, not, IfOk, IfErr};
 ghost use Rattle.lfs_entries.specs.NewEntries.{RefusesEntry, TakesEntry};
+ghost use Rattle.lfs_entries.specs.Telling.{AsksOnly};
 
 use crate::fault::EntryFault;
 use crate::looking::look_in;
 use crate::sizes::is_full;
-use lfs_files::{Files, Header, LogFault};
+use lfs_files::{Files, Header};
 use lfs_layout::is_name;
 use lfs_model::FileNumber;
 use lfs_path::Last;
@@ -26,14 +26,11 @@ pub fn check_new_entry<F: Files>(
     last: Last<'_>,
     is_mkdir: bool,
 ) -> Result<Header, EntryFault>
-    ensures reads { Reads (F.state files.old) (F.state files.new) }
+    ensures only { AsksOnly (F.state files.old) (F.state files.new) result }
     ensures taken { IfOk result (TakesEntry (F.state files.old) (F.state files.new)
         directory.value last.entry.name.now last.entry.slash is_mkdir) }
     ensures refused { IfErr result (RefusesEntry (F.state files.old) (F.state files.new)
         directory.value last.entry.name.now last.entry.slash is_mkdir) }
-    ensures halted { IsErrOf result (EntryFault.Log LogFault.Halted)
-        → (F.state files.old).halted ≡ true }
-    ensures other { IsErrOf result (EntryFault.Log LogFault.Full) → ⊥ }
 {
     if is_dots(last.name) {
         return Err(EntryFault::Exist);

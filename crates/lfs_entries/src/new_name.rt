@@ -1,18 +1,17 @@
 //! New names drafted: of new objects, and of such that have one.
-ghost use Rattle.std.specs.Prelude.{◌≡◌, ◌<◌, ◌+◌, true, IfErr, OnOk, IsErrOf, if◌then◌else◌};
+ghost use Rattle.std.specs.Prelude.{◌≡◌, ◌<◌, ◌+◌, true, IfErr, OnOk, if◌then◌else◌};
 ghost use Rattle.lfs_model.specs.Slot.{IsName};
 ghost use Rattle.lfs_model.specs.Tree.{name_len};
-ghost use Rattle.lfs_files.specs.Files.{Redrafts};
 ghost use Rattle.lfs_path.specs.dirs.Growing.{GrowsDirectory};
 ghost use Rattle.lfs_entries.specs.NewNames.{CountsEntry, CountsName, DraftsEntry, DraftsName};
 ghost use Rattle.lfs_entries.specs.NewObjects.{IsGood, makes_directory, new_kind};
 ghost use Rattle.lfs_entries.specs.Sizes.{HasRoom};
-ghost use Rattle.lfs_entries.specs.Telling.{FailsAt};
+ghost use Rattle.lfs_entries.specs.Telling.{DraftsOnly, FailsAt};
 
 use crate::drafting::relink_where;
 use crate::fault::EntryFault;
 use crate::new_object::{NewObject, draft_object};
-use lfs_files::{Files, Header, LogFault};
+use lfs_files::{Files, Header};
 use lfs_model::FileNumber;
 use lfs_model::limits::MOST_LINKS;
 use lfs_path::dirs::add;
@@ -35,16 +34,13 @@ pub fn draft_entry<F: Files>(
     requires linked { makes_directory (new_kind object) ≡ true → holder.links < MOST_LINKS }
     requires text { IsGood (new_kind object) }
     requires name { IsName (name_len holder.form) name.now }
-    ensures redrafts { Redrafts (F.state files.old) (F.state files.new) }
+    ensures only { DraftsOnly (F.state files.old) (F.state files.new) result }
     ensures done { OnOk result (DraftsEntry (F.state files.old) (F.state files.new)
         directory.value holder number.value (new_kind object.entry) name.now) }
     ensures small { OnOk result (GrowsDirectory (F.state files.old) (F.state files.new) 4 4) }
     ensures counted { OnOk result (CountsEntry (F.state files.old) (F.state files.new)
         directory.value holder number.value (new_kind object.entry)) }
     ensures failed { IfErr result (FailsAt (F.state files.old) (F.state files.new)) }
-    ensures halted { IsErrOf result (EntryFault.Log LogFault.Halted)
-        → (F.state files.old).halted ≡ true }
-    ensures other { IsErrOf result (EntryFault.Log LogFault.Full) → ⊥ }
 {
     draft_object(files, number, object)?;
     let gains = is_new_directory(object);
@@ -70,16 +66,13 @@ pub fn draft_name<F: Files>(
     requires room { HasRoom holder }
     requires linked { header.links < MOST_LINKS }
     requires name { IsName (name_len holder.form) name.now }
-    ensures redrafts { Redrafts (F.state files.old) (F.state files.new) }
+    ensures only { DraftsOnly (F.state files.old) (F.state files.new) result }
     ensures done { OnOk result (DraftsName (F.state files.old) (F.state files.new)
         directory.value holder number.value header name.now) }
     ensures small { OnOk result (GrowsDirectory (F.state files.old) (F.state files.new) 2 2) }
     ensures counted { OnOk result (CountsName (F.state files.old) (F.state files.new)
         number.value header) }
     ensures failed { IfErr result (FailsAt (F.state files.old) (F.state files.new)) }
-    ensures halted { IsErrOf result (EntryFault.Log LogFault.Halted)
-        → (F.state files.old).halted ≡ true }
-    ensures other { IsErrOf result (EntryFault.Log LogFault.Full) → ⊥ }
 {
     files.set_links(number, header, header.links + 1)?;
     add(files, directory, holder, number, name)?;

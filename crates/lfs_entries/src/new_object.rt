@@ -1,13 +1,12 @@
 //! Objects drafted before they have a name.
-ghost use Rattle.std.specs.Prelude.{◌≡◌, true, None, IfErr, OnOk, IsErrOf};
+ghost use Rattle.std.specs.Prelude.{◌≡◌, None, IfErr, OnOk};
 ghost use Rattle.lfs_model.specs.PathText.{text_refusal};
-ghost use Rattle.lfs_files.specs.Files.{Redrafts};
 ghost use Rattle.lfs_path.specs.dirs.Growing.{GrowsDirectory};
 ghost use Rattle.lfs_entries.specs.NewObjects.{CountsObject, DraftsObject, IsGood, makes_directory, new_kind, new_link};
-ghost use Rattle.lfs_entries.specs.Telling.{FailsAt};
+ghost use Rattle.lfs_entries.specs.Telling.{DraftsOnly, FailsAt};
 
 use crate::fault::EntryFault;
-use lfs_files::{FIRST_FORM, Files, Header, LogFault};
+use lfs_files::{FIRST_FORM, Files, Header};
 use lfs_model::{FileNumber, Kind};
 
 /// What a new object is.
@@ -32,16 +31,13 @@ pub fn draft_object<F: Files>(
     object: NewObject<'_>,
 ) -> Result<(), EntryFault>
     requires text { IsGood (new_kind object) }
-    ensures redrafts { Redrafts (F.state files.old) (F.state files.new) }
+    ensures only { DraftsOnly (F.state files.old) (F.state files.new) result }
     ensures done { OnOk result (DraftsObject (F.state files.old) (F.state files.new)
         number.value (new_kind object.entry)) }
     ensures small { OnOk result (GrowsDirectory (F.state files.old) (F.state files.new) 2 2) }
     ensures counted { OnOk result (CountsObject (F.state files.old) (F.state files.new)
         number.value) }
     ensures failed { IfErr result (FailsAt (F.state files.old) (F.state files.new)) }
-    ensures halted { IsErrOf result (EntryFault.Log LogFault.Halted)
-        → (F.state files.old).halted ≡ true }
-    ensures other { IsErrOf result (EntryFault.Log LogFault.Full) → ⊥ }
 {
     match object {
         NewObject::File => {
@@ -59,16 +55,13 @@ pub fn draft_object<F: Files>(
 /// Drafts a link with its text, without a name.
 fn draft_link<F: Files>(files: &mut F, number: FileNumber, text: &[u8]) -> Result<(), EntryFault>
     requires good { text_refusal text.now ≡ None }
-    ensures redrafts { Redrafts (F.state files.old) (F.state files.new) }
+    ensures only { DraftsOnly (F.state files.old) (F.state files.new) result }
     ensures done { OnOk result (DraftsObject (F.state files.old) (F.state files.new)
         number.value (new_link text.now)) }
     ensures small { OnOk result (GrowsDirectory (F.state files.old) (F.state files.new) 2 2) }
     ensures counted { OnOk result (CountsObject (F.state files.old) (F.state files.new)
         number.value) }
     ensures failed { IfErr result (FailsAt (F.state files.old) (F.state files.new)) }
-    ensures halted { IsErrOf result (EntryFault.Log LogFault.Halted)
-        → (F.state files.old).halted ≡ true }
-    ensures other { IsErrOf result (EntryFault.Log LogFault.Full) → ⊥ }
 {
     let size = text.len() as u32;
     files.create_link(number, size)?;

@@ -1,7 +1,7 @@
 //! The rules of entries that are to go, or to get a further name.
-ghost use Rattle.std.specs.Prelude.{◌≡◌, true, IfOk, IfErr, IsErrOf};
-ghost use Rattle.lfs_files.specs.Files.{Reads};
+ghost use Rattle.std.specs.Prelude.{IfOk, IfErr};
 ghost use Rattle.lfs_entries.specs.OldEntries.{HasEmpty, HasEntry, RefusesEmpty, RefusesOld};
+ghost use Rattle.lfs_entries.specs.Telling.{AsksOnly};
 
 use crate::entry::{Entry, is_directory};
 use crate::fault::EntryFault;
@@ -26,14 +26,11 @@ pub fn check_old_entry<F: Files>(
     directory: FileNumber,
     last: Last<'_>,
 ) -> Result<Entry, EntryFault>
-    ensures reads { Reads (F.state files.old) (F.state files.new) }
+    ensures only { AsksOnly (F.state files.old) (F.state files.new) result }
     ensures has { IfOk result (HasEntry (F.state files.old) (F.state files.new)
         directory.value last.entry.name.now last.entry.slash) }
     ensures refused { IfErr result (RefusesOld (F.state files.old) (F.state files.new)
         directory.value last.entry.name.now last.entry.slash) }
-    ensures halted { IsErrOf result (EntryFault.Log LogFault.Halted)
-        → (F.state files.old).halted ≡ true }
-    ensures other { IsErrOf result (EntryFault.Log LogFault.Full) → ⊥ }
 {
     if is_dots(last.name) {
         return Err(EntryFault::Perm);
@@ -63,14 +60,11 @@ pub fn check_empty<F: Files>(
     directory: FileNumber,
     name: &[u8],
 ) -> Result<Entry, EntryFault>
-    ensures reads { Reads (F.state files.old) (F.state files.new) }
+    ensures only { AsksOnly (F.state files.old) (F.state files.new) result }
     ensures has { IfOk result (HasEmpty (F.state files.old) (F.state files.new)
         directory.value name.now) }
     ensures refused { IfErr result (RefusesEmpty (F.state files.old) (F.state files.new)
         directory.value name.now) }
-    ensures halted { IsErrOf result (EntryFault.Log LogFault.Halted)
-        → (F.state files.old).halted ≡ true }
-    ensures other { IsErrOf result (EntryFault.Log LogFault.Full) → ⊥ }
 {
     if is_dots(name) {
         return Err(EntryFault::Inval);

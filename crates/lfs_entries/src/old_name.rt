@@ -1,16 +1,15 @@
 //! Names drafted away, with a link of what they give.
-ghost use Rattle.std.specs.Prelude.{◌≡◌, ◌≤◌, ◌<◌, ◌-◌, true, IfErr, OnOk, IsErrOf, if◌then◌else◌};
-ghost use Rattle.lfs_files.specs.Files.{Redrafts};
+ghost use Rattle.std.specs.Prelude.{◌≡◌, ◌≤◌, ◌<◌, ◌-◌, true, IfErr, OnOk, if◌then◌else◌};
 ghost use Rattle.lfs_path.specs.dirs.Growing.{GrowsDirectory};
 ghost use Rattle.lfs_entries.specs.Entries.{is_directory as holds_names};
 ghost use Rattle.lfs_entries.specs.OldNames.{CountsDrop, CountsLoss, DraftsDrop, HasOld, Loses, stays};
 ghost use Rattle.lfs_entries.specs.Sizes.{IsSmall};
-ghost use Rattle.lfs_entries.specs.Telling.{FailsAt, FailsWhere};
+ghost use Rattle.lfs_entries.specs.Telling.{DraftsOnly, FailsAt, FailsWhere};
 
 use crate::drafting::{relink_where, take_name};
 use crate::entry::{Entry, is_directory};
 use crate::fault::EntryFault;
-use lfs_files::{Files, Header, LogFault};
+use lfs_files::{Files, Header};
 use lfs_model::FileNumber;
 
 /// Drafts a name away that is there, and with it a link of its object: without one it goes, unless
@@ -29,7 +28,7 @@ pub fn drop_entry<F: Files>(
     requires size { IsSmall entry.holder }
     requires linked { holds_names entry.object.header.kind ≡ true → 2 ≤ entry.holder.links }
     requires empty { (F.state files.old).empty }
-    ensures redrafts { Redrafts (F.state files.old) (F.state files.new) }
+    ensures only { DraftsOnly (F.state files.old) (F.state files.new) result }
     ensures done { OnOk result (DraftsDrop (F.state files.old) (F.state files.new)
         directory.value entry is_open name.now) }
     ensures small { OnOk result (GrowsDirectory (F.state files.old) (F.state files.new) 4 2) }
@@ -37,9 +36,6 @@ pub fn drop_entry<F: Files>(
         directory.value entry) }
     ensures failed { IfErr result (FailsWhere (F.state files.old) (F.state files.new)
         (HasOld directory.value entry name.now)) }
-    ensures halted { IsErrOf result (EntryFault.Log LogFault.Halted)
-        → (F.state files.old).halted ≡ true }
-    ensures other { IsErrOf result (EntryFault.Log LogFault.Full) → ⊥ }
 {
     let object = entry.object;
     lose_link(files, object.number, object.header, is_open)?;
@@ -62,16 +58,13 @@ pub fn lose_link<F: Files>(
     is_open: bool,
 ) -> Result<(), EntryFault>
     requires empty { (F.state files.old).empty }
-    ensures redrafts { Redrafts (F.state files.old) (F.state files.new) }
+    ensures only { DraftsOnly (F.state files.old) (F.state files.new) result }
     ensures done { OnOk result (Loses (F.state files.old) (F.state files.new) number.value header
         (stays header is_open)) }
     ensures small { OnOk result (GrowsDirectory (F.state files.old) (F.state files.new) 1 0) }
     ensures counted { OnOk result (CountsLoss (F.state files.old) (F.state files.new)
         number.value header) }
     ensures failed { IfErr result (FailsAt (F.state files.old) (F.state files.new)) }
-    ensures halted { IsErrOf result (EntryFault.Log LogFault.Halted)
-        → (F.state files.old).halted ≡ true }
-    ensures other { IsErrOf result (EntryFault.Log LogFault.Full) → ⊥ }
 {
     if keeps_object(header, is_open) {
         files.set_links(number, header, header.links.saturating_sub(1))?;

@@ -1,12 +1,11 @@
 //! What is read of objects that are there.
-ghost use Rattle.std.specs.Prelude.{◌≡◌, ◌≢◌, true, IfOk, IfErr, IsErrOf, IsTrue, IsFalse};
-ghost use Rattle.lfs_files.specs.Files.{Reads};
+ghost use Rattle.std.specs.Prelude.{◌≡◌, ◌≢◌, true, IfOk, IfErr, IsTrue, IsFalse};
 ghost use Rattle.lfs_path.specs.Seeing.{HasObject};
 ghost use Rattle.lfs_entries.specs.Reading.{ReadsObject, ReadsSized, ReadsText, RefusesText, ShowsHead};
-ghost use Rattle.lfs_entries.specs.Telling.{FailsAt, FailsWhere, InEach};
+ghost use Rattle.lfs_entries.specs.Telling.{AsksOnly, FailsAt, FailsWhere, InEach};
 
 use crate::fault::EntryFault;
-use lfs_files::{Files, Header, LogFault};
+use lfs_files::{Files, Header};
 use lfs_model::limits::LONGEST_PATH;
 use lfs_model::{FileNumber, Kind};
 use lfs_path::header_of;
@@ -31,14 +30,11 @@ pub fn read_object<F: Files>(
     offset: u64,
     len: u32,
 ) -> Result<Vec<u8>, EntryFault>
-    ensures reads { Reads (F.state files.old) (F.state files.new) }
+    ensures only { AsksOnly (F.state files.old) (F.state files.new) result }
     ensures answer { IfOk result (λ bytes. ReadsObject (F.state files.old) (F.state files.new)
         number.value offset len bytes.items) }
     ensures failed { IfErr result (FailsWhere (F.state files.old) (F.state files.new)
         (HasObject number.value)) }
-    ensures halted { IsErrOf result (EntryFault.Log LogFault.Halted)
-        → (F.state files.old).halted ≡ true }
-    ensures other { IsErrOf result (EntryFault.Log LogFault.Full) → ⊥ }
 {
     let header = header_of(files, number)?;
     read_sized(alloc, files, number, header.size, offset, len)
@@ -54,14 +50,11 @@ pub fn read_link<F: Files>(
     files: &mut F,
     number: FileNumber,
 ) -> Result<Vec<u8>, EntryFault>
-    ensures reads { Reads (F.state files.old) (F.state files.new) }
+    ensures only { AsksOnly (F.state files.old) (F.state files.new) result }
     ensures answer { IfOk result (λ text. ReadsText (F.state files.old) (F.state files.new)
         number.value text.items) }
     ensures refused { IfErr result (RefusesText (F.state files.old) (F.state files.new)
         number.value) }
-    ensures halted { IsErrOf result (EntryFault.Log LogFault.Halted)
-        → (F.state files.old).halted ≡ true }
-    ensures other { IsErrOf result (EntryFault.Log LogFault.Full) → ⊥ }
 {
     let header = header_of(files, number)?;
     if !is_link(header.kind) {
@@ -82,13 +75,10 @@ pub fn read_head<F: Files>(
     number: FileNumber,
     header: Header,
 ) -> Result<Vec<u8>, EntryFault>
-    ensures reads { Reads (F.state files.old) (F.state files.new) }
+    ensures only { AsksOnly (F.state files.old) (F.state files.new) result }
     ensures answer { IfOk result (λ head. InEach (F.state files.old) (F.state files.new)
         (λ m. ShowsHead m number.value header header.kind head.items)) }
     ensures failed { IfErr result (FailsAt (F.state files.old) (F.state files.new)) }
-    ensures halted { IsErrOf result (EntryFault.Log LogFault.Halted)
-        → (F.state files.old).halted ≡ true }
-    ensures other { IsErrOf result (EntryFault.Log LogFault.Full) → ⊥ }
 {
     match header.kind {
         Kind::File => read_sized(alloc, files, number, header.size, 0, LONGEST_HEAD),
@@ -106,13 +96,10 @@ fn read_sized<F: Files>(
     offset: u64,
     len: u32,
 ) -> Result<Vec<u8>, EntryFault>
-    ensures reads { Reads (F.state files.old) (F.state files.new) }
+    ensures only { AsksOnly (F.state files.old) (F.state files.new) result }
     ensures answer { IfOk result (λ bytes. InEach (F.state files.old) (F.state files.new)
         (ReadsSized number.value size offset len bytes.items)) }
     ensures failed { IfErr result (FailsAt (F.state files.old) (F.state files.new)) }
-    ensures halted { IsErrOf result (EntryFault.Log LogFault.Halted)
-        → (F.state files.old).halted ≡ true }
-    ensures other { IsErrOf result (EntryFault.Log LogFault.Full) → ⊥ }
 {
     let end = u64::from(size);
     let start = offset.min(end);

@@ -1,8 +1,8 @@
 //! What refuses an object another name.
-ghost use Rattle.std.specs.Prelude.{◌≡◌, ◌≢◌, ◌&&◌, not, true, IfOk, IfErr, IsErrOf, IsTrue, IsFalse};
-ghost use Rattle.lfs_files.specs.Files.{Reads};
+ghost use Rattle.std.specs.Prelude.{◌≡◌, ◌≢◌, ◌&&◌, not, true, IfOk, IfErr, IsTrue, IsFalse};
 ghost use Rattle.lfs_entries.specs.Entries.{is_directory as holds_names};
 ghost use Rattle.lfs_entries.specs.Renaming.{FindsSource, FindsTarget, GivesName, HaveOneForm, IsAbove, IsNotAbove, RefusesNext, RefusesRename, RefusesSource, TakesRename};
+ghost use Rattle.lfs_entries.specs.Telling.{AsksOnly};
 
 use crate::entry::{Object, is_directory};
 use crate::fault::EntryFault;
@@ -32,16 +32,13 @@ pub fn check_rename<'a, F: Files>(
     chain: Chain,
     to: Last<'a>,
 ) -> Result<Option<(Source<'a>, Target<'a>)>, EntryFault>
-    ensures reads { Reads (F.state files.old) (F.state files.new) }
+    ensures only { AsksOnly (F.state files.old) (F.state files.new) result }
     ensures taken { IfOk result (TakesRename (F.state files.old) (F.state files.new)
         directory.value from.entry.name.now from.entry.slash chain to.entry.name.now
         to.entry.slash) }
     ensures refused { IfErr result (RefusesRename (F.state files.old) (F.state files.new)
         directory.value from.entry.name.now from.entry.slash chain to.entry.name.now
         to.entry.slash) }
-    ensures halted { IsErrOf result (EntryFault.Log LogFault.Halted)
-        → (F.state files.old).halted ≡ true }
-    ensures other { IsErrOf result (EntryFault.Log LogFault.Full) → ⊥ }
 {
     let source = find_source(files, directory, from)?;
     let target = find_target(files, chain.directory(), to, source.object.header.kind)?;
@@ -65,14 +62,11 @@ fn find_source<'a, F: Files>(
     directory: FileNumber,
     last: Last<'a>,
 ) -> Result<Source<'a>, EntryFault>
-    ensures reads { Reads (F.state files.old) (F.state files.new) }
+    ensures only { AsksOnly (F.state files.old) (F.state files.new) result }
     ensures found { IfOk result (FindsSource (F.state files.old) (F.state files.new)
         directory.value last.entry.name.now last.entry.slash) }
     ensures refused { IfErr result (RefusesSource (F.state files.old) (F.state files.new)
         directory.value last.entry.name.now last.entry.slash) }
-    ensures halted { IsErrOf result (EntryFault.Log LogFault.Halted)
-        → (F.state files.old).halted ≡ true }
-    ensures other { IsErrOf result (EntryFault.Log LogFault.Full) → ⊥ }
 {
     let (holder, found) = look_at(files, directory, last.name)?;
     let Some(object) = found else {
@@ -100,14 +94,11 @@ fn find_target<'a, F: Files>(
     last: Last<'a>,
     kind: Kind,
 ) -> Result<Target<'a>, EntryFault>
-    ensures reads { Reads (F.state files.old) (F.state files.new) }
+    ensures only { AsksOnly (F.state files.old) (F.state files.new) result }
     ensures found { IfOk result (FindsTarget (F.state files.old) (F.state files.new)
         directory.value last.entry.name.now last.entry.slash kind) }
     ensures refused { IfErr result (RefusesNext (F.state files.old) (F.state files.new)
         directory.value last.entry.name.now last.entry.slash kind) }
-    ensures halted { IsErrOf result (EntryFault.Log LogFault.Halted)
-        → (F.state files.old).halted ≡ true }
-    ensures other { IsErrOf result (EntryFault.Log LogFault.Full) → ⊥ }
 {
     let (holder, replaced) = look_at(files, directory, last.name)?;
     // The pieces of a path without a zero byte are names.

@@ -1,9 +1,12 @@
 pub mod AnyDevice
+pub mod Answers
 pub mod Checks
 pub mod DraftSizes
 pub mod Drafts
 pub mod Exits
+pub mod Files
 pub mod Looks
 pub mod Reads
 pub mod Steps
 pub mod StoreCalls
+pub mod Told

@@ -1,4 +1,4 @@
-pub mod Ends
+pub mod Drafts
 pub mod Maps
-pub mod Refusals
+pub mod Outcomes
 pub mod Steps

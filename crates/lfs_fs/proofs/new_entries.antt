@@ -1,9 +1,8 @@
+pub mod Drafts
 pub mod Ends
-pub mod Made
+pub mod Explained
 pub mod Maps
-pub mod Objects
 pub mod Outcomes
-pub mod Refusals
 pub mod Rule
 pub mod RuleSteps
 pub mod Steps

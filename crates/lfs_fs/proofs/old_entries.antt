@@ -1,5 +1,6 @@
-pub mod Looks
-pub mod Refusals
+pub mod Dropping
+pub mod Drops
+pub mod Explained
 pub mod Removal
+pub mod Rule
 pub mod Steps
-pub mod Views

@@ -1,13 +1,8 @@
-pub mod Both
-pub mod DraftedNames
 pub mod Drafts
-pub mod Fails
 pub mod Fits
 pub mod Maps
-pub mod Names
 pub mod Outcomes
 pub mod Paths
 pub mod Refusals
-pub mod StepDrafts
 pub mod Steps
 pub mod Views

@@ -1,4 +1,2 @@
-pub mod Drafts
 pub mod Ends
-pub mod Fails
 pub mod Steps

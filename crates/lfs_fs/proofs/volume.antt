@@ -2,7 +2,7 @@ pub mod Directories
 pub mod FileBytes
 pub mod Headers
 pub mod KeptMaps
-pub mod LinkDrafts
+pub mod LostLinks
 pub mod LostNames
 pub mod Map
 pub mod MovedMaps

@@ -1,10 +1,10 @@
 -- The model's answers by what the calls give.
 use Rattle.lfs_model.specs.Call as call
 use Rattle.lfs_model.specs.Call.{Answer, Room}
-use Rattle.lfs_fs.specs.declared.rows.Entry.{Entry}
+use Rattle.lfs_entries.specs.declared.rows.ListedEntry.{ListedEntry}
+use Rattle.lfs_entries.specs.declared.rows.TreeRow.{TreeRow}
 use Rattle.lfs_fs.specs.declared.rows.Space.{Space}
 use Rattle.lfs_fs.specs.declared.rows.Stat.{Stat}
-use Rattle.lfs_fs.specs.declared.rows.TreeRow.{TreeRow}
 
 abbrev pub status_of : Stat → call.Stat
 status_of s = record { number = s.number; kind = s.kind; links = s.links; size = s.size }
@@ -20,5 +20,5 @@ row_of r = record {
   head = r.head.items;
 }
 
-abbrev pub entry_of : Entry → call.DirectoryEntry
+abbrev pub entry_of : ListedEntry → call.DirectoryEntry
 entry_of e = record { name = e.name.items; number = e.number; kind = e.kind }

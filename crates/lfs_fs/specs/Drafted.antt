@@ -21,10 +21,8 @@ use Rattle.lfs_store.specs.Writing.{TakesWrite}
 use Rattle.lfs_path.specs.declared.walk_fault.WalkFault.{WalkFault}
 use Rattle.lfs_path.specs.Telling.{ByFault}
 use Rattle.lfs_path.specs.Trees.{HasTree}
-use Rattle.lfs_path.specs.dirs.declared.entry.Entry.{Entry}
 use Rattle.lfs_path.specs.dirs.Adding.{AddsName, grown, slot_for}
-use Rattle.lfs_path.specs.dirs.Directory.{names_at, slots_at}
-use Rattle.lfs_path.specs.dirs.Listing.{AreSlots, IsListOf, pairs}
+use Rattle.lfs_path.specs.dirs.Directory.{names_at}
 
 module _ {D : Type 0} (state : D → DeviceState) where
   -- a store as files with a draft
@@ -43,17 +41,6 @@ module _ {D : Type 0} (state : D → DeviceState) where
   abbrev pub IsDirectoryFault : Held D → Held D → Changes → ℕ → Header → Type 0
   IsDirectoryFault h h' c d head =
       EachDrafted h h' c (λ m. IsDirectory m d (as_header head) → (state h.device).failures < (state h'.device).failures)
-
-  -- the names of directory d
-  abbrev pub Lists : Held D → Held D → Changes → ℕ → Header → List Entry → Type 0
-  Lists h h' c d head es = EachDrafted h h' c (λ m. pairs es ≡ names_at m d head)
-
-  -- the same, where each of its slots is well-formed; or one isn't
-  abbrev pub Inspects : Held D → Held D → Changes → ℕ → Header → List Entry → Type 0
-  Inspects h h' c d head es = EachDrafted h h' c (λ m. IsListOf head.form (slots_at m d head) es)
-
-  abbrev pub LacksSlot : Held D → Held D → Changes → ℕ → Header → Type 0
-  LacksSlot h h' c d head = EachDrafted h h' c (λ m. AreSlots head.form (slots_at m d head) → ⊥)
 
   -- a walk ends there
   abbrev pub WalksTo : Held D → Held D → Changes → (Tree → End → Type 0) → End → Type 0

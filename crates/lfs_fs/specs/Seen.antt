@@ -1,16 +1,16 @@
 -- What contracts see of a volume's value, and the answers of its calls.
-use Rattle.std.specs.Prelude.{◌≡◌, ◌⊎◌, ◌<◌, ℕ, true, false, Option, Some, None, Result, Ok, Err}
+use Rattle.std.specs.Prelude.{◌≡◌, ◌⊎◌, ◌<◌, ℕ, true, false, Some, None, Result, Ok, Err}
 use Rattle.std.specs.Ordering.{nat_cmp}
 use Rattle.std.specs.FinMap.{find}
 use Rattle.lfs_model.specs.Call.{Answer, Refuse}
 use Rattle.lfs_model.specs.Device.{DeviceState}
-use Rattle.lfs_store.specs.log.Held.{Holds, IsReadFault}
+use Rattle.lfs_store.specs.log.Held.{Holds}
 use Rattle.lfs_model.specs.Checkpoint.{CheckpointValue}
 use Rattle.lfs_model.specs.Stands.{LogMap}
 use Rattle.lfs_model.specs.Tree.{Handles}
 use Rattle.lfs_files.specs.declared.header.Header.{Header}
 use Rattle.lfs_store.specs.memory.Batch.{staged}
-use Rattle.lfs_store.specs.memory.Present.{HeaderAnswer, as_header}
+use Rattle.lfs_store.specs.memory.Present.{as_header}
 use Rattle.lfs_fs.specs.declared.error.FsError.{FsError}
 use Rattle.lfs_fs.specs.declared.error.FsError.TheVariants as error
 use Rattle.lfs_fs.specs.declared.fs.Fs.{Fs}
@@ -62,17 +62,6 @@ abbrev pub GivesNone : Handles → ℕ → FsError → Type 0
 GivesNone table handle fault = (fault ≡ error.BadHandle) × (find nat_cmp handle table ≡ None)
 
 module _ {D : Type 0} (state : D → DeviceState) where
-  -- the header of what stands at a number, where the log holds a log map; or nothing does
-  abbrev pub FindsHeader : Fs D → Fs D → ℕ → Option Header → Type 0
-  FindsHeader old new n found = (k : CheckpointValue) (m0 m : LogMap)
-      → (state new.store.log.device).keeps_model → Holds state old.store.log k m0 m
-      → HeaderAnswer (staged old.store.draft.changes m) n found
-
-  -- why the log gives no answer: a commit failed, or a call of the device did
-  abbrev pub LacksAnswer : Fs D → Fs D → FsError → Type 0
-  LacksAnswer old new fault = ((fault ≡ error.Halted) × (old.store.log.halted ≡ true))
-      ⊎ ((fault ≡ error.Device) × IsReadFault state old.store.log new.store.log)
-
   -- the header of an object, where the log holds a log map
   abbrev pub HasHeader : Fs D → Fs D → ℕ → Header → Type 0
   HasHeader old new n header = (k : CheckpointValue) (m0 m : LogMap) → (state new.store.log.device).keeps_model

@@ -36,19 +36,12 @@ impl<D: SectorDevice> Fs<D> {
             + room_orders (segments_of (seen self.old)) }
         ensures quiet { HasQuarter (seen self.old).log → (seen self.new).log ≡ (seen self.old).log }
     {
-        match self.begin() {
-            Ok(()) => {}
-            Err(fault) => return Err(fault),
-        }
-        match self.check_worn() {
-            Ok(()) => {}
-            Err(fault) => return Err(fault),
-        }
-        match self.store.clean() {
-            Ok(()) => Ok(()),
-            Err(fault) => Err(FsError::from(fault)),
-        }
+        self.begin()?;
+        self.check_worn()?;
+        self.store.clean()?;
+        Ok(())
     }
+
     /// One pass of the cleaner where fewer than a quarter of the segments is clean, and none else.
     /// What isn't saved is saved before it. The tree stays. It takes no memory.
     ///
@@ -67,18 +60,10 @@ impl<D: SectorDevice> Fs<D> {
             + once_orders (segments_of (seen self.old)) }
         ensures quiet { HasQuarter (seen self.old).log → (seen self.new).log ≡ (seen self.old).log }
     {
-        match self.begin() {
-            Ok(()) => {}
-            Err(fault) => return Err(fault),
-        }
-        match self.check_worn() {
-            Ok(()) => {}
-            Err(fault) => return Err(fault),
-        }
+        self.begin()?;
+        self.check_worn()?;
         self.store.log.are_tables_whole();
-        match self.store.clean_once() {
-            Ok(()) => Ok(()),
-            Err(fault) => Err(FsError::from(fault)),
-        }
+        self.store.clean_once()?;
+        Ok(())
     }
 }

@@ -2,8 +2,9 @@
 ghost use Rattle.std.specs.Prelude.{◌≡◌};
 ghost use Rattle.lfs_model.specs.Script.{refusal_name};
 ghost use Rattle.lfs_fs.specs.Refusals.{refusal_of};
-ghost use Rattle.lfs_fs.specs.Faults.{error_of_log, error_of_store, error_of_walk};
+ghost use Rattle.lfs_fs.specs.Faults.{error_of_entry, error_of_log, error_of_store, error_of_walk};
 
+use lfs_entries::EntryFault;
 use lfs_path::WalkFault;
 use lfs_store::{LogFault, StoreFault};
 use std::alloc::AllocError;
@@ -139,6 +140,29 @@ impl From<WalkFault> for FsError {
             WalkFault::Loop => FsError::Loop,
             WalkFault::NoMemory => FsError::NoMemory,
             WalkFault::Log(fault) => FsError::from(fault),
+        }
+    }
+}
+
+impl From<EntryFault> for FsError {
+    ghost from_gives = { λ fault error. error ≡ error_of_entry fault };
+
+    fn from(fault: EntryFault) -> FsError
+        ensures { result ≡ error_of_entry fault }
+    {
+        match fault {
+            EntryFault::NoEntry => FsError::NoEntry,
+            EntryFault::NotDir => FsError::NotDir,
+            EntryFault::IsDir => FsError::IsDir,
+            EntryFault::Exist => FsError::Exist,
+            EntryFault::NotEmpty => FsError::NotEmpty,
+            EntryFault::Inval => FsError::Inval,
+            EntryFault::NameTooLong => FsError::NameTooLong,
+            EntryFault::Perm => FsError::Perm,
+            EntryFault::TooManyLinks => FsError::TooManyLinks,
+            EntryFault::DirFull => FsError::DirFull,
+            EntryFault::NoMemory => FsError::NoMemory,
+            EntryFault::Log(fault) => FsError::from(fault),
         }
     }
 }

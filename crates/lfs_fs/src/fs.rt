@@ -6,7 +6,7 @@ ghost use Rattle.lfs_model.specs.declared.limits.TheConstants.{MOST_HANDLES};
 ghost use Rattle.lfs_store.specs.cleaner.Room.{IsAtRest, room_orders};
 ghost use Rattle.lfs_store.specs.memory.Batch.{room_for};
 ghost use Rattle.lfs_fs.specs.Accepting.{StagesDraft, TurnsDown};
-ghost use Rattle.lfs_fs.specs.Seen.{Begins, FindsHeader, OnlyReads, GivesNone, HasHeader, LacksAnswer, LacksHeader};
+ghost use Rattle.lfs_fs.specs.Seen.{Begins, GivesNone, HasHeader, LacksHeader, OnlyReads};
 
 use crate::error::FsError;
 use crate::handles::Handles;
@@ -51,20 +51,6 @@ impl<D: SectorDevice> Fs<D> {
         ensures missing { IfErr result (GivesNone self.now.handles handle) }
     {
         self.handles.get(handle).ok_or(FsError::BadHandle)
-    }
-
-    /// The header of what stands at a number, if something does.
-    pub(crate) fn find_header(&mut self, number: FileNumber) -> Result<Option<Header>, FsError>
-        ensures reads { OnlyReads D.SectorDevice.state self.old self.new }
-        ensures answer { IfOk result (λ found. FindsHeader D.SectorDevice.state self.old self.new
-            number.value found) }
-        ensures missing { IfErr result (λ fault. LacksAnswer D.SectorDevice.state self.old self.new
-            fault) }
-    {
-        match self.store.header(number) {
-            Ok(found) => Ok(found),
-            Err(fault) => Err(FsError::from(fault)),
-        }
     }
 
     /// The header of an object that is there.

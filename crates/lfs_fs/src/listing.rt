@@ -1,19 +1,21 @@
-//! The listing of one directory.
-ghost use Rattle.std.specs.Prelude.{◌≡◌, ◌<◌, ◌++◌, ◌∷◌, List, [], map, IfOk, IfErr, OnOk, OnErr};
-ghost use Rattle.lfs_model.specs.Call.{Entries, Readdir};
-ghost use Rattle.lfs_fs.specs.Answers.{entry_of};
-ghost use Rattle.lfs_fs.specs.Reading.{LacksDirectory, LacksEntries, LacksEntry, LacksNode, TellsEntries, TellsEntry, TellsListing, TellsNode};
-ghost use Rattle.lfs_fs.specs.Seen.{OnlyReads, answer_by, seen};
+//! The listing of one directory, and of all.
+ghost use Rattle.std.specs.Prelude.{◌≡◌, map, IfErr, IfOk, OnErr, OnOk};
+ghost use Rattle.lfs_model.specs.Call.{Entries, ListTree, Readdir, Rows};
+ghost use Rattle.lfs_entries.specs.Telling.{AsksOnly, FailsWhere, InEach};
+ghost use Rattle.lfs_fs.specs.Answers.{entry_of, row_of};
+ghost use Rattle.lfs_fs.specs.Reading.{AreListable, HasRows};
+ghost use Rattle.lfs_fs.specs.Seen.{answer_by, seen};
 ghost use Rattle.lfs_fs.specs.Volume.{Serves};
 
 use crate::error::FsError;
 use crate::fs::Fs;
-use crate::rows::Entry;
 use lfs_device::SectorDevice;
+use lfs_entries::{EntryFault, ListedEntry as Entry, TreeRow, list_entries, list_rows};
+use lfs_files::Files;
+use lfs_model::limits::FILE_NUMBERS;
 use lfs_model::{FileNumber, Kind};
-use lfs_path::dirs;
-use lfs_path::tree::resolve;
-use lfs_store::Header;
+use lfs_path::header_of;
+use std::alloc::Global;
 
 impl<D: SectorDevice> Fs<D> {
     /// The entries of the directory of a path, ordered by the names' bytes, without dot and dot-dot
@@ -26,70 +28,54 @@ impl<D: SectorDevice> Fs<D> {
         ensures { Serves D.SectorDevice.state (seen self.old) (seen self.new) (Readdir path.now)
             (answer_by (λ entries. Entries (map entry_of entries.items)) result) }
     {
-        self.begin()?;
-        let number = resolve(self.alloc, &mut self.store, path, true)?;
-        self.entries_at(number)
-    }
-
-    /// The entries of a directory that is there.
-    fn entries_at(&mut self, number: FileNumber) -> Result<Vec<Entry>, FsError>
-        ensures reads { OnlyReads D.SectorDevice.state self.old self.new }
-        ensures answer { IfOk result (λ entries. TellsNode D.SectorDevice.state self.old self.new
-            number.value entries.items) }
-        ensures missing { IfErr result (λ fault. LacksNode D.SectorDevice.state self.old self.new
-            number.value fault) }
-    {
-        let header = self.header(number)?;
+        let number = self.begin_with(path, true)?;
+        let header = header_of(&mut self.store, number)?;
         check_directory(header.kind)?;
-        self.entries_in(number, header)
-    }
-
-    /// The entries of a directory of this header.
-    fn entries_in(&mut self, directory: FileNumber, header: Header) -> Result<Vec<Entry>, FsError>
-        ensures reads { OnlyReads D.SectorDevice.state self.old self.new }
-        ensures answer { IfOk result (λ entries. TellsListing D.SectorDevice.state self.old self.new
-            directory.value header entries.items) }
-        ensures missing { IfErr result (λ fault. LacksDirectory D.SectorDevice.state self.old
-            self.new directory.value header fault) }
-    {
-        match dirs::list(self.alloc, &mut self.store, directory, header) {
-            Ok(names) => self.entries(names),
-            Err(fault) => Err(FsError::from(fault)),
-        }
-    }
-
-    /// The entries that names of a directory give.
-    fn entries(&mut self, names: Vec<dirs::Entry>) -> Result<Vec<Entry>, FsError>
-        ensures reads { OnlyReads D.SectorDevice.state self.old self.new }
-        ensures answer { IfOk result (λ entries. TellsEntries D.SectorDevice.state self.old self.new
-            names.items entries.items) }
-        ensures missing { IfErr result (λ fault. LacksEntries D.SectorDevice.state self.old self.new
-            names.items fault) }
-    {
-        let Ok(mut entries) = Vec::with_capacity(self.alloc, names.len()) else {
-            return Err(FsError::NoMemory);
-        };
-        for name in names {
-            self.push_entry(name, &mut entries)?;
-        }
+        let entries = list_entries(self.alloc, &mut self.store, number, header)?;
         Ok(entries)
     }
 
-    /// Puts the entry that a name gives behind others.
-    fn push_entry(&mut self, name: dirs::Entry, entries: &mut Vec<Entry>) -> Result<(), FsError>
-        ensures reads { OnlyReads D.SectorDevice.state self.old self.new }
-        ensures answer { OnOk result ((entry : Entry) × (entries.new.items ≡ entries.old.items ++
-            entry ∷ []) × TellsEntry D.SectorDevice.state self.old self.new name entry) }
-        ensures missing { IfErr result (λ fault. LacksEntry D.SectorDevice.state self.old self.new
-            name fault) }
+    /// Each entry of each directory, ordered by the directory's number and then by the name's
+    /// bytes.
+    ///
+    /// # Errors
+    ///
+    /// `NoMemory` and `Device` for their causes.
+    pub fn tree(&mut self) -> Result<Vec<TreeRow>, FsError>
+        ensures { Serves D.SectorDevice.state (seen self.old) (seen self.new) ListTree
+            (answer_by (λ rows. Rows (map row_of rows.items)) result) }
     {
-        let stat = self.stat_of(name.number)?;
-        let entry = Entry {
-            name: name.name,
-            number: stat.number,
-            kind: stat.kind,
-        };
-        put_entry(entries, entry)
+        self.begin()?;
+        let mut rows = Vec::new(self.alloc);
+        for number in 1..FILE_NUMBERS {
+            let number = FileNumber { value: number };
+            let mut more = rows_at(self.alloc, &mut self.store, number)?;
+            let Ok(()) = rows.append(&mut more) else {
+                return Err(FsError::NoMemory);
+            };
+        }
+        Ok(rows)
+    }
+}
+
+/// The rows of the names in what stands at a number: only a directory has some.
+fn rows_at<F: Files>(
+    alloc: Global,
+    files: &mut F,
+    number: FileNumber,
+) -> Result<Vec<TreeRow>, EntryFault>
+    ensures only { AsksOnly (F.state files.old) (F.state files.new) result }
+    ensures answer { IfOk result (λ rows. InEach (F.state files.old) (F.state files.new)
+        (HasRows number.value rows.items)) }
+    ensures failed { IfErr result (FailsWhere (F.state files.old) (F.state files.new)
+        AreListable) }
+{
+    let Some(header) = files.header(number)? else {
+        return Ok(Vec::new(alloc));
+    };
+    match header.kind {
+        Kind::Directory => list_rows(alloc, files, number, header),
+        Kind::File | Kind::Link => Ok(Vec::new(alloc)),
     }
 }
 
@@ -103,16 +89,5 @@ fn check_directory(kind: Kind) -> Result<(), FsError>
         Kind::Directory => Ok(()),
         Kind::File => Err(FsError::NotDir),
         Kind::Link => Err(FsError::NotDir),
-    }
-}
-
-/// Puts an entry behind others.
-fn put_entry(entries: &mut Vec<Entry>, entry: Entry) -> Result<(), FsError>
-    ensures done { OnOk result (entries.new.items ≡ entries.old.items ++ entry ∷ []) }
-    ensures fault { IfErr result (λ fault. fault ≡ FsError.NoMemory) }
-{
-    match entries.push(entry) {
-        Ok(()) => Ok(()),
-        Err(_) => Err(FsError::NoMemory),
     }
 }

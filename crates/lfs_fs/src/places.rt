@@ -1,6 +1,7 @@
-//! How a call comes to the last piece of a path.
+//! How a call comes to the object of a path, or to the path's last piece.
 ghost use Rattle.std.specs.Prelude.{IfErr, IfOk, Some};
 ghost use Rattle.lfs_fs.specs.Naming.{BeginsAt, BeginsNowhere, FindsPlace, LacksPlace};
+ghost use Rattle.lfs_fs.specs.Reading.{FindsObject, RefusesPath};
 ghost use Rattle.lfs_fs.specs.Seen.{OnlyReads};
 
 use crate::error::FsError;
@@ -8,9 +9,25 @@ use crate::fs::Fs;
 use lfs_device::SectorDevice;
 use lfs_model::FileNumber;
 use lfs_path::Last;
-use lfs_path::tree::parent;
+use lfs_path::tree::{parent, resolve};
 
 impl<D: SectorDevice> Fs<D> {
+    /// Begins a call of a path, and walks it to its object.
+    ///
+    /// # Errors
+    ///
+    /// `Halted`; those of the path.
+    pub(crate) fn begin_with(&mut self, path: &[u8], follow: bool) -> Result<FileNumber, FsError>
+        ensures found { IfOk result (λ number. FindsObject D.SectorDevice.state self.old self.new
+            path.now follow number.value) }
+        ensures refused { IfErr result (RefusesPath D.SectorDevice.state self.old self.new path.now
+            follow) }
+    {
+        self.begin()?;
+        let number = resolve(self.alloc, &mut self.store, path, follow)?;
+        Ok(number)
+    }
+
     /// Begins a call of a path, and comes to its last piece and to the directory that it stands in.
     ///
     /// # Errors

@@ -19,10 +19,8 @@ impl<D: SectorDevice> Fs<D> {
             (answer_by (λ _. Done) result) }
     {
         self.begin()?;
-        match self.store.commit() {
-            Ok(()) => Ok(()),
-            Err(fault) => Err(FsError::from(fault)),
-        }
+        self.store.commit()?;
+        Ok(())
     }
 
     /// Saves the whole volume, as `sync` does, with the file of a handle (POSIX.1-2017, fsync).
@@ -34,14 +32,8 @@ impl<D: SectorDevice> Fs<D> {
         ensures { Serves D.SectorDevice.state (seen self.old) (seen self.new) (Fsync handle)
             (answer_by (λ _. Done) result) }
     {
-        match self.begin() {
-            Ok(()) => {}
-            Err(fault) => return Err(fault),
-        }
-        match self.file(handle) {
-            Ok(_) => {}
-            Err(fault) => return Err(fault),
-        }
+        self.begin()?;
+        self.file(handle)?;
         self.sync()
     }
 }

@@ -6,15 +6,13 @@ ghost use Rattle.lfs_fs.specs.Seen.{IsReady, answer_by, seen};
 ghost use Rattle.lfs_fs.specs.Upgrading.{ReachesNarrow, ReachesWhole};
 ghost use Rattle.lfs_fs.specs.Volume.{Mounted, Serves};
 
-use crate::entries::is_directory;
 use crate::error::FsError;
 use crate::fs::Fs;
-use crate::sizes::is_too_large;
 use lfs_device::SectorDevice;
+use lfs_entries::{is_directory, is_too_large};
 use lfs_files::FIRST_FORM;
 use lfs_model::FileNumber;
 use lfs_path::dirs::widen;
-use lfs_path::tree::resolve;
 use lfs_store::Header;
 
 impl<D: SectorDevice> Fs<D> {
@@ -47,8 +45,7 @@ impl<D: SectorDevice> Fs<D> {
         ensures { Serves D.SectorDevice.state (seen self.old) (seen self.new) (Widen path.now)
             (answer_by (λ _. Done) result) }
     {
-        self.begin()?;
-        let number = resolve(self.alloc, &mut self.store, path, true)?;
+        let number = self.begin_with(path, true)?;
         self.widen_at(number)
     }
 

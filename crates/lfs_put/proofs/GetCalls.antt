@@ -1,5 +1,5 @@
 -- The calls of a get, one after the other.
-use Rattle.std.proofs.Common.{◌≡◌, ◌<◌, ◌⊎◌, ℕ, zero, suc, ◌+◌, get_or, List, [], ◌∷◌, ◌++◌, All, Option, Result, Ok, Err, length, refl}
+use Rattle.std.proofs.Common.{◌≡◌, ◌<◌, ◌⊎◌, ℕ, zero, suc, ◌+◌, get_or, List, [], ◌∷◌, ◌++◌, All, Option, Ok, Err, length, refl}
 use Rattle.std.proofs.Common.{sym, ◌∙◌, ap, subst, inl, inr, append_assoc, append-nil, length-append, arith}
 use Rattle.std.specs.List.{AllByRecursion, concat}
 use Rattle.std.specs.Io.KnownBytes.{Appends}
@@ -15,7 +15,7 @@ use Rattle.lfs_put.specs.declared.getting.GetFault.{GetFault}
 use Rattle.lfs_put.specs.declared.getting.GetFault.TheVariants as why
 use Rattle.lfs_put.proofs.CallLists.{serves_append}
 use Rattle.lfs_put.specs.Calls.{Made, ServesAll, made}
-use Rattle.lfs_put.specs.Getting.{AreWhole, CopiesOut, GetsFile, HasSent, ReadsTo, SendsPart, SendsTo, getting, reads}
+use Rattle.lfs_put.specs.Getting.{CopiesOut, GetsFile, HasSent, SendsPart, SendsTo, getting, reads}
 
 -- ---- lists of pieces
 
@@ -260,9 +260,3 @@ module _ {D : Type 0} (state : D → DeviceState) where
         served = between a b c d path handle (reads handle 0 pieces) Done opens read closes;
         outcome = (handle, pieces, refl, copies.outcome.2, copies.outcome.3);
       }
-
-  -- ---- a record of a result that is known
-
-  pub copies_of : (a b : Mounted D) (handle : ℕ) (w w' : Option (List ℕ)) (result is : Result ℕ GetFault) → result ≡ is
-      → CopiesOut state a b handle w w' result → CopiesOut state a b handle w w' is
-  copies_of a b handle w w' result is same = subst (CopiesOut state a b handle w w') same

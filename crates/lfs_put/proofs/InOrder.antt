@@ -1,5 +1,5 @@
 -- Calls that are made in order, up to the first that is refused.
-use Rattle.std.proofs.Common.{◌≡◌, List, [], ◌∷◌, Result, Ok, Err, refl, subst, sym}
+use Rattle.std.proofs.Common.{[], ◌∷◌, Result, Ok, Err, refl, subst, sym}
 use Rattle.lfs_model.specs.Call.{Call, Done, Refuse, Sync}
 use Rattle.lfs_model.specs.Device.{DeviceState}
 use Rattle.lfs_fs.specs.Refusals.{refusal_of}

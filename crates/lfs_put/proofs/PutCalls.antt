@@ -377,20 +377,6 @@ module _ {D : Type 0} (state : D → DeviceState) where
 
   -- ---- a record of a result that is known
 
-  pub copies_of : (a b : Mounted D) (handle : ℕ) (r r' : Option (List ℕ)) (result is : Result ℕ PutFault) → result ≡ is
-      → Copies state a b handle r r' result → Copies state a b handle r r' is
-  copies_of a b handle r r' result is same = subst (Copies state a b handle r r') same
-
-  pub makes_of : (a b : Mounted D) (beside : List ℕ) (r r' : Option (List ℕ)) (result is : Result ℕ PutFault) → result ≡ is
-      → MakesFile state a b beside r r' result
-      → MakesFile state a b beside r r' is
-  makes_of a b beside r r' result is same = subst (MakesFile state a b beside r r') same
-
-  pub renames_of : (a b : Mounted D) (beside path : List ℕ) (result is : Result (Unit {0}) PutFault) → result ≡ is
-      → RenamesFile state {X = Unit {0}} a b beside path result
-      → RenamesFile state {X = Unit {0}} a b beside path is
-  renames_of a b beside path result is same = subst (RenamesFile state {X = Unit {0}} a b beside path) same
-
   pub replaces_of : (a b : Mounted D) (beside path : List ℕ) (r r' : Option (List ℕ)) (result is : Result ℕ PutFault) → result ≡ is
       → Replaces state a b beside path r r' result
       → Replaces state a b beside path r r' is

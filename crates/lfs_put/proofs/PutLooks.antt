@@ -1,5 +1,5 @@
 -- Looks at a path before anything is put there.
-use Rattle.std.proofs.Common.{◌≡◌, ℕ, List, [], ◌∷◌, refl}
+use Rattle.std.proofs.Common.{ℕ, List, [], ◌∷◌, refl}
 use Rattle.lfs_model.specs.Call.{LstatOf, StatOf}
 use Rattle.lfs_model.specs.Device.{DeviceState}
 use Rattle.lfs_fs.specs.Volume.{Mounted}

@@ -1,13 +1,13 @@
 -- What the calls tell of the largest new file.
-use Rattle.std.proofs.Common.{◌≡◌, ◌<◌, ◌≤◌, ◌⊎◌, ℕ, ◌*◌, ◌/◌, List, [], ◌∷◌, ◌++◌, Result, Ok, Err, refl, sym, ◌∙◌, subst, inl, inr, map}
+use Rattle.std.proofs.Common.{◌≡◌, ◌<◌, ◌≤◌, ℕ, ◌*◌, ◌/◌, [], ◌∷◌, ◌++◌, Result, Ok, Err, refl, ◌∙◌, inl, inr, map}
 use Rattle.std.specs.Prelude.{codes}
-use Rattle.lfs_model.specs.Call.{Call, ListTree, Refuse, Room, Rows, Space, Stat, StatOf, Status}
+use Rattle.lfs_model.specs.Call.{ListTree, Refuse, Room, Rows, Space, Stat, StatOf, Status}
 use Rattle.lfs_model.specs.Device.{DeviceState}
 use Rattle.lfs_fs.specs.Answers.{row_of}
 use Rattle.lfs_fs.specs.Refusals.{refusal_of}
 use Rattle.lfs_fs.specs.Volume.{Mounted, Serves}
 use Rattle.lfs_fs.specs.declared.error.FsError.{FsError}
-use Rattle.lfs_put.specs.Calls.{Made, ServesAll, made}
+use Rattle.lfs_put.specs.Calls.{made}
 use Rattle.lfs_put.specs.declared.largest.TheConstants.{BLOCK, LAST_NUMBER, MOST_ENTRIES, SLOT}
 use Rattle.lfs_put.specs.Largest.{IsLargest, TellsByTree, TellsLargest, telling}
 

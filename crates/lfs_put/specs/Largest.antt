@@ -10,7 +10,7 @@ use Rattle.lfs_fs.specs.Answers.{row_of}
 use Rattle.lfs_fs.specs.Refusals.{refusal_of}
 use Rattle.lfs_fs.specs.Volume.{Mounted, Serves}
 use Rattle.lfs_fs.specs.declared.error.FsError.{FsError}
-use Rattle.lfs_fs.specs.declared.rows.TreeRow.{TreeRow}
+use Rattle.lfs_fs.specs.entries.declared.rows.TreeRow.{TreeRow}
 use Rattle.lfs_put.specs.Calls.{Made, ServesAll, made}
 use Rattle.lfs_put.specs.declared.largest.TheConstants.{BLOCK, LAST_NUMBER, MOST_BLOCKS, MOST_ENTRIES, SLOT}
 

@@ -102,10 +102,7 @@ fn make_passes<D: SectorDevice>(fs: &mut Fs<D>, most: u32) -> Result<(), FsError
         if !fs.is_cleaning_due() {
             return Ok(());
         }
-        match fs.clean_once() {
-            Ok(()) => {}
-            Err(fault) => return Err(fault),
-        }
+        fs.clean_once()?;
     }
     Ok(())
 }

@@ -68,10 +68,7 @@ fn copy_out<D: SectorDevice, W: Write>(
 {
     let mut offset: u64 = 0;
     for part in 0..PARTS {
-        let count = match send_part(fs, handle, offset, output) {
-            Ok(count) => count,
-            Err(fault) => return Err(fault),
-        };
+        let count = send_part(fs, handle, offset, output)?;
         if count > LONGEST_TRANSFER as usize {
             // No volume answers more than it is asked for.
             return Err(GetFault::CutShort(FsError::Device));
@@ -105,10 +102,7 @@ pub fn get<D: SectorDevice, W: Write>(
     };
     let copied = copy_out(fs, handle, output);
     let closed = fs.close(handle);
-    let count = match copied {
-        Ok(count) => count,
-        Err(fault) => return Err(fault),
-    };
+    let count = copied?;
     match closed {
         Ok(()) => Ok(count),
         Err(fault) => Err(refused(count, fault)),

@@ -6,14 +6,14 @@ ghost use Rattle.lfs_put.specs.Largest.{Fits, IsLargest, cost_of_blocks, cost_of
 
 use lfs_model::limits;
 use lfs_model::limits::{
-    BLOCK_POINTERS, DIRECT_BLOCKS, FILE_BLOCKS, FILE_LEAVES, NEED_OF_META, SECTOR_LEN,
+    BLOCK_POINTERS, DIRECT_BLOCKS, FILE_BLOCKS, FILE_LEAVES, NARROW_SLOT, NEED_OF_META, SECTOR_LEN,
 };
 
 /// The bytes of a block.
 pub const BLOCK: u64 = SECTOR_LEN as u64;
 
 /// The bytes of a directory's entry.
-pub const SLOT: u64 = 64;
+pub const SLOT: u64 = NARROW_SLOT as u64;
 
 /// The most blocks of a file.
 const MOST_BLOCKS: u64 = FILE_BLOCKS as u64;
@@ -23,6 +23,9 @@ pub const MOST_ENTRIES: u64 = limits::MOST_ENTRIES as u64;
 
 /// The last number of an object.
 pub const LAST_NUMBER: u64 = limits::LAST_NUMBER as u64;
+
+/// An object adds no more than this to the need, however large it is.
+const MOST_COST: u64 = 20_000;
 
 /// How many blocks an inode points to itself.
 const DIRECT: u64 = DIRECT_BLOCKS as u64;
@@ -49,7 +52,7 @@ fn pointer_blocks(blocks: u64) -> u64
 fn cost_of(blocks: u64) -> u64
     requires { blocks ≤ MOST_BLOCKS }
     ensures cost { result ≡ cost_of_blocks blocks }
-    ensures few { result ≤ 20000 }
+    ensures few { result ≤ MOST_COST }
 {
     blocks + NEED_OF_META * (1 + pointer_blocks(blocks))
 }
@@ -58,7 +61,7 @@ fn cost_of(blocks: u64) -> u64
 fn directory_cost(entries: u64) -> u64
     requires { entries ≤ MOST_ENTRIES }
     ensures cost { result ≡ cost_of_entries entries }
-    ensures few { result ≤ 20000 }
+    ensures few { result ≤ MOST_COST }
 {
     cost_of((SLOT * entries).div_ceil(BLOCK))
 }

@@ -27,7 +27,7 @@ const MOST_BYTES: usize = LONGEST_TRANSFER as usize;
 #[derive(Debug, Drop, Error)]
 pub enum PutFault {
     #[error("the volume refuses it")]
-    Call(FsError),
+    Call(#[from] FsError),
     #[error("it has the name under which files stand until they are whole")]
     Unfinished,
     #[error("its bytes can't be read")]
@@ -82,9 +82,8 @@ fn check_name(name: &[u8], slash_end: bool) -> Result<(), PutFault>
 fn unfinished_path(alloc: Global, path: &[u8]) -> Result<Vec<u8>, PutFault>
     ensures { IfOk result (λ unfinished. IsBeside path.now unfinished.items) }
 {
-    match check_text(path) {
-        Ok(()) => {}
-        Err(fault) => return Err(PutFault::Call(FsError::from(fault))),
+    if let Err(fault) = check_text(path) {
+        return Err(PutFault::Call(FsError::from(fault)));
     }
     let trimmed = &path[..trimmed_len(path)];
     if trimmed.is_empty() {
@@ -194,10 +193,8 @@ fn copy_in<D: SectorDevice, I: Read>(
         let Some(end) = offset.checked_add(count as u64) else {
             return Err(PutFault::Call(FsError::FileTooBig));
         };
-        match fs.pwrite(handle, offset, &buffer[..count]) {
-            Ok(_) => offset = end,
-            Err(fault) => return Err(PutFault::Call(fault)),
-        }
+        fs.pwrite(handle, offset, &buffer[..count])?;
+        offset = end;
     }
     Err(PutFault::Input)
 }
@@ -213,20 +210,12 @@ fn make_file<D: SectorDevice, I: Read>(
     ensures { MakesFile D.SectorDevice.state (seen fs.old) (seen fs.new) unfinished.now
         (I.remaining input.old) (I.remaining input.new) result }
 {
-    let handle = match fs.create(unfinished) {
-        Ok(handle) => handle,
-        Err(fault) => return Err(PutFault::Call(fault)),
-    };
+    let handle = fs.create(unfinished)?;
     let copied = copy_in(fs, handle, input, buffer);
     let closed = fs.close(handle);
-    let count = match copied {
-        Ok(count) => count,
-        Err(fault) => return Err(fault),
-    };
-    match closed {
-        Ok(()) => Ok(count),
-        Err(fault) => Err(PutFault::Call(fault)),
-    }
+    let count = copied?;
+    closed?;
+    Ok(count)
 }
 
 // Syncs a file, gives it its name, and syncs that.
@@ -238,18 +227,10 @@ fn rename_file<D: SectorDevice>(
     ensures { RenamesFile D.SectorDevice.state (seen fs.old) (seen fs.new) unfinished.now path.now
         result }
 {
-    match fs.sync() {
-        Ok(()) => {}
-        Err(fault) => return Err(PutFault::Call(fault)),
-    }
-    match fs.rename(unfinished, path) {
-        Ok(()) => {}
-        Err(fault) => return Err(PutFault::Call(fault)),
-    }
-    match fs.sync() {
-        Ok(()) => Ok(()),
-        Err(fault) => Err(PutFault::Call(fault)),
-    }
+    fs.sync()?;
+    fs.rename(unfinished, path)?;
+    fs.sync()?;
+    Ok(())
 }
 
 // Makes the file, and gives it its name.
@@ -264,14 +245,9 @@ fn replace<D: SectorDevice, I: Read>(
     ensures { Replaces D.SectorDevice.state (seen fs.old) (seen fs.new) unfinished.now path.now
         (I.remaining input.old) (I.remaining input.new) result }
 {
-    let count = match make_file(fs, unfinished, input, buffer) {
-        Ok(count) => count,
-        Err(fault) => return Err(fault),
-    };
-    match rename_file(fs, unfinished, path) {
-        Ok(()) => Ok(count),
-        Err(fault) => Err(fault),
-    }
+    let count = make_file(fs, unfinished, input, buffer)?;
+    rename_file(fs, unfinished, path)?;
+    Ok(count)
 }
 
 // Removes what isn't whole, as far as the volume lets it.
@@ -295,14 +271,8 @@ fn put_by<D: SectorDevice, I: Read>(
     ensures { PutsFile D.SectorDevice.state (seen fs.old) (seen fs.new) path.now
         (I.remaining input.old) (I.remaining input.new) result }
 {
-    match refuse_directory(fs, path) {
-        Ok(()) => {}
-        Err(fault) => return Err(fault),
-    }
-    match remove_left(fs, unfinished) {
-        Ok(()) => {}
-        Err(fault) => return Err(fault),
-    }
+    refuse_directory(fs, path)?;
+    remove_left(fs, unfinished)?;
     match replace(fs, unfinished, path, input, buffer) {
         Ok(count) => Ok(count),
         Err(fault) => {

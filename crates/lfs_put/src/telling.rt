@@ -57,14 +57,8 @@ fn by_tree<D: SectorDevice>(fs: &mut Fs<D>, bytes: u64) -> Result<u64, FsError>
 pub fn largest_new_file<D: SectorDevice>(fs: &mut Fs<D>) -> Result<u64, FsError>
     ensures { TellsLargest D.SectorDevice.state (seen fs.old) (seen fs.new) result }
 {
-    let space = match fs.space() {
-        Ok(space) => space,
-        Err(fault) => return Err(fault),
-    };
-    let root = match fs.stat(b"/") {
-        Ok(root) => root,
-        Err(fault) => return Err(fault),
-    };
+    let space = fs.space()?;
+    let root = fs.stat(b"/")?;
     let entries = root.size / SLOT;
     if entries >= MOST_ENTRIES {
         return Ok(0);

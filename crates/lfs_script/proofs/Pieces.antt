@@ -2,7 +2,8 @@
 use Rattle.std.proofs.Common.{ℕ, List, [], ◌++◌, Option, Some, None, Result, Ok, Err, OnOk, OnErr, append_assoc, append-nil, ap, sym, ◌∙◌}
 use Rattle.std.specs.Io.KnownBytes.{Appends}
 use Rattle.std.proofs.KnownBytes.{Appends-trans}
-use Rattle.lfs_script.specs.Bytes.{AppendsSome}
+use Rattle.std.specs.Result.{IsErrAnd}
+use Rattle.lfs_script.specs.Bytes.{AppendsSome, Puts}
 
 -- what went out of the front is some of the whole
 pub some_front : (a b : Option (List ℕ)) (xs ys : List ℕ) → AppendsSome a b xs → AppendsSome a b (xs ++ ys)
@@ -24,3 +25,9 @@ on_err (Err e) P p = p
 pub on_ok : {T E : Type 0} (r : Result T E) (P : Type 0) → P → OnOk r P
 on_ok (Ok x) P p = p
 on_ok (Err e) P p = tt
+
+-- a call that failed put some of the bytes
+pub puts_some : {T E : Type 0} (Q : E → Type 0) (a b : Option (List ℕ)) (bytes : List ℕ) (r : Result T E) → IsErrAnd r Q
+    → AppendsSome a b bytes → Puts a b bytes r
+puts_some Q a b bytes (Ok x) err some = absurd err
+puts_some Q a b bytes (Err e) err some = record { ok = tt; err = some }

@@ -3,8 +3,8 @@ use Rattle.std.proofs.Common.{◌≡◌, List, [], ◌∷◌, ◌++◌, length, 
 use Rattle.std.proofs.lemmas.List.{length-map}
 use Rattle.lfs_model.specs.Call.{Entries, Rows}
 use Rattle.lfs_model.specs.Script.{entry_line, ok, reply, row_line}
-use Rattle.lfs_fs.specs.declared.rows.Entry.{Entry}
-use Rattle.lfs_fs.specs.declared.rows.TreeRow.{TreeRow}
+use Rattle.lfs_fs.specs.entries.declared.rows.ListedEntry.{ListedEntry as Entry}
+use Rattle.lfs_fs.specs.entries.declared.rows.TreeRow.{TreeRow}
 use Rattle.lfs_fs.specs.Answers.{entry_of, row_of}
 
 rows_are : (rows : List TreeRow) → flat_map row_line (map row_of rows) ≡ flat_map (λ row. row_line (row_of row)) rows

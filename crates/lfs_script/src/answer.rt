@@ -10,6 +10,7 @@ ghost use Rattle.lfs_script.specs.Calls.{line_for};
 use crate::call::Call;
 use lfs_device::SectorDevice;
 use lfs_fs::{Entry, Fs, FsError, Space, Stat, TreeRow};
+use lfs_model::limits::LONGEST_TRANSFER;
 use std::alloc::{AllocError, Global};
 
 /// What a call gives where it isn't refused.
@@ -30,11 +31,11 @@ pub enum Answer {
 }
 
 // One more than the bytes that a write takes.
-const TOO_MANY: u32 = 65_537;
+const TOO_MANY: u32 = LONGEST_TRANSFER + 1;
 
 // So many bytes of a value, or as many as a write refuses.
 fn filled(alloc: Global, len: u32, byte: u8) -> Result<Vec<u8>, AllocError>
-    ensures { IfOk result (λ bytes. bytes.items ≡ replicate (min len 65537) byte) }
+    ensures { IfOk result (λ bytes. bytes.items ≡ replicate (min len TOO_MANY) byte) }
 {
     vec![in alloc; byte; len.min(TOO_MANY) as usize]
 }

@@ -1,8 +1,7 @@
 // Bytes as escaped words.
-ghost use Rattle.std.specs.Prelude.{◌≡◌, ◌≢◌, ◌<◌, ◌≤◌, ◌∷◌, ◌++◌, [], List, ℕ, None, Err, false, IsTrue, IfOk, IfSome, OnOk, OnErr, length, take};
-ghost use Rattle.std.specs.Io.KnownBytes.{Appends};
+ghost use Rattle.std.specs.Prelude.{◌≡◌, ◌≢◌, ◌<◌, ◌≤◌, ◌∷◌, ◌++◌, [], List, ℕ, None, Err, false, IsTrue, IfOk, IfSome, length, take};
 ghost use Rattle.hex.specs.Hex.{IsBytes, encode_lower};
-ghost use Rattle.lfs_script.specs.Bytes.{AppendsSome};
+ghost use Rattle.lfs_script.specs.Bytes.{Puts};
 ghost use Rattle.lfs_model.specs.Script as script;
 ghost use Rattle.lfs_script.specs.Reading.{IsRead};
 ghost use Rattle.lfs_script.specs.Words.{escaped_byte, escaped_bytes, is_plain};
@@ -149,10 +148,7 @@ pub fn read_escaped(alloc: Global, word: &[u8]) -> Result<Vec<u8>, WordFault>
 }
 
 fn put_byte<W: Write>(writer: &mut W, byte: u8) -> Result<(), Stopped>
-    ensures ok { OnOk result (Appends (W.contents writer.old) (W.contents writer.new)
-        (script.word_byte byte)) }
-    ensures err { OnErr result (AppendsSome (W.contents writer.old) (W.contents writer.new)
-        (script.word_byte byte)) }
+    ensures { Puts (W.contents writer.old) (W.contents writer.new) (script.word_byte byte) result }
 {
     if is_plain(byte) {
         return put(writer, &[byte]);
@@ -163,10 +159,7 @@ fn put_byte<W: Write>(writer: &mut W, byte: u8) -> Result<(), Stopped>
 
 /// Writes the word of the bytes. It takes no memory.
 pub fn put_escaped<W: Write>(writer: &mut W, bytes: &[u8]) -> Result<(), Stopped>
-    ensures ok { OnOk result (Appends (W.contents writer.old) (W.contents writer.new)
-        (script.word bytes.now)) }
-    ensures err { OnErr result (AppendsSome (W.contents writer.old) (W.contents writer.new)
-        (script.word bytes.now)) }
+    ensures { Puts (W.contents writer.old) (W.contents writer.new) (script.word bytes.now) result }
 {
     if bytes.is_empty() {
         return put(writer, b"\\");

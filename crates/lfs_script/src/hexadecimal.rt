@@ -1,10 +1,9 @@
 // Bytes as words of hexadecimal digits.
-ghost use Rattle.std.specs.Prelude.{◌≡◌, ◌≤◌, OnOk, OnErr, length};
+ghost use Rattle.std.specs.Prelude.{◌≡◌, ◌≤◌, length};
 ghost use Rattle.std.specs.List.{list_all};
-ghost use Rattle.std.specs.Io.KnownBytes.{Appends};
 ghost use Rattle.hex.specs.Hex.{IsBytes, encode_lower};
 ghost use Rattle.lfs_model.specs.Script as script;
-ghost use Rattle.lfs_script.specs.Bytes.{AppendsSome};
+ghost use Rattle.lfs_script.specs.Bytes.{Puts};
 ghost use Rattle.lfs_script.specs.Reading.{IsRead};
 ghost use Rattle.lfs_script.specs.Words.{is_lower_digit, is_pairs};
 
@@ -59,10 +58,7 @@ const PIECE: usize = 256;
 // Writes the digits of a piece.
 fn put_digits<W: Write>(writer: &mut W, piece: &[u8]) -> Result<(), Stopped>
     requires { length piece.now ≤ PIECE }
-    ensures ok { OnOk result (Appends (W.contents writer.old) (W.contents writer.new)
-        (encode_lower piece.now)) }
-    ensures err { OnErr result (AppendsSome (W.contents writer.old) (W.contents writer.new)
-        (encode_lower piece.now)) }
+    ensures { Puts (W.contents writer.old) (W.contents writer.new) (encode_lower piece.now) result }
 {
     let mut room = [0; 512];
     let digits = &mut room[..2 * piece.len()];
@@ -72,10 +68,7 @@ fn put_digits<W: Write>(writer: &mut W, piece: &[u8]) -> Result<(), Stopped>
 
 /// Writes the word of the bytes. It takes no memory.
 pub fn put_hex<W: Write>(writer: &mut W, bytes: &[u8]) -> Result<(), Stopped>
-    ensures ok { OnOk result (Appends (W.contents writer.old) (W.contents writer.new)
-        (script.hex bytes.now)) }
-    ensures err { OnErr result (AppendsSome (W.contents writer.old) (W.contents writer.new)
-        (script.hex bytes.now)) }
+    ensures { Puts (W.contents writer.old) (W.contents writer.new) (script.hex bytes.now) result }
 {
     if bytes.is_empty() {
         return put(writer, b"-");

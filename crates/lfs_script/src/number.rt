@@ -1,7 +1,6 @@
 // Numbers as words: decimal, without leading zeros.
-ghost use Rattle.std.specs.Prelude.{◌≡◌, ◌≢◌, ◌↔◌, ◌<◌, ◌^◌, ℕ, None, IsTrue, IfSome, OnOk, OnErr, decimal};
-ghost use Rattle.std.specs.Io.KnownBytes.{Appends};
-ghost use Rattle.lfs_script.specs.Bytes.{AppendsSome};
+ghost use Rattle.std.specs.Prelude.{◌≡◌, ◌≢◌, ◌↔◌, ◌<◌, ◌^◌, ℕ, None, IsTrue, IfSome, decimal};
+ghost use Rattle.lfs_script.specs.Bytes.{Puts};
 ghost use Rattle.lfs_script.specs.Words.{IsBare};
 
 use crate::sink::{Stopped, put};
@@ -58,10 +57,7 @@ pub fn read_u8(word: &[u8]) -> Option<u8>
 
 /// Writes the number's word. It takes no memory.
 pub fn put_number<W: Write>(writer: &mut W, number: u64) -> Result<(), Stopped>
-    ensures ok { OnOk result (Appends (W.contents writer.old) (W.contents writer.new)
-        (decimal number)) }
-    ensures err { OnErr result (AppendsSome (W.contents writer.old) (W.contents writer.new)
-        (decimal number)) }
+    ensures { Puts (W.contents writer.old) (W.contents writer.new) (decimal number) result }
 {
     let mut digits = Buffer::new();
     put(writer, digits.format(number).as_bytes())

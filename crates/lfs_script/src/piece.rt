@@ -1,7 +1,6 @@
 // Texts of several pieces.
-ghost use Rattle.std.specs.Prelude.{◌≡◌, OnOk, OnErr, flat_map};
-ghost use Rattle.std.specs.Io.KnownBytes.{Appends};
-ghost use Rattle.lfs_script.specs.Bytes.{AppendsSome};
+ghost use Rattle.std.specs.Prelude.{◌≡◌, flat_map};
+ghost use Rattle.lfs_script.specs.Bytes.{Puts};
 ghost use Rattle.lfs_script.specs.Pieces.{piece_text};
 
 use crate::escape::put_escaped;
@@ -23,10 +22,7 @@ pub enum Piece<'a> {
 }
 
 fn put_piece<W: Write>(writer: &mut W, piece: Piece<'_>) -> Result<(), Stopped>
-    ensures ok { OnOk result (Appends (W.contents writer.old) (W.contents writer.new)
-        (piece_text piece.entry)) }
-    ensures err { OnErr result (AppendsSome (W.contents writer.old) (W.contents writer.new)
-        (piece_text piece.entry)) }
+    ensures { Puts (W.contents writer.old) (W.contents writer.new) (piece_text piece.entry) result }
 {
     match piece {
         Piece::Text(text) => put(writer, text),
@@ -38,10 +34,8 @@ fn put_piece<W: Write>(writer: &mut W, piece: Piece<'_>) -> Result<(), Stopped>
 
 /// Writes the pieces one after the other. After an error a beginning of them went out.
 pub fn put_all<W: Write>(writer: &mut W, pieces: &[Piece<'_>]) -> Result<(), Stopped>
-    ensures ok { OnOk result (Appends (W.contents writer.old) (W.contents writer.new)
-        (flat_map piece_text pieces.now)) }
-    ensures err { OnErr result (AppendsSome (W.contents writer.old) (W.contents writer.new)
-        (flat_map piece_text pieces.now)) }
+    ensures { Puts (W.contents writer.old) (W.contents writer.new)
+        (flat_map piece_text pieces.now) result }
 {
     for piece in pieces {
         put_piece(writer, *piece)?;

@@ -1,7 +1,6 @@
 // The reply to a line.
-ghost use Rattle.std.specs.Prelude.{◌≡◌, [], ◌∷◌, ◌++◌, length, IfOk, OnOk, OnErr, codes, decimal, flat_map};
-ghost use Rattle.std.specs.Io.KnownBytes.{Appends};
-ghost use Rattle.lfs_script.specs.Bytes.{AppendsSome};
+ghost use Rattle.std.specs.Prelude.{◌≡◌, [], ◌∷◌, ◌++◌, length, IfOk, codes, decimal, flat_map};
+ghost use Rattle.lfs_script.specs.Bytes.{Puts};
 ghost use Rattle.lfs_script.specs.Pieces.{piece_text};
 ghost use Rattle.lfs_model.specs.Script.{bad, entry_line, head_text, kind_name, ok, reply, row_line};
 ghost use Rattle.lfs_fs.specs.Answers.{entry_of, row_of};
@@ -40,10 +39,8 @@ fn head_of(row: &TreeRow) -> Piece<'_>
 }
 
 fn put_row<W: Write>(writer: &mut W, row: &TreeRow) -> Result<(), Stopped>
-    ensures ok { OnOk result (Appends (W.contents writer.old) (W.contents writer.new)
-        (row_line (row_of row.now))) }
-    ensures err { OnErr result (AppendsSome (W.contents writer.old) (W.contents writer.new)
-        (row_line (row_of row.now))) }
+    ensures { Puts (W.contents writer.old) (W.contents writer.new)
+        (row_line (row_of row.now)) result }
 {
     put_all(
         writer,
@@ -67,10 +64,9 @@ fn put_row<W: Write>(writer: &mut W, row: &TreeRow) -> Result<(), Stopped>
 }
 
 fn put_tree<W: Write>(writer: &mut W, rows: &[TreeRow]) -> Result<(), Stopped>
-    ensures ok { OnOk result (Appends (W.contents writer.old) (W.contents writer.new)
-        (ok (decimal (length rows.now) ∷ []) ++ flat_map (λ row. row_line (row_of row)) rows.now)) }
-    ensures err { OnErr result (AppendsSome (W.contents writer.old) (W.contents writer.new)
-        (ok (decimal (length rows.now) ∷ []) ++ flat_map (λ row. row_line (row_of row)) rows.now)) }
+    ensures { Puts (W.contents writer.old) (W.contents writer.new)
+        (ok (decimal (length rows.now) ∷ []) ++ flat_map (λ row. row_line (row_of row)) rows.now)
+        result }
 {
     put_number_line(writer, rows.len() as u64)?;
     for row in rows {
@@ -80,10 +76,8 @@ fn put_tree<W: Write>(writer: &mut W, rows: &[TreeRow]) -> Result<(), Stopped>
 }
 
 fn put_entry<W: Write>(writer: &mut W, entry: &Entry) -> Result<(), Stopped>
-    ensures ok { OnOk result (Appends (W.contents writer.old) (W.contents writer.new)
-        (entry_line (entry_of entry.now))) }
-    ensures err { OnErr result (AppendsSome (W.contents writer.old) (W.contents writer.new)
-        (entry_line (entry_of entry.now))) }
+    ensures { Puts (W.contents writer.old) (W.contents writer.new)
+        (entry_line (entry_of entry.now)) result }
 {
     put_all(
         writer,
@@ -99,12 +93,9 @@ fn put_entry<W: Write>(writer: &mut W, entry: &Entry) -> Result<(), Stopped>
 }
 
 fn put_entries<W: Write>(writer: &mut W, entries: &[Entry]) -> Result<(), Stopped>
-    ensures ok { OnOk result (Appends (W.contents writer.old) (W.contents writer.new)
+    ensures { Puts (W.contents writer.old) (W.contents writer.new)
         (ok (decimal (length entries.now) ∷ []) ++ flat_map (λ entry. entry_line (entry_of entry))
-        entries.now)) }
-    ensures err { OnErr result (AppendsSome (W.contents writer.old) (W.contents writer.new)
-        (ok (decimal (length entries.now) ∷ []) ++ flat_map (λ entry. entry_line (entry_of entry))
-        entries.now)) }
+        entries.now) result }
 {
     put_number_line(writer, entries.len() as u64)?;
     for entry in entries {
@@ -114,21 +105,16 @@ fn put_entries<W: Write>(writer: &mut W, entries: &[Entry]) -> Result<(), Stoppe
 }
 
 fn put_number_line<W: Write>(writer: &mut W, number: u64) -> Result<(), Stopped>
-    ensures ok { OnOk result (Appends (W.contents writer.old) (W.contents writer.new)
-        (ok (decimal number ∷ []))) }
-    ensures err { OnErr result (AppendsSome (W.contents writer.old) (W.contents writer.new)
-        (ok (decimal number ∷ []))) }
+    ensures { Puts (W.contents writer.old) (W.contents writer.new)
+        (ok (decimal number ∷ [])) result }
 {
     put_all(writer, &[Piece::Text(b"ok "), Piece::Number(number), END])
 }
 
 fn put_stat<W: Write>(writer: &mut W, stat: Stat) -> Result<(), Stopped>
-    ensures ok { OnOk result (Appends (W.contents writer.old) (W.contents writer.new)
+    ensures { Puts (W.contents writer.old) (W.contents writer.new)
         (ok (decimal stat.number ∷ kind_name stat.kind ∷ decimal stat.links ∷ decimal stat.size ∷
-        []))) }
-    ensures err { OnErr result (AppendsSome (W.contents writer.old) (W.contents writer.new)
-        (ok (decimal stat.number ∷ kind_name stat.kind ∷ decimal stat.links ∷ decimal stat.size ∷
-        []))) }
+        [])) result }
 {
     put_all(
         writer,
@@ -147,12 +133,9 @@ fn put_stat<W: Write>(writer: &mut W, stat: Stat) -> Result<(), Stopped>
 }
 
 fn put_space<W: Write>(writer: &mut W, space: Space) -> Result<(), Stopped>
-    ensures ok { OnOk result (Appends (W.contents writer.old) (W.contents writer.new)
+    ensures { Puts (W.contents writer.old) (W.contents writer.new)
         (ok (decimal space.data_blocks ∷ decimal space.meta_blocks ∷ decimal space.need ∷ decimal
-        space.limit ∷ []))) }
-    ensures err { OnErr result (AppendsSome (W.contents writer.old) (W.contents writer.new)
-        (ok (decimal space.data_blocks ∷ decimal space.meta_blocks ∷ decimal space.need ∷ decimal
-        space.limit ∷ []))) }
+        space.limit ∷ [])) result }
 {
     put_all(
         writer,
@@ -172,19 +155,15 @@ fn put_space<W: Write>(writer: &mut W, space: Space) -> Result<(), Stopped>
 
 /// Writes the reply to a bad line of this number.
 pub fn put_bad<W: Write>(writer: &mut W, line: u64) -> Result<(), Stopped>
-    ensures ok { OnOk result (Appends (W.contents writer.old) (W.contents writer.new) (bad line)) }
-    ensures err { OnErr result (AppendsSome (W.contents writer.old) (W.contents writer.new)
-        (bad line)) }
+    ensures { Puts (W.contents writer.old) (W.contents writer.new) (bad line) result }
 {
     put_all(writer, &[Piece::Text(b"bad "), Piece::Number(line), END])
 }
 
 // Writes the reply to a call that isn't refused.
 fn put_answer<W: Write>(writer: &mut W, answer: &Answer) -> Result<(), Stopped>
-    ensures ok { OnOk result (Appends (W.contents writer.old) (W.contents writer.new)
-        (reply (answer_of answer.now))) }
-    ensures err { OnErr result (AppendsSome (W.contents writer.old) (W.contents writer.new)
-        (reply (answer_of answer.now))) }
+    ensures { Puts (W.contents writer.old) (W.contents writer.new)
+        (reply (answer_of answer.now)) result }
 {
     match answer {
         Answer::Done => put_all(writer, &[Piece::Text(b"ok"), END]),
@@ -208,10 +187,8 @@ fn put_answer<W: Write>(writer: &mut W, answer: &Answer) -> Result<(), Stopped>
 
 /// Writes the reply, piece by piece. It takes no memory. After an error a beginning of it went out.
 pub fn put_reply<W: Write>(writer: &mut W, answer: &Result<Answer, FsError>) -> Result<(), Stopped>
-    ensures ok { OnOk result (Appends (W.contents writer.old) (W.contents writer.new)
-        (reply (result_of answer.now))) }
-    ensures err { OnErr result (AppendsSome (W.contents writer.old) (W.contents writer.new)
-        (reply (result_of answer.now))) }
+    ensures { Puts (W.contents writer.old) (W.contents writer.new)
+        (reply (result_of answer.now)) result }
 {
     match answer {
         Ok(answer) => put_answer(writer, answer),

@@ -1,7 +1,6 @@
 // Bytes out.
-ghost use Rattle.std.specs.Prelude.{◌≡◌, ℕ, ◌<◌, ◌++◌, take, length, OnOk, OnErr};
-ghost use Rattle.std.specs.Io.KnownBytes.{Appends};
-ghost use Rattle.lfs_script.specs.Bytes.{AppendsSome};
+ghost use Rattle.std.specs.Prelude.{◌≡◌, ℕ, ◌<◌, ◌++◌, take, length};
+ghost use Rattle.lfs_script.specs.Bytes.{Puts};
 
 use std::io::Write;
 
@@ -11,9 +10,7 @@ pub struct Stopped;
 
 /// Writes all the bytes, in as many calls as it takes. After an error a beginning of them went out.
 pub fn put<W: Write>(writer: &mut W, bytes: &[u8]) -> Result<(), Stopped>
-    ensures ok { OnOk result (Appends (W.contents writer.old) (W.contents writer.new) bytes.now) }
-    ensures err { OnErr result (AppendsSome (W.contents writer.old) (W.contents writer.new)
-        bytes.now) }
+    ensures { Puts (W.contents writer.old) (W.contents writer.new) bytes.now result }
 {
     let mut at = 0;
     while at < bytes.len() {

@@ -1,7 +1,7 @@
 // Bytes of a reader, one at a time.
-ghost use Rattle.std.specs.Prelude.{◌≡◌, ◌-◌, ◌<◌, ◌≤◌, ◌∷◌, [], List, None, take, drop, length, OnErr, IfOk, vec_len, slice_range};
+ghost use Rattle.std.specs.Prelude.{◌≡◌, ◌-◌, ◌<◌, ◌≤◌, [], None, take, OnErr, IfOk, vec_len, slice_range};
 ghost use Rattle.std.specs.Io.KnownBytes.{Consumes, IsAtEnd, Keeps, prepend_known};
-ghost use Rattle.lfs_script.specs.Bytes.{taken};
+ghost use Rattle.lfs_script.specs.Bytes.{TakesByte};
 
 use std::alloc::{AllocError, Global};
 use std::io::{Read, Write};
@@ -59,15 +59,10 @@ impl Source {
         reader: &mut R,
         writer: &mut W,
     ) -> Result<Option<u8>, ReadError>
-        ensures bytes { Consumes (prepend_known
+        ensures takes { TakesByte (prepend_known
             (slice_range self.old.chunk.items self.old.start self.old.end) (R.remaining reader.old))
-            (prepend_known (slice_range self.new.chunk.items self.new.start self.new.end)
-            (R.remaining reader.new)) (taken result) }
-        ensures end { IfOk result (λ byte. byte ≡ None
-            → IsAtEnd (prepend_known (slice_range self.new.chunk.items self.new.start self.new.end)
-            (R.remaining reader.new))) }
-        ensures err { OnErr result (slice_range self.new.chunk.items self.new.start self.new.end
-            ≡ []) }
+            (R.remaining reader.new)
+            (slice_range self.new.chunk.items self.new.start self.new.end) result }
         ensures kept { Keeps (W.contents writer.old) (W.contents writer.new) }
     {
         if self.start == self.end {
@@ -85,14 +80,8 @@ impl Source {
         writer: &mut W,
     ) -> Result<Option<u8>, ReadError>
         requires { self.old.start ≡ self.old.end }
-        ensures bytes { Consumes (R.remaining reader.old)
-            (prepend_known (slice_range self.new.chunk.items self.new.start self.new.end)
-            (R.remaining reader.new)) (taken result) }
-        ensures end { IfOk result (λ byte. byte ≡ None
-            → IsAtEnd (prepend_known (slice_range self.new.chunk.items self.new.start self.new.end)
-            (R.remaining reader.new))) }
-        ensures err { OnErr result (slice_range self.new.chunk.items self.new.start self.new.end
-            ≡ []) }
+        ensures takes { TakesByte (R.remaining reader.old) (R.remaining reader.new)
+            (slice_range self.new.chunk.items self.new.start self.new.end) result }
         ensures kept { Keeps (W.contents writer.old) (W.contents writer.new) }
     {
         self.start = 0;

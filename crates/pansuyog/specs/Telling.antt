@@ -3,7 +3,7 @@ use Rattle.std.specs.Prelude.{◌≡◌, ◌≤◌, ℕ, ℤ, pos, List, [], len
 use Rattle.lfs_model.specs.Call as model
 use Rattle.lfs_model.specs.Call.{Answer, Call}
 use Rattle.lfs_fs.specs.Answers.{entry_of}
-use Rattle.lfs_fs.specs.declared.rows.Entry.{Entry as Row}
+use Rattle.lfs_fs.specs.entries.declared.rows.ListedEntry.{ListedEntry as Row}
 use Rattle.lfs_fs.specs.declared.rows.Stat.{Stat as Told}
 use Rattle.pansuyog.specs.Bytes.{filled}
 use Rattle.pansuyog.specs.Codes.{code_of_count, code_of_kind, code_of_refusal, not_mounted}

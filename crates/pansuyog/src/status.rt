@@ -1,7 +1,9 @@
 //! What is told of an object and of the volume (POSIX.1-2017: stat, lstat, readlink).
 ghost use Rattle.lfs_model.specs.Call as call;
-ghost use Rattle.lfs_model.specs.Call.{StatOf, LstatOf, Readlink};
+ghost use Rattle.lfs_model.specs.Call.{StatOf, LstatOf, Readlink, Status};
 ghost use Rattle.std.specs.Prelude.{◌≡◌};
+ghost use Rattle.lfs_fs.specs.Answers.{status_of};
+ghost use Rattle.lfs_fs.specs.Seen.{answer_by};
 ghost use Rattle.pansuyog.specs.Codes.{code_of_kind};
 ghost use Rattle.pansuyog.specs.Serving.{Answers, KeepsRest, ServesBytes, TellsBytes};
 ghost use Rattle.pansuyog.specs.Telling.{IsStat, ServesSpace, ServesStat, TellsSpace, TellsStat};
@@ -9,7 +11,7 @@ ghost use Rattle.pansuyog.specs.Telling.{IsStat, ServesSpace, ServesStat, TellsS
 use crate::bytes::put;
 use crate::codes::{NOT_MOUNTED, code_of};
 use crate::handle::Handle;
-use lfs_fs::Fs;
+use lfs_fs::{Fs, FsError};
 use lfs_model::Kind;
 use lfs_queue::QueueDevice;
 
@@ -62,24 +64,12 @@ fn in_c(stat: lfs_fs::Stat) -> Stat
     }
 }
 
-/// Tells C of the object of a path, whose last link is followed.
-fn tell(fs: &mut Fs<QueueDevice>, path: &[u8], out: &mut Stat) -> i32
-    ensures { Answers fs.old fs.new (StatOf path.now) (TellsStat result out.old out.new) }
+/// Tells C of an object by what a call found of it.
+fn tell(found: Result<lfs_fs::Stat, FsError>, out: &mut Stat) -> i32
+    ensures { TellsStat result out.old out.new
+        (answer_by (λ stat. Status (status_of stat)) found) }
 {
-    match fs.stat(path) {
-        Ok(stat) => {
-            *out = in_c(stat);
-            0
-        }
-        Err(fault) => code_of(fault),
-    }
-}
-
-/// Tells C of the object of a path, whose last link isn't followed.
-fn tell_itself(fs: &mut Fs<QueueDevice>, path: &[u8], out: &mut Stat) -> i32
-    ensures { Answers fs.old fs.new (LstatOf path.now) (TellsStat result out.old out.new) }
-{
-    match fs.lstat(path) {
+    match found {
         Ok(stat) => {
             *out = in_c(stat);
             0
@@ -96,7 +86,7 @@ pub extern "C" fn pansuyog_stat(volume: &mut Handle, path: &[u8], out: &mut Stat
     ensures rest { KeepsRest volume.old.value volume.new.value }
 {
     match &mut volume.volume().fs {
-        Some(fs) => tell(fs, path, out),
+        Some(fs) => tell(fs.stat(path), out),
         None => NOT_MOUNTED,
     }
 }
@@ -109,7 +99,7 @@ pub extern "C" fn pansuyog_lstat(volume: &mut Handle, path: &[u8], out: &mut Sta
     ensures rest { KeepsRest volume.old.value volume.new.value }
 {
     match &mut volume.volume().fs {
-        Some(fs) => tell_itself(fs, path, out),
+        Some(fs) => tell(fs.lstat(path), out),
         None => NOT_MOUNTED,
     }
 }

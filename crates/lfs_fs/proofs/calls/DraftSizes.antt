@@ -14,7 +14,6 @@ use Rattle.lfs_store.specs.Growing.{GrowsBy}
 use Rattle.lfs_store.specs.Writing.{SetsLen, Writes}
 use Rattle.lfs_store.proofs.Growths.{grown_fits, grows_none, grows_weaker, room_few}
 use Rattle.lfs_path.specs.dirs.Growing.{GrowsDirectory}
-use Rattle.lfs_path.specs.dirs.Taking.{Takes}
 use Rattle.lfs_fs.specs.declared.error.FsError.{FsError}
 use Rattle.lfs_fs.specs.declared.error.FsError.TheVariants as error
 use Rattle.lfs_fs.specs.Drafted.{files_of}
@@ -28,10 +27,6 @@ grows_still c h k = grows_weaker c c 0 0 h k (omega arith) (omega arith) (grows_
 module _ {D : Type 0} (state : D → DeviceState) (a b : Store D) where
   pub adds_grow : (h k : ℕ) → GrowsDirectory (files_of state a) (files_of state b) h k → GrowsBy a.draft.changes b.draft.changes h k
   adds_grow h k is = record { headers = is.headers; blocks = is.blocks }
-
-  pub takes_grow : (d : ℕ) (head : Header) (name : List ℕ) → Takes (files_of state a) (files_of state b) d head name
-      → GrowsBy a.draft.changes b.draft.changes 2 2
-  takes_grow d head name is = record { headers = is.drops.headers; blocks = is.drops.blocks }
 
 -- ---- bytes of files
 module _ {D : Type 0} (state : D → DeviceState) (h h' : Held D) where

@@ -1,35 +1,30 @@
 -- The model's steps of the calls, from what the log map says: headers, bytes read, and totals for room.
-use Rattle.std.proofs.Common.{Bool, not, ◌&&◌, ◌≡◌, ◌<◌, ◌≤◌, ◌+◌, ◌-◌, ◌*◌, ◌^◌, ◌||◌, ℕ, true, false, List, length, take, drop, Some, sym}
+use Rattle.std.proofs.Common.{Bool, ◌≡◌, ◌<◌, ◌≤◌, ◌+◌, ◌-◌, ◌*◌, ◌^◌, ℕ, true, false, List, length, take, drop, Some, sym}
 use Rattle.std.proofs.Common.{◌∙◌, ap, subst, inr, ⊎_elim, arith}
 use Rattle.std.specs.Prelude.{max, min}
 use Rattle.std.proofs.lemmas.List.{drop_min, length-drop, take_min}
 use Rattle.std.specs.Ordering.{nat_cmp}
 use Rattle.std.specs.FinMap.{find}
 use Rattle.lfs_model.specs.Bytes.{AreBytes, part}
-use Rattle.lfs_model.specs.Call.{Answer, AreArguments, Call, Count, Data, Pread, Pwrite, Refuse, Room, Space, Stat, Status, changes, cleans}
+use Rattle.lfs_model.specs.Call.{Answer, Call, Count, Data, Pread, Pwrite, Refuse, Room, Space, Stat, Status, changes, cleans}
 use Rattle.lfs_model.specs.Call.{is_ok}
 use Rattle.lfs_model.specs.Entry as entry
-use Rattle.lfs_model.specs.Inode.{IsForm}
 use Rattle.lfs_model.specs.Need.{need}
 use Rattle.lfs_model.specs.Objects.{IsHeaderOf}
-use Rattle.lfs_model.specs.PathText.{slash}
 use Rattle.lfs_model.specs.Refusal.{NoSpace, Refusal, Worn}
 use Rattle.lfs_model.specs.Run.{IsExcused, IsPastLast, Point}
 use Rattle.lfs_model.specs.Stands.{LogMap}
-use Rattle.lfs_model.specs.Step.{Step, is_full, is_long, is_there, last_dots, name, no_last, with_new, with_tree}
-use Rattle.lfs_model.specs.Tree.{State, least}
+use Rattle.lfs_model.specs.Step.{Step, with_tree}
+use Rattle.lfs_model.specs.Tree.{State}
 use Rattle.lfs_model.specs.TreeOf.{object}
-use Rattle.lfs_model.specs.Walk.{At, Parent, Resolve}
+use Rattle.lfs_model.specs.Walk.{At, Resolve}
 use Rattle.lfs_model.proofs.StepsAre.{step_unique}
 use Rattle.lfs_model.proofs.Standing.{object_length}
 use Rattle.lfs_files.specs.declared.header.Header.{Header}
 use Rattle.lfs_store.specs.memory.Present.{as_header}
 use Rattle.lfs_model.specs.Totals.{IsCounted, TotalsOfTree}
 use Rattle.lfs_store.specs.Writing.{WritesFile, resized}
-use Rattle.lfs_fs.specs.Naming.{NewKind, form_of_new, kind_of_new}
 use Rattle.lfs_fs.specs.Reading.{stat_call}
-use Rattle.lfs_fs.proofs.new_entries.Maps.{NamesNew, created_map, created_need}
-use Rattle.lfs_fs.proofs.new_entries.Steps.{MakesEntry, new_done, new_no_space, new_node, with_entry}
 use Rattle.lfs_fs.proofs.volume.Nodes.{IsFileOf, IsMapOf, IsShaped, opened_file, room_counted, stat_is}
 use Rattle.lfs_fs.proofs.open_files.Steps.{read_done, write_done, write_no_space, written}
 use Rattle.lfs_fs.proofs.paths.Steps.{space_done, stat_done}
@@ -138,38 +133,3 @@ module _ (N : ℕ) (m : LogMap) (s : State) (is : IsMapOf N m s) where
             × (AreBytes w → blocks + 7 * others + 720 ≤ 47 * N
             → IsMapOf N m' (with_tree s (written N s h at w)))
         pwrite_ends = (pwrite_full, pwrite_step, λ bytes room. pwrite_map room bytes)
-
-      -- a new entry
-      module _ (p : List ℕ) (d : ℕ) (walk : Parent s.tree p (At d)) (m1 : LogMap) (n : ℕ) (first : least s.tree ≡ n) (top : n ≤ 4095)
-          (new : is_there s.tree d p ≡ false)
-          (k : NewKind) (known : IsForm s.version (kind_of_new k) (form_of_new k)) (head : Header) (size at : ℕ) (w : List ℕ) (does :
-          NamesNew m m1 m' d n k head size at w (name p)) (call : Call) (is_mkdir : Bool) (e : MakesEntry N s p d call k is_mkdir)
-          (named : (no_last p || last_dots p) ≡ false) (short : is_long s.tree d p ≡ false) (plain : (slash p && not is_mkdir) ≡ false)
-          (space : is_full s.tree d ≡ false) (allowed : e.own ≡ false) where
-        needs_entry : need (with_new s.tree d p (new_node k)) ≡ blocks + 7 * others + 720
-        needs_entry = created_need N m m1 m' s is p d walk n first top new k known head size at w does totals shaped blocks others counted
-
-        number : least s.tree ≤ 4095
-        number = omega (arith, first, top)
-
-        entry_full : 47 * N < blocks + 7 * others + 720 → Step N s call (Refuse NoSpace) s
-        entry_full lacks = new_no_space N s p d call k is_mkdir e named short new plain space allowed number
-            (let same = needs_entry in omega (arith, same, lacks))
-
-        module _ (room : blocks + 7 * others + 720 ≤ 47 * N) where
-          entry_fits : need (with_new s.tree d p (new_node k)) ≤ 47 * N
-          entry_fits = let same = needs_entry in omega (arith, same, room)
-
-          entry_step : Step N s call e.answer (with_entry N s p d call k is_mkdir e)
-          entry_step = new_done N s p d call k is_mkdir e named short new plain space allowed number entry_fits
-
-          entry_map : AreArguments call → IsMapOf N m' (with_entry N s p d call k is_mkdir e)
-          entry_map arguments = created_map N m m1 m' s is p d walk n first top new k known head size at w does call is_mkdir e arguments
-              named short plain space allowed entry_fits
-
-        pub entry_ends : (47 * N < blocks + 7 * others + 720 → Step N s call (Refuse NoSpace) s)
-            × (blocks + 7 * others + 720 ≤ 47 * N
-            → Step N s call e.answer (with_entry N s p d call k is_mkdir e))
-            × (AreArguments call → blocks + 7 * others + 720 ≤ 47 * N
-            → IsMapOf N m' (with_entry N s p d call k is_mkdir e))
-        entry_ends = (entry_full, entry_step, λ arguments room. entry_map room arguments)

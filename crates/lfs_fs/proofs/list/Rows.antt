@@ -3,12 +3,29 @@ use Rattle.std.proofs.Common.{◌≡◌, ◌<◌, ◌≤◌, ◌+◌, ◌-◌, �
 use Rattle.std.specs.Prelude.{flat_map, unwrap_or}
 use Rattle.lfs_model.specs.Call.{TreeRow}
 use Rattle.lfs_model.specs.Stands.{LogMap}
-use Rattle.lfs_model.specs.Step.{rows_of}
-use Rattle.lfs_model.specs.Tree.{File, Node, State, Tree, names_of}
+use Rattle.lfs_model.specs.Step.{head_of, rows_of, stat_of, the_node}
+use Rattle.lfs_model.specs.Tree.{File, Node, State, Tree, names_in, names_of}
 use Rattle.lfs_model.specs.TreeOf.{node_of, nodes_from, tree_in, with_object}
 use Rattle.lfs_model.specs.Volume.{IsLogOf}
-use Rattle.lfs_fs.specs.Reading.{row_at, rows_at, rows_from}
 use Rattle.lfs_fs.proofs.volume.Nodes.{node_is}
+
+-- the model's row of an entry of directory d
+abbrev pub row_at : Tree → ℕ → List ℕ × ℕ → TreeRow
+row_at t d e = record {
+  directory = d;
+  name = e.0;
+  stat = stat_of t e.1;
+  head = head_of (the_node t e.1);
+}
+
+-- the rows of directory d; none where no directory is
+abbrev pub rows_at : Tree → ℕ → List TreeRow
+rows_at t d = map (row_at t d) (names_in t d)
+
+-- the rows of the count numbers from a on
+unfoldable pub rows_from : Tree → ℕ → ℕ → List TreeRow
+rows_from t zero a = []
+rows_from t (suc count) a = rows_at t a ++ rows_from t count (a + 1)
 
 -- ---- number by number
 

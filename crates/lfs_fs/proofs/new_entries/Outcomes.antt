@@ -1,208 +1,103 @@
--- An object that was to be made under the last piece of a path: it is, it isn't staged, or it wasn't drafted.
-use Rattle.std.proofs.Common.{refl, Result, Ok, Err, ap, true, ◌≡◌, ◌<◌, ℕ, false, List, Option, Some, None, sym, ◌∙◌, subst}
-use Rattle.std.proofs.Common.{⊎_elim, inl, inr}
-use Rattle.std.specs.Prelude.{IfErr, OnOk}
-use Rattle.std.specs.Ordering.{nat_cmp}
-use Rattle.std.specs.FinMap.{put}
-use Rattle.lfs_model.specs.Image.{new_form}
-use Rattle.lfs_model.specs.declared.Kind.TheVariants as kind
-use Rattle.lfs_model.specs.Call.{Answer, Create, Done, Handle, Mkdir, Refuse, Symlink, is_ok}
-use Rattle.lfs_model.specs.Bytes.{AreBytes}
+-- The calls that make an object under the last piece of a path, exit by exit.
+use Rattle.std.proofs.Common.{◌≡◌, ◌<◌, ℕ, true, false, List, Ok, Err, sym, ◌∙◌, arith}
+use Rattle.lfs_model.specs.declared.limits.TheConstants.{MOST_LINKS}
+use Rattle.lfs_model.specs.Call.{Refuse}
 use Rattle.lfs_model.specs.Checkpoint.{CheckpointValue}
 use Rattle.lfs_model.specs.Device.{DeviceState, IsLawful}
-use Rattle.lfs_model.specs.PathText.{text_refusal}
+use Rattle.lfs_model.specs.Refusal as refusals
 use Rattle.lfs_model.specs.Stands.{LogMap}
-use Rattle.lfs_model.specs.Tree.{Handles, State, least, least_handle}
-use Rattle.lfs_model.specs.Walk.{At, Parent}
+use Rattle.lfs_model.specs.Step.{Step}
+use Rattle.lfs_model.specs.Tree.{State}
 use Rattle.lfs_files.specs.declared.header.Header.{Header}
-use Rattle.lfs_store.specs.log.Held.{IsVacant}
-use Rattle.lfs_store.proofs.LogReads.{fault_more}
+use Rattle.lfs_files.specs.Files as files
+use Rattle.lfs_store.specs.declared.store.Store.{Store}
+use Rattle.lfs_store.specs.log.Held.{HasAll, Holds, IsVacant}
 use Rattle.lfs_path.specs.declared.last.Last.{Last}
-use Rattle.lfs_fs.specs.declared.error.FsError.{FsError}
+use Rattle.lfs_entries.specs.declared.fault.EntryFault.{EntryFault}
+use Rattle.lfs_entries.specs.NewObjects.{makes_directory}
 use Rattle.lfs_fs.specs.declared.fs.Fs.{Fs}
-use Rattle.lfs_fs.specs.Naming.{DraftsNone, MakesNew, MakesNone, Reaches, TakesEntry, kind_of_new, new_directory, new_file, new_link}
+use Rattle.lfs_fs.specs.Drafted.{files_of}
+use Rattle.lfs_fs.specs.Faults.{error_of_entry}
+use Rattle.lfs_fs.specs.Naming.{BeginsAt}
 use Rattle.lfs_fs.specs.Refusals.{refusal_of}
-use Rattle.lfs_fs.specs.Seen.{OnlyReads, answer_by, seen}
-use Rattle.lfs_fs.specs.Volume.{Behaves, IsIn, IsStill, Mounted, Serves, segments_of}
-use Rattle.lfs_fs.proofs.volume.Map.{version_of_volume}
-use Rattle.lfs_fs.proofs.new_entries.Made.{made_serves, turned_serves}
-use Rattle.lfs_fs.proofs.calls.AnyDevice.{IsBounded, makes_behaves, write_behaves}
-use Rattle.lfs_fs.proofs.new_entries.Refusals.{handle_allowed, links_allowed}
-use Rattle.lfs_fs.proofs.new_entries.Steps.{NewCall, create_call, mkdir_call, symlink_call}
-use Rattle.lfs_fs.proofs.write.Ends.{still_more}
-use Rattle.lfs_fs.proofs.read.Ends.{none_serves}
+use Rattle.lfs_fs.specs.Seen.{seen}
+use Rattle.lfs_fs.specs.Volume.{IsIn, Serves, segments_of}
+use Rattle.lfs_fs.proofs.calls.AnyDevice.{IsOrdinary}
+use Rattle.lfs_fs.proofs.calls.Exits.{still_in}
+use Rattle.lfs_fs.proofs.calls.Files as calls
+use Rattle.lfs_fs.proofs.calls.Files.{refused_after, with_store}
+use Rattle.lfs_fs.proofs.new_entries.Maps.{Enters, IsNew}
+use Rattle.lfs_fs.proofs.new_entries.Rule.{InEach, RuleTold, at, begun, enters, read, rule_refused, still}
+use Rattle.lfs_fs.proofs.new_entries.Steps.{Asked, NewCall, checks_new, new_no_number, new_own}
+use Rattle.lfs_fs.proofs.paths.Named.{links_are}
+use Rattle.lfs_fs.proofs.volume.Directories.{least_number, no_least}
+use Rattle.lfs_fs.proofs.volume.Map.{map_of_volume, version_of_volume}
 
-module _ {D : Type 0} (state : D → DeviceState) (lawful : (d : D) → IsLawful (state d)) (v : Mounted D) (old mid : Fs D) (path : List ℕ)
-    (d : ℕ) (of : NewCall v.log.version (segments_of v) path d) (piece : Option Last)
-    (reached : Reaches state v old path d piece) (running : old.store.log.halted ≡ false) (last : Last) (some : piece ≡ Some last)
-    (only : OnlyReads state old mid) (head : Header)
-    (takes : TakesEntry state old mid d last.name.now last.slash of.is_mkdir head) (few : kind_of_new of.kind ≡ kind.Directory
-    → head.links < 1000) (n : ℕ) (vacant : IsVacant state mid.store.log n)
-    (allowed : (k : CheckpointValue) (m0 m : LogMap) (s : State) → (state mid.store.log.device).keeps_model → (is : IsIn state v k m0 m s)
-    → (walk : Parent s.tree path (At d)) → (of.makes s (version_of_volume state v k m0 m s is) walk).own ≡ false) where
-  -- the path has this last piece
-  with_last : Reaches state v old path d (Some last)
-  with_last = subst (λ (o : Option Last). Reaches state v old path d o) some reached
+module _ {D : Type 0} (state : D → DeviceState) (lawful : (d : D) → IsLawful (state d)) {old f : Fs D} {path : List ℕ} {d : ℕ} {l : Last}
+    (begins : BeginsAt state old f path d l) (of : NewCall old.store.log.version (segments_of (seen old)) path d) (store : Store D) where
+  abbrev N : ℕ
+  N = segments_of (seen old)
 
-  still : IsStill state v (seen mid)
-  still = still_more state lawful v (seen old) (seen mid) reached.still only.still
+  -- the directory doesn't take the entry
+  pub entry_refused : (why : EntryFault) → RuleTold (files_of state f.store) (files_of state store) d l of.is_mkdir (Err why)
+      → Serves state (seen old) (seen (with_store f store)) of.call (Refuse (refusal_of (error_of_entry why)))
+  entry_refused why rule =
+      rule_refused state lawful begins store rule.only.reads of.call of.uncommitted of.unclean of.remembering of.is_mkdir
+      (λ k m0 m s keeps is.
+      checks_new of s (version_of_volume state (seen old) k m0 m s is)
+      (at state lawful begins store rule.only.reads k m0 m s keeps is).walk)
+      why rule
 
-  was : v.log.halted ≡ false
-  was = sym reached.still.reads.halted ∙ running
+  -- it does
+  module _ (head : Header) (rule : RuleTold (files_of state f.store) (files_of state store) d l of.is_mkdir (Ok head)) where
+    abbrev reads : files.Reads (files_of state f.store) (files_of state store)
+    reads = rule.only.reads
 
-  -- nothing was drafted
-  undrafted_ends : (new : Fs D) → IsStill state (seen mid) (seen new) → (fault : FsError) → DraftsNone state mid new fault
-      → Serves state v (seen new) of.call (Refuse (refusal_of fault))
-  undrafted_ends new same fault none = none_serves state v (seen new) of.call (lawful v.log.device)
-      (still_more state lawful v (seen mid) (seen new) still same) was of.uncommitted
-      of.remembering fault (⊎_elim inl (λ failed. inr (
-        failed.0,
-        fault_more state v.log mid.store.log new.store.log still.reads failed.1,
-      )) none)
+    entering : InEach state lawful begins store reads (λ m s. Enters N m s path d l of.is_mkdir head)
+    entering = enters state lawful begins store reads of.is_mkdir head rule
 
-  pub unmade_ends : (new : Fs D) (fault : FsError) → MakesNone state mid new d head n of.kind last.name.now fault
-      → Serves state v (seen new) of.call (Refuse (refusal_of fault))
-  unmade_ends new fault none = ⊎_elim
-      (λ turned. turned_serves state lawful v old mid turned.mid path d of last with_last running only head takes few n vacant turned.ready
-      allowed new turned.table fault turned.turns)
-      (λ undrafted. undrafted_ends new undrafted.0 fault undrafted.1)
-      none
+    asked : (P : State → Type 0) → Asked d f.handles head.links P → InEach state lawful begins store reads (λ m s. P s)
+    asked P so k m0 m s keeps is =
+        let g = entering k m0 m s keeps is in so s (is.handles ∙ sym begins.reached.still.table) (links_are g.at head g.looks.header)
 
-  -- the object is made, and the table of open files is this one then
-  module _ (new : Fs D) (makes : MakesNew state mid new d head n of.kind last.name.now) (table : Handles) where
-    abbrev pub after : Mounted D
-    after = record {
-      log = new.store.log;
-      saved = new.store.log.saved;
-      blocks = new.store.log.totals.data_blocks;
-      others = new.store.log.totals.meta_blocks;
-      table = table;
-    }
+    refused : (r : refusals.Refusal) → IsOrdinary (Refuse r) → InEach state lawful begins store reads (λ m s. Step N s of.call (Refuse r) s)
+        → Serves state (seen old) (seen (with_store f store)) of.call (Refuse r)
+    refused = refused_after state lawful (seen old) f (begun state lawful begins store reads) store (still state lawful begins store reads)
+        of.call of.uncommitted of.unclean of.remembering
 
-    pub made_ends : (a : Answer) → is_ok a ≡ true → (IsBounded state v after of.call → Behaves state v after of.call a)
-        → ((s : State) (version : s.version ≡ v.log.version) (walk : Parent s.tree path (At d)) → s.handles ≡ v.table
-        → least s.tree ≡ n → ((of.makes s version walk).answer ≡ a) × ((of.makes s version walk).handles ≡ table))
-        → Serves state v after of.call a
-    made_ends a ok behaves ends =
-        made_serves state lawful v old mid makes.mid path d of last with_last running only head takes few n vacant makes.ready allowed new
-        makes.table makes.stages table a ok behaves ends
+    -- the call is refused for its own reason
+    pub own_refused : IsOrdinary (Refuse of.why) → Asked d f.handles head.links (λ s. of.own s ≡ true)
+        → Serves state (seen old) (seen (with_store f store)) of.call (Refuse of.why)
+    own_refused ordinary own = refused of.why ordinary (λ k m0 m s keeps is.
+        let g = entering k m0 m s keeps is in
+        new_own of s (version_of_volume state (seen old) k m0 m s is) g.at.walk g.taken
+        (asked (λ s. of.own s ≡ true) own k m0 m s keeps is))
 
-    -- the table before is that of the volume that the call began with
-    pub table_was : new.handles ≡ v.table
-    table_was = makes.table ∙ makes.ready.still.table ∙ still.table
+    holds_in : (k : CheckpointValue) (m0 m : LogMap) (s : State) → IsIn state (seen old) k m0 m s → Holds state store.log k m0 m
+    holds_in k m0 m s is =
+        (still_in state (seen old) (seen (with_store f store)) k m0 m s (read state lawful begins store reads).still is).stores.holds
 
--- ---- create
+    -- no number is free
+    pub number_refused : Asked d f.handles head.links (λ s. of.own s ≡ false) → HasAll state store.log
+        → Serves state (seen old) (seen (with_store f store)) of.call (Refuse refusals.NoNumber)
+    number_refused allowed all = refused refusals.NoNumber tt (λ k m0 m s keeps is.
+        let g = entering k m0 m s keeps is in
+        new_no_number of s (version_of_volume state (seen old) k m0 m s is) g.at.walk g.taken
+        (asked (λ s. of.own s ≡ false) allowed k m0 m s keeps is)
+        (no_least N m s (map_of_volume state (seen old) k m0 m s is) (all k m0 m (holds_in k m0 m s is))))
 
-module _ {D : Type 0} (state : D → DeviceState) (lawful : (d : D) → IsLawful (state d)) (v : Mounted D) (old mid : Fs D) (path : List ℕ)
-    (d : ℕ) (piece : Option Last)
-    (reached : Reaches state v old path d piece) (running : old.store.log.halted ≡ false) (last : Last) (some : piece ≡ Some last)
-    (only : OnlyReads state old mid) (head : Header)
-    (takes : TakesEntry state old mid d last.name.now last.slash false head) (handle : ℕ) (free : handle < 64)
-    (first : least_handle mid.handles ≡ handle)
-    (n : ℕ) (vacant : IsVacant state mid.store.log n) where
-  some_free : least_handle mid.handles < 64
-  some_free = subst (λ (h : ℕ). h < 64) (sym first) free
-
-  pub create_unmade : (new : Fs D) (fault : FsError) → MakesNone state mid new d head n new_file last.name.now fault
-      → Serves state v (seen new) (Create path) (Refuse (refusal_of fault))
-  create_unmade = unmade_ends state lawful v old mid path d (create_call v.log.version (segments_of v) path d reached.bytes) piece reached
-      running last some only head takes (λ e. absurd (cc)) n vacant
-      (handle_allowed state lawful v old path d piece reached running last some mid only head takes some_free)
-
-  pub create_made : (new : Fs D) → MakesNew state mid new d head n new_file last.name.now → (table : Handles)
-      → table ≡ put nat_cmp handle n new.handles
-      → Serves state v record {
-        log = new.store.log;
-        saved = new.store.log.saved;
-        blocks = new.store.log.totals.data_blocks;
-        others = new.store.log.totals.meta_blocks;
-        table = table;
-      } (Create path) (Handle handle)
-  create_made new makes table opened =
-      made_ends state lawful v old mid path d (create_call v.log.version (segments_of v) path d reached.bytes) piece reached running last
-      some only head takes (λ e. absurd (cc)) n vacant
-      (handle_allowed state lawful v old path d piece reached running last some mid only head takes some_free) new makes table
-      (Handle handle) refl
-      (makes_behaves state v _ (Create path) (Handle handle) refl refl refl)
-      (λ s version walk handles least_is. (
-      let was : new.handles ≡ v.table = table_was state lawful v old mid path d (create_call v.log.version
-      (segments_of v) path d reached.bytes) piece reached running last some only head takes (λ e. absurd (cc)) n vacant
-      (handle_allowed state lawful v old path d piece reached running last some mid only head takes some_free) new makes table in
-      let before : mid.handles ≡ v.table = only.still.table ∙ reached.still.table in
-      let is : least_handle s.handles ≡ handle = ap least_handle (handles ∙ sym before) ∙ first in (
-        ap (λ (h : ℕ). Handle h) is,
-        (λ i. put nat_cmp (is i) (least_is i) ((handles ∙ sym was) i))
-            ∙ sym opened,
-      )))
-
--- ---- mkdir
-
-module _ {D : Type 0} (state : D → DeviceState) (lawful : (d : D) → IsLawful (state d)) (v : Mounted D) (old mid : Fs D) (path : List ℕ)
-    (d : ℕ) (piece : Option Last)
-    (reached : Reaches state v old path d piece) (running : old.store.log.halted ≡ false) (last : Last) (some : piece ≡ Some last)
-    (only : OnlyReads state old mid) (head : Header)
-    (takes : TakesEntry state old mid d last.name.now last.slash true head) (few : head.links < 1000) (n : ℕ)
-    (vacant : IsVacant state mid.store.log n) (new : Fs D) where
-  mkdir_unmade : (fault : FsError) → MakesNone state mid new d head n (new_directory (new_form v.log.version)) last.name.now fault
-      → Serves state v (seen new) (Mkdir path) (Refuse (refusal_of fault))
-  mkdir_unmade = unmade_ends state lawful v old mid path d (mkdir_call v.log.version (segments_of v) path d reached.bytes) piece reached
-      running last some only head takes (λ e. few) n vacant
-      (links_allowed state lawful v old path d piece reached running last some mid only head takes few) new
-
-  mkdir_made : MakesNew state mid new d head n (new_directory (new_form v.log.version)) last.name.now
-      → Serves state v (seen new) (Mkdir path) Done
-  mkdir_made makes =
-      let was : new.handles ≡ v.table = table_was state lawful v old mid path d (mkdir_call v.log.version
-      (segments_of v) path d reached.bytes) piece reached running last some only head takes (λ e. few) n vacant
-      (links_allowed state lawful v old path d piece reached running last some mid only head takes few) new makes
-      new.handles in
-      made_ends state lawful v old mid path d (mkdir_call v.log.version (segments_of v) path d reached.bytes) piece reached running last
-      some only head takes (λ e. few) n vacant
-      (links_allowed state lawful v old path d piece reached running last some mid only head takes few) new makes new.handles
-      Done refl
-      (write_behaves state v (seen new) (Mkdir path) Done refl was (λ e. cc) (λ never e. absurd (cc)))
-      (λ s version walk handles least_is. (refl, handles ∙ sym was))
-
-  same_version : mid.store.log.version ≡ v.log.version
-  same_version = only.still.reads.version ∙ reached.still.reads.version
-
-  pub mkdir_ends : (r : Result (Unit {0}) FsError)
-      → OnOk r (MakesNew state mid new d head n (new_directory (new_form mid.store.log.version)) last.name.now)
-      → IfErr r (MakesNone state mid new d head n (new_directory (new_form mid.store.log.version)) last.name.now)
-      → Serves state v (seen new) (Mkdir path) (answer_by (λ _. Done) r)
-  mkdir_ends (Ok u) made none =
-      mkdir_made (subst (λ (x : ℕ). MakesNew state mid new d head n (new_directory (new_form x)) last.name.now) same_version made)
-  mkdir_ends (Err fault) made none = mkdir_unmade fault
-      (subst (λ (x : ℕ). MakesNone state mid new d head n (new_directory (new_form x)) last.name.now fault) same_version none)
-
--- ---- symlink
-
-module _ {D : Type 0} (state : D → DeviceState) (lawful : (d : D) → IsLawful (state d)) (v : Mounted D) (old mid : Fs D) (path : List ℕ)
-    (d : ℕ) (piece : Option Last)
-    (reached : Reaches state v old path d piece) (running : old.store.log.halted ≡ false) (last : Last) (some : piece ≡ Some last)
-    (only : OnlyReads state old mid) (head : Header)
-    (takes : TakesEntry state old mid d last.name.now last.slash false head) (text : List ℕ) (text_bytes : AreBytes text)
-    (good : text_refusal text ≡ None) (n : ℕ) (vacant : IsVacant state mid.store.log n) (new : Fs D) where
-  abbrev links : NewCall v.log.version (segments_of v) path d
-  links = symlink_call v.log.version (segments_of v) path d reached.bytes text text_bytes good
-
-  symlink_unmade : (fault : FsError) → MakesNone state mid new d head n (new_link text) last.name.now fault
-      → Serves state v (seen new) (Symlink text path) (Refuse (refusal_of fault))
-  symlink_unmade = unmade_ends state lawful v old mid path d links piece reached running last some only head takes
-      (λ e. absurd (cc)) n vacant (λ k m0 m s keeps is walk. refl) new
-
-  symlink_made : MakesNew state mid new d head n (new_link text) last.name.now → Serves state v (seen new) (Symlink text path) Done
-  symlink_made makes =
-      let was : new.handles ≡ v.table =
-      table_was state lawful v old mid path d links piece reached running last some only head takes (λ e. absurd (cc)) n vacant
-      (λ k m0 m s keeps is walk. refl) new makes new.handles in
-      made_ends state lawful v old mid path d links piece reached running last some only head takes (λ e. absurd (cc)) n vacant
-      (λ k m0 m s keeps is walk. refl) new makes new.handles Done refl
-      (write_behaves state v (seen new) (Symlink text path) Done refl was (λ e. cc) (λ never e. absurd (cc)))
-      (λ s version walk handles least_is. (refl, handles ∙ sym was))
-
-  pub symlink_ends : (r : Result (Unit {0}) FsError) → OnOk r (MakesNew state mid new d head n (new_link text) last.name.now)
-      → IfErr r (MakesNone state mid new d head n (new_link text) last.name.now)
-      → Serves state v (seen new) (Symlink text path) (answer_by (λ _. Done) r)
-  symlink_ends (Ok u) made none = symlink_made made
-  symlink_ends (Err fault) made none = symlink_unmade fault none
+    -- the call makes the object
+    pub may_make : (makes_directory of.kind ≡ true → head.links < MOST_LINKS) → (n : ℕ) → IsVacant state store.log n
+        → (drafted : Store D) → files.Redrafts (files_of state store) (files_of state drafted)
+        → calls.InEach state lawful (seen old) (with_store f store) (read state lawful begins store reads) drafted (IsNew of l head n)
+    may_make few n vacant drafted redrafts k m0 m s after is =
+        let holds = holds_in k m0 m s is in
+        record {
+          enters = entering k m0 m s (redrafts.looks.carries.kept_before after) is;
+          same = version_of_volume state (seen old) k m0 m s is;
+          links = few;
+          free = vacant.free k m0 m holds;
+          first = least_number N m s (map_of_volume state (seen old) k m0 m s is) n vacant.some vacant.few (vacant.free k m0 m holds)
+              (λ q low below. vacant.least k m0 m holds q low below);
+          top = (let most = vacant.few in omega (arith, most));
+        }

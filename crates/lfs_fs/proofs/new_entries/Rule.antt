@@ -1,205 +1,113 @@
--- The refusals of the rule of a new entry, for any call that asks for one.
-use Rattle.std.proofs.Common.{not, ◌&&◌, ◌≡◌, ◌<◌, ◌≤◌, ◌*◌, ◌||◌, ℕ, Bool, true, false, List, length, Option, Some, None, sym, ◌∙◌, ap}
-use Rattle.std.proofs.Common.{subst, ⊎_elim, arith}
-use Rattle.lfs_model.specs.Call.{Call, Refuse, cleans, never_for_device}
+-- The rule of a new entry, as a call asks it that came to the last piece of a path.
+use Rattle.std.proofs.Common.{◌≡◌, ◌||◌, ℕ, Bool, false, List, Some, None, Ok, Err, ap}
+use Rattle.std.specs.Prelude.{IfErr, IfOk, Result}
+use Rattle.lfs_model.specs.Call.{Call, Refuse, cleans, never_for_device, takes_no_memory}
 use Rattle.lfs_model.specs.Checkpoint.{CheckpointValue}
 use Rattle.lfs_model.specs.Device.{DeviceState, IsLawful}
-use Rattle.lfs_model.specs.PathText.{slash}
 use Rattle.lfs_model.specs.Refusal as refusals
-use Rattle.lfs_model.specs.Refusal.{Refusal}
-use Rattle.lfs_model.specs.Slot.{IsName}
 use Rattle.lfs_model.specs.Stands.{LogMap}
-use Rattle.lfs_model.specs.Step.{Step, is_long, is_there, last_dots, no_last}
-use Rattle.lfs_model.specs.Tree.{State, Tree, is_dir, links, name_len, node, slot_len}
+use Rattle.lfs_model.specs.Step.{last_dots}
+use Rattle.lfs_model.specs.Tree.{State}
 use Rattle.lfs_model.specs.Walk.{At, Parent}
 use Rattle.lfs_files.specs.declared.header.Header.{Header}
-use Rattle.lfs_store.specs.memory.Present.{as_header}
+use Rattle.lfs_files.specs.Files as files
+use Rattle.lfs_files.specs.Files.{FilesState}
+use Rattle.lfs_store.specs.declared.store.Store.{Store}
 use Rattle.lfs_path.specs.declared.last.Last.{Last}
-use Rattle.lfs_path.specs.Lasts.{HasLast}
-use Rattle.lfs_path.specs.Pieces.{is_dots}
-use Rattle.lfs_path.proofs.LastPieces.{last_says}
+use Rattle.lfs_entries.specs.declared.fault.EntryFault.{EntryFault}
+use Rattle.lfs_entries.specs.Looking.{IsHolder, LooksUp}
+use Rattle.lfs_entries.specs.NewEntries.{RefusesEntry, TakesEntry}
+use Rattle.lfs_entries.specs.Telling as telling
 use Rattle.lfs_fs.specs.declared.error.FsError.{FsError}
 use Rattle.lfs_fs.specs.declared.error.FsError.TheVariants as error
+use Rattle.lfs_entries.specs.Telling.{AsksOnly}
 use Rattle.lfs_fs.specs.declared.fs.Fs.{Fs}
-use Rattle.lfs_fs.specs.Naming.{IsTooLong, LooksUp, Reaches, RefusesEntry, TakesEntry}
+use Rattle.lfs_fs.specs.Drafted.{files_of}
+use Rattle.lfs_fs.specs.Faults.{error_of_entry}
+use Rattle.lfs_fs.specs.Naming.{BeginsAt, BeginsNowhere}
 use Rattle.lfs_fs.specs.Refusals.{refusal_of}
-use Rattle.lfs_fs.specs.Seen.{HasHeader, OnlyReads, seen}
-use Rattle.lfs_fs.specs.Volume.{IsIn, Mounted, Serves, segments_of}
-use Rattle.lfs_fs.proofs.calls.AnyDevice.{IsOrdinary}
-use Rattle.lfs_fs.proofs.volume.Nodes.{IsMapOf}
-use Rattle.lfs_fs.proofs.volume.Directories.{free_directory, full_directory}
-use Rattle.lfs_fs.proofs.paths.LastNames.{last_is_name}
-use Rattle.lfs_fs.proofs.paths.Looks.{only_none}
-use Rattle.lfs_fs.proofs.new_entries.RuleSteps.{ChecksNew, IsTaken, new_dots, new_full, new_long, new_slash, new_there}
-use Rattle.lfs_fs.proofs.old_entries.Views.{dir, dots_are, fits, found_there, has_last, head_is as head_read, is_missing, limit_is, long_is}
-use Rattle.lfs_fs.proofs.old_entries.Views.{looked, rises, says, short_is, still, volume, IsRefused, walk_refuses}
-use Rattle.lfs_fs.proofs.read.Ends.{failed_serves}
+use Rattle.lfs_fs.specs.Seen.{seen}
+use Rattle.lfs_fs.specs.Volume.{IsIn, IsStill, Serves, segments_of}
+use Rattle.lfs_fs.proofs.calls.Files as calls
+use Rattle.lfs_fs.proofs.calls.Files.{IsBegun, begun_after, begun_at, fault_serves, nameless, only, reached_in, rose_where, told}
+use Rattle.lfs_fs.proofs.calls.Files.{with_store}
+use Rattle.lfs_fs.proofs.new_entries.Explained.{is_taken, new_explained}
+use Rattle.lfs_fs.proofs.new_entries.Maps.{Enters}
+use Rattle.lfs_fs.proofs.new_entries.RuleSteps.{ChecksNew, new_dots}
+use Rattle.lfs_fs.proofs.paths.Named.{IsReached, holder}
+use Rattle.lfs_fs.proofs.volume.Map.{shape_of_volume}
+use Rattle.lfs_fs.proofs.paths.Places.{IsRefusedBy, nowhere_serves}
 
--- A call that asks for an entry in directory d, in each state that the volume may be in.
-pub record NewEntryCall {D : Type 0} (state : D → DeviceState) (v : Mounted D) (old : Fs D)
-    (p : List ℕ) (d : ℕ) (call : Call) (is_mkdir : Bool) : Type 0 where
-  pub checks : (k : CheckpointValue) (m0 m : LogMap) (s : State)
-      → (state old.store.log.device).keeps_model → IsIn state v k m0 m s
-      → Parent s.tree p (At d) → ChecksNew (segments_of v) s p d call is_mkdir
-  pub uncommitted : never_for_device call ≡ false
-  pub unclean : cleans call ≡ false
+-- what is told of the rule
+abbrev pub RuleTold : {S D : Type 0} → FilesState S D → FilesState S D → ℕ → Last → Bool → Result Header EntryFault → Type 0
+RuleTold s s' d l is_mkdir result = record {
+  only : AsksOnly s s' result;
+  taken : IfOk result (TakesEntry s s' d l.name.now l.slash is_mkdir);
+  refused : IfErr result (RefusesEntry s s' d l.name.now l.slash is_mkdir);
+}
 
-module _ {D : Type 0} (state : D → DeviceState) (lawful : (d : D) → IsLawful (state d))
-    (v : Mounted D) (old : Fs D) (path : List ℕ) (d : ℕ) (call : Call) (is_mkdir : Bool)
-    (of : NewEntryCall state v old path d call is_mkdir) (piece : Option Last)
-    (reached : Reaches state v old path d piece) (running : old.store.log.halted ≡ false) where
-  was : v.log.halted ≡ false
-  was = sym reached.still.reads.halted ∙ running
+module _ {D : Type 0} (state : D → DeviceState) (lawful : (d : D) → IsLawful (state d)) {old f : Fs D} {path : List ℕ} {d : ℕ} {l : Last}
+    (begins : BeginsAt state old f path d l) (store : Store D) (reads : files.Reads (files_of state f.store) (files_of state store)) where
+  pub begun : IsBegun state (seen old) f
+  begun = begun_at state (seen old) f path d (Some l) begins.reached begins.ready
 
-  -- a path without a piece
-  pub no_piece_exists : piece ≡ None → Serves state v (seen old) call (Refuse refusals.Exist)
-  no_piece_exists none =
-      let says : no_last path ≡ true
-      = last_says path None (subst (HasLast path) none reached.last) in
-      walk_refuses state lawful v old path d piece reached running call of.unclean old
-      (only_none state old).still refusals.Exist tt
-      (λ k m0 m s keeps is walk.
-      new_dots (segments_of v) s path d call is_mkdir (of.checks k m0 m s keeps is walk)
-      (ap (λ (b : Bool). b || last_dots path) says))
+  -- the volume after the rule
+  abbrev pub ruled : Fs D
+  ruled = with_store f store
 
-  module _ (l : Last) (is_last : piece ≡ Some l) (new : Fs D) (only : OnlyReads state old new) where
-    -- ---- the rule in one state
-    module _ (k : CheckpointValue) (m0 m : LogMap) (s : State)
-        (keeps : (state new.store.log.device).keeps_model) (is : IsIn state v k m0 m s)
-        (walk : Parent s.tree path (At d)) where
-      abbrev pub rule : ChecksNew (segments_of v) s path d call is_mkdir
-      rule = of.checks k m0 m s (only.still.reads.looks.carries.kept_before keeps) is walk
+  pub still : IsStill state (seen f) (seen ruled)
+  still = (only state lawful (seen old) f begun store reads).still
 
-      dots : (b : Bool) → is_dots l.name.now ≡ b → (no_last path || last_dots path) ≡ b
-      dots = dots_are state lawful v old path d piece reached l is_last new only
+  pub read : IsBegun state (seen old) ruled
+  read = begun_after state lawful (seen old) f begun store reads
 
-      -- a slash behind it, as the path has it
-      slash_is : (b : Bool) → (l.slash && not is_mkdir) ≡ b → (slash path && not is_mkdir) ≡ b
-      slash_is b is = ap (λ (x : Bool). x && not is_mkdir)
-          (has_last state lawful v old path d piece reached l is_last new only).1 ∙ is
+  -- what holds in each state that the volume may be in
+  abbrev pub InEach : (LogMap → State → Type 0) → Type 0
+  InEach = calls.InEach state lawful (seen old) f begun store
 
-      dots_step : is_dots l.name.now ≡ true → Step (segments_of v) s call (Refuse refusals.Exist) s
-      dots_step are = new_dots (segments_of v) s path d call is_mkdir rule (dots true are)
+  pub at : InEach (λ m s. IsReached (segments_of (seen old)) m s path d l)
+  at k m0 m s keeps is =
+      reached_in state lawful (seen old) f begun path d l begins.reached (reads.looks.carries.kept_before keeps) k m0 m s is
 
-      module _ (named : is_dots l.name.now ≡ false) where
-        long_step : IsTooLong state old new d l.name.now
-            → Step (segments_of v) s call (Refuse refusals.NameTooLong) s
-        long_step long = new_long (segments_of v) s path d call is_mkdir rule (dots false named)
-            (long_is state lawful v old path d piece reached l is_last new only k m0 m s is walk
-            long.0 (head_read state lawful v old path d piece reached l is_last new only k m0 m s is walk keeps long.0 long.1) long.2)
+  pub see : (k : CheckpointValue) (m0 m : LogMap) (s : State) → (state store.log.device).keeps_model → IsIn state (seen old) k m0 m s
+      → (P : LogMap → Type 0) → telling.InEach (files_of state f.store) (files_of state store) P → P m
+  see k m0 m s keeps is P each = told state lawful (seen old) f begun store P each k m0 m s keeps is
 
-        module _ (head : Header) (short : length l.name.now ≤ name_len head.form) where
-          is_named : HasHeader state old new d head → IsName (name_len head.form) l.name.now
-          is_named has =
-              let piece_is = (says state lawful v old path d piece reached l is_last new only).1 in
-              subst (IsName (name_len head.form)) piece_is
-              (last_is_name (segments_of v) s is.log.sound path d (name_len head.form)
-              (limit_is state lawful v old path d piece reached l is_last new only k m0 m s is walk head
-              (head_read state lawful v old path d piece reached l is_last new only k m0 m s is walk keeps head has))
-              reached.bytes walk (dots false named)
-              (let same_length = ap length piece_is in omega (arith, same_length, short)))
+  -- it takes an entry
+  pub enters : (is_mkdir : Bool) (head : Header) → RuleTold (files_of state f.store) (files_of state store) d l is_mkdir (Ok head)
+      → InEach (λ m s. Enters (segments_of (seen old)) m s path d l is_mkdir head)
+  enters is_mkdir head rule k m0 m s keeps is =
+      let g = at k m0 m s keeps is in
+      record {
+        at = g;
+        shaped = shape_of_volume state (seen old) k m0 m s is;
+        taken = is_taken (files_of state f.store) (files_of state store) g (see k m0 m s keeps is) is_mkdir head rule.taken;
+        looks = see k m0 m s keeps is (λ x. LooksUp x d l.name.now head None) rule.taken.looks;
+        room = rule.taken.room;
+      }
 
-          not_long : (o : Option ℕ) → LooksUp state old new d l.name.now head o → is_long s.tree d path ≡ false
-          not_long o found = short_is state lawful v old path d piece reached l is_last new only k m0 m s is walk head
-              (looked state lawful v old path d piece reached l is_last new only k m0 m s is walk keeps head o found).0 short
+  -- it takes none
+  pub rule_refused : (call : Call) → never_for_device call ≡ false → cleans call ≡ false → takes_no_memory call ≡ false → (is_mkdir : Bool)
+      → InEach (λ m s. ChecksNew (segments_of (seen old)) s path d call is_mkdir) → (why : EntryFault)
+      → RuleTold (files_of state f.store) (files_of state store) d l is_mkdir (Err why)
+      → Serves state (seen old) (seen ruled) call (Refuse (refusal_of (error_of_entry why)))
+  rule_refused call free unclean memory is_mkdir checks why rule =
+      fault_serves state lawful (seen old) f begun store still call free unclean memory why (λ e. rule.only.halted (ap Err e))
+      (λ e. rule.only.other (ap Err e))
+      (λ k m0 m s keeps is.
+      new_explained (files_of state f.store) (files_of state store) (at k m0 m s keeps is) (see k m0 m s keeps is) is_mkdir
+      (calls.Rose state lawful (seen old) f begun store)
+      (λ fails. rose_where state lawful (seen old) f begun store still (IsHolder d) fails k m0 m s keeps is (holder (at k m0 m s keeps is)))
+      (checks k m0 m s keeps is) why rule.refused)
 
-          there_step : (n : ℕ) → LooksUp state old new d l.name.now head (Some n)
-              → Step (segments_of v) s call (Refuse refusals.Exist) s
-          there_step n looks =
-              new_there (segments_of v) s path d call is_mkdir rule (dots false named)
-              (not_long (Some n) looks)
-              (found_there state lawful v old path d piece reached l is_last new only k m0 m s is
-              walk keeps head n looks)
+-- ---- a call that comes to no last piece
 
-          module _ (looks : LooksUp state old new d l.name.now head None) where
-            absent : is_there s.tree d path ≡ false
-            absent = is_missing state lawful v old path d piece reached l is_last new only k m0 m
-                s is walk keeps head looks
-
-            slash_step : (l.slash && not is_mkdir) ≡ true
-                → Step (segments_of v) s call (Refuse refusals.NoEntry) s
-            slash_step ends =
-                new_slash (segments_of v) s path d call is_mkdir rule (dots false named)
-                (not_long None looks)
-                absent (slash_is true ends)
-
-            full_step : (l.slash && not is_mkdir) ≡ false → 1023 * slot_len head.form < head.size
-                → Step (segments_of v) s call (Refuse refusals.DirFull) s
-            full_step plain large =
-                let map : IsMapOf (segments_of v) m s = volume state lawful v old path d piece
-                reached l is_last new only k m0 m s is walk in
-                let is_dir : is_dir (node s.tree d) ≡ true = dir state lawful v old path d piece
-                reached l is_last new only k m0 m s is walk in
-                let there = (looked state lawful v old path d piece reached l is_last new only k
-                m0 m s is walk keeps head None looks).0 in
-                let right = fits state lawful v old path d piece reached l is_last new only k m0 m
-                s is walk head there in
-                new_full (segments_of v) s path d call is_mkdir rule (dots false named)
-                (not_long None looks)
-                absent (slash_is false plain)
-                (full_directory (segments_of v) m s map d is_dir head there right large)
-
-      -- ---- what comes after it
-      module _ (head : Header)
-          (takes : TakesEntry state old new d l.name.now l.slash is_mkdir head) where
-        pub head_is : m.header d ≡ Some (as_header head)
-        head_is = (looked state lawful v old path d piece reached l is_last new only k m0 m s is
-            walk keeps head None takes.looks).0
-
-        pub is_taken : IsTaken s path d is_mkdir
-        is_taken = record {
-          named = dots false takes.named;
-          short = not_long takes.named head takes.is_name.short None takes.looks;
-          new = absent takes.named head takes.is_name.short takes.looks;
-          plain = slash_is false takes.plain;
-          free =
-              free_directory (segments_of v) m s
-              (volume state lawful v old path d piece reached l is_last new only k m0 m s is walk) d
-              (dir state lawful v old path d piece reached l is_last new only k m0 m s is walk) head
-              head_is
-              (fits state lawful v old path d piece reached l is_last new only k m0 m s is walk head
-              head_is)
-              takes.room;
-        }
-
-        -- the links that the directory has
-        pub links_are : head.links ≡ links s.tree d
-        links_are = is.log.links d (as_header head) head_is
-            ∙ ap (λ (t : Tree). links t d) (sym is.log.is)
-
-    -- ---- the call
-    pub refused : (r : Refusal) → IsOrdinary (Refuse r)
-        → IsRefused state lawful v old path d piece reached running call new r
-        → Serves state v (seen new) call (Refuse r)
-    refused = walk_refuses state lawful v old path d piece reached running call of.unclean new
-        only.still
-
-    -- the directory doesn't take the entry
-    pub entry_refused : (fault : FsError)
-        → RefusesEntry state old new d l.name.now l.slash is_mkdir fault
-        → Serves state v (seen new) call (Refuse (refusal_of fault))
-    entry_refused error.Exist why = ⊎_elim
-        (λ are. refused refusals.Exist tt (λ k m0 m s keeps is walk.
-        dots_step k m0 m s keeps is walk are))
-        (λ there. refused refusals.Exist tt (λ k m0 m s keeps is walk.
-        there_step k m0 m s keeps is walk there.0 there.1.0 there.1.1 there.1.2.0 there.1.2.1))
-        why
-    entry_refused error.NameTooLong why = refused refusals.NameTooLong tt
-        (λ k m0 m s keeps is walk. long_step k m0 m s keeps is walk why.0 why.1)
-    entry_refused error.Inval why = refused refusals.Inval tt
-        (λ k m0 m s keeps is walk. absurd (why.1.3 (is_named k m0 m s keeps is walk why.0 why.1.0 why.1.2 why.1.1)))
-    entry_refused error.NoEntry why = refused refusals.NoEntry tt
-        (λ k m0 m s keeps is walk.
-        slash_step k m0 m s keeps is walk why.0 why.2.0 why.2.1 why.2.2 why.1)
-    entry_refused error.DirFull why = refused refusals.DirFull tt
-        (λ k m0 m s keeps is walk.
-        full_step k m0 m s keeps is walk why.0 why.2.0 why.2.1 why.2.3 why.1 why.2.2)
-    entry_refused error.Halted why = absurd (let on = why in let off = running in cc)
-    entry_refused error.Device why =
-        failed_serves state v (seen new) call (lawful v.log.device)
-        (still state lawful v old path d piece reached l is_last new only) was of.uncommitted
-        (λ k m0 m s keeps is. (
-        let before = only.still.reads.looks.carries.kept_before keeps in
-        rises state lawful v old path d piece reached l is_last new only k m0 m s is
-        (reached.walk k m0 m s before is) keeps why))
-    entry_refused fault why = absurd why
+module _ {D : Type 0} (state : D → DeviceState) (lawful : (d : D) → IsLawful (state d)) (old new : Fs D) (path : List ℕ) (call : Call)
+    (free : never_for_device call ≡ false) (unclean : cleans call ≡ false) (memory : takes_no_memory call ≡ false)
+    (steps : IsRefusedBy state lawful old new path call) (is_mkdir : Bool)
+    (checks : (s : State) (d : ℕ) → Parent s.tree path (At d) → ChecksNew (segments_of (seen old)) s path d call is_mkdir) where
+  pub unreached : (fault : FsError) → BeginsNowhere state old new path error.Exist fault
+      → Serves state (seen old) (seen new) call (Refuse (refusal_of fault))
+  unreached fault none = nowhere_serves state lawful old new path call free unclean memory steps error.Exist fault none
+      (λ d reached running. nameless state lawful (seen old) new path d reached running call unclean refusals.Exist tt
+      (λ s sound walk none. new_dots (checks s d walk) (ap (λ (b : Bool). b || last_dots path) none)))

@@ -4,11 +4,16 @@ use Rattle.lfs_model.specs.Call.{Answer, Call, Refuse, cleans, never_for_device}
 use Rattle.lfs_model.specs.PathText.{slash}
 use Rattle.lfs_model.specs.Refusal.{NameTooLong, NoEntry, NotDir, Perm}
 use Rattle.lfs_model.specs.Sound.{Sound}
-use Rattle.lfs_model.specs.Step.{PathEnds, Step, checked, gives_dir, is_long, is_there, last_dots, no_last, old_entry, outcome, path_of}
-use Rattle.lfs_model.specs.Step.{second_path_of, when}
-use Rattle.lfs_model.specs.Tree.{State}
+use Rattle.lfs_model.specs.Step.{PathEnds, Step, checked, gives_dir, is_long, is_there, last_dots, let_go, name, no_last, old_entry}
+use Rattle.lfs_model.specs.Step.{outcome}
+use Rattle.lfs_model.specs.Step.{path_of, second_path_of, target, when, with_tree}
+use Rattle.lfs_model.specs.Tree.{State, without_name}
 use Rattle.lfs_model.specs.Walk.{At, End, Parent}
 use Rattle.lfs_fs.proofs.calls.Checks.{passes, refuses}
+
+-- the state after a call that takes a path's last name away, in directory d
+abbrev pub gone : State → List ℕ → ℕ → State
+gone s p d = with_tree s (let_go (without_name s.tree d (name p)) s.handles (target s.tree d p))
 
 -- A call whose first path is p, with parent d, is refused first by the rule of an old entry.
 pub record ChecksOld (N : ℕ) (s : State) (p : List ℕ) (d : ℕ) (call : Call) : Type 0 where

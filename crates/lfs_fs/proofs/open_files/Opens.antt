@@ -1,6 +1,5 @@
 -- The ends of the call that opens a file.
-use Rattle.std.proofs.Common.{◌≡◌, ◌≢◌, ◌<◌, ◌≤◌, ℕ, true, false, List, Some, Result, Ok, Err, refl, sym, ◌∙◌, ap, subst, inl, ⊎_elim}
-use Rattle.std.specs.Prelude.{IfErr, IfOk}
+use Rattle.std.proofs.Common.{◌≡◌, ◌≢◌, ◌<◌, ◌≤◌, ℕ, true, false, List, Some, inl, refl, sym, ◌∙◌, ap, subst}
 use Rattle.std.specs.Ordering.{nat_cmp}
 use Rattle.std.specs.FinMap.{put}
 use Rattle.lfs_model.specs.declared.Kind.{Kind}
@@ -8,53 +7,33 @@ use Rattle.lfs_model.specs.declared.Kind.TheVariants as kind
 use Rattle.lfs_model.specs.Call.{Handle, Open, Refuse}
 use Rattle.lfs_model.specs.Checkpoint.{CheckpointValue}
 use Rattle.lfs_model.specs.Device.{DeviceState, IsLawful}
-use Rattle.lfs_model.specs.Entry.{Header}
-use Rattle.lfs_model.specs.Refusal as refusals
+use Rattle.lfs_model.specs.Entry as entry
+use Rattle.lfs_model.specs.Refusal.{IsDir, TooManyOpen}
 use Rattle.lfs_model.specs.Stands.{LogMap}
 use Rattle.lfs_model.specs.Step.{Step}
 use Rattle.lfs_model.specs.Tree.{Handles, State, is_dir, least_handle, node}
 use Rattle.lfs_model.specs.TreeOf.{node_by}
-use Rattle.lfs_model.specs.Volume.{IsLogOf}
 use Rattle.lfs_model.specs.Walk.{At, Resolve}
-use Rattle.lfs_store.specs.declared.store.Store.{Store}
+use Rattle.lfs_files.specs.declared.header.Header.{Header}
 use Rattle.lfs_store.specs.log.Held.{Reads}
-use Rattle.lfs_store.specs.memory.Batch.{IsNoChange}
-use Rattle.lfs_store.specs.memory.Present.{as_header}
-use Rattle.lfs_path.specs.Reaching.{EndsResolve}
-use Rattle.lfs_fs.specs.Drafted.{WalksTo}
-use Rattle.lfs_fs.specs.declared.error.FsError.{FsError}
 use Rattle.lfs_fs.specs.declared.fs.Fs.{Fs}
-use Rattle.lfs_fs.specs.declared.rows.Stat.{Stat}
-use Rattle.lfs_fs.specs.Naming.{IsDirectoryTold, IsNoDirectory, OpensNone, OpensNumber}
-use Rattle.lfs_fs.specs.Reading.{TellsStat}
-use Rattle.lfs_fs.specs.Refusals.{refusal_of}
-use Rattle.lfs_fs.specs.Seen.{OnlyReads, answer_by, seen}
+use Rattle.lfs_fs.specs.Seen.{seen}
 use Rattle.lfs_fs.specs.Volume.{IsIn, Mounted, Serves, segments_of}
+use Rattle.lfs_fs.proofs.calls.Answers.{In, IsLooked, IsQuiet, answers}
+use Rattle.lfs_fs.proofs.calls.Files.{was}
 use Rattle.lfs_fs.proofs.calls.Steps.{never_worn}
-use Rattle.lfs_fs.proofs.volume.Nodes.{node_by_header, resolved_there}
-use Rattle.lfs_fs.proofs.volume.Map.{map_of_volume, opened_map}
-use Rattle.lfs_fs.proofs.paths.Ends.{has_again, lacks_object_again, reads_again, walked_has, walks_in}
-use Rattle.lfs_fs.proofs.paths.Steps.{open_directory, open_file, open_too_many, with_handle}
-use Rattle.lfs_fs.proofs.read.Ends.{header_there, lacks_object, step_serves}
 use Rattle.lfs_fs.proofs.open_files.TableEnds.{table_serves}
+use Rattle.lfs_fs.proofs.paths.Steps.{open_directory, open_file, open_too_many, with_handle}
+use Rattle.lfs_fs.proofs.read.Shown.{directory, other_directory}
+use Rattle.lfs_fs.proofs.volume.Map.{headers_of_volume, map_of_volume, opened_map}
 
--- ---- what a header says of a node
-
-dir_by : (m : LogMap) (k : Kind) (n : ℕ) (h : Header) → k ≡ kind.Directory → is_dir (Some (node_by m k n h)) ≡ true
-dir_by m k n h is = ap (λ (x : Kind). is_dir (Some (node_by m x n h))) is
-
-pub no_dir_by : (m : LogMap) (k : Kind) (n : ℕ) (h : Header) → k ≢ kind.Directory → is_dir (Some (node_by m k n h)) ≡ false
+pub no_dir_by : (m : LogMap) (k : Kind) (n : ℕ) (h : entry.Header) → k ≢ kind.Directory → is_dir (Some (node_by m k n h)) ≡ false
 no_dir_by m kind.File n h other = refl
 no_dir_by m kind.Directory n h other = absurd (other refl)
 no_dir_by m kind.Link n h other = refl
 
-module _ (N : ℕ) (m : LogMap) (s : State) (log : IsLogOf N m s) (n : ℕ) (h : Header) (in_range : (1 ≤ n) × (n ≤ 4095))
-    (there : m.header n ≡ Some h) where
-  directory_there : h.kind ≡ kind.Directory → is_dir (node s.tree n) ≡ true
-  directory_there is = ap is_dir (node_by_header N m s log n h in_range there) ∙ dir_by m h.kind n h is
-
-  no_directory_there : h.kind ≢ kind.Directory → is_dir (node s.tree n) ≡ false
-  no_directory_there other = ap is_dir (node_by_header N m s log n h in_range there) ∙ no_dir_by m h.kind n h other
+pub open_quiet : (path : List ℕ) → IsQuiet (Open path)
+open_quiet path = record { free = refl; memory = refl; leaves = refl; unclean = refl; kept = refl }
 
 -- ---- a file gets a handle
 
@@ -86,83 +65,27 @@ module _ {D : Type 0} (state : D → DeviceState) (lawful : (d : D) → IsLawful
           );
         }))
 
-  -- ---- the call, whose walk came to object n
+-- ---- the call, which came to object n and read its header
+module _ {D : Type 0} {state : D → DeviceState} (lawful : (d : D) → IsLawful (state d)) {v : Mounted D} {f : Fs D} {path : List ℕ} {n : ℕ}
+    {head : Header} (looked : IsLooked state v f path true n head) where
+  pub opens_directory : head.kind ≡ kind.Directory → Serves state v (seen f) (Open path) (Refuse IsDir)
+  opens_directory dir = answers lawful looked.begun (open_quiet path) (Refuse IsDir) tt
+      (λ k m0 m s keeps is. open_directory (segments_of v) s path n (looked.walk k m0 m s keeps is)
+      (directory (map_of_volume state v k m0 m s is) (headers_of_volume state v k m0 m s is) (looked.header k m0 m s keeps is) dir))
 
-  module _ (old mid : Fs D) (was : old.store.log.halted ≡ false) (empty : IsNoChange old.store.draft.changes)
-      (first : OnlyReads state old mid)
-      (p : List ℕ) (n : ℕ) (walk : WalksTo state old.store.log mid.store.log old.store.draft.changes (EndsResolve p true) (At n)) where
-    -- the object was looked at
-    module _ (looked : Fs D) (next : OnlyReads state mid looked) where
-      both : OnlyReads state old looked
-      both = reads_again state old mid looked first (lawful old.store.log.device) next
+  module _ (other : head.kind ≢ kind.Directory) where
+    file_is : In state v f (λ m s. is_dir (node s.tree n) ≡ false)
+    file_is k m0 m s keeps is = other_directory (map_of_volume state v k m0 m s is) (headers_of_volume state v k m0 m s is)
+        (looked.header k m0 m s keeps is) other
 
-      module _ (k : CheckpointValue) (m0 m : LogMap) (s : State) (keeps : (state looked.store.log.device).keeps_model)
-          (is : IsIn state (seen old) k m0 m s) where
-        comes_to : Resolve s.tree p true (At n)
-        comes_to = walks_in state old mid (lawful old.store.log.device) was empty first p true n walk k m0 m s
-            (next.still.reads.looks.carries.kept_before keeps) is
+    pub opens_too_many : 64 ≤ least_handle f.handles → Serves state v (seen f) (Open path) (Refuse TooManyOpen)
+    opens_too_many many = answers lawful looked.begun (open_quiet path) (Refuse TooManyOpen) tt
+        (λ k m0 m s keeps is. open_too_many (segments_of v) s path n (looked.walk k m0 m s keeps is) (file_is k m0 m s keeps is)
+        (subst (λ hs. 64 ≤ least_handle hs) (sym (is.handles ∙ sym looked.begun.still.table)) many))
 
-        in_range : (1 ≤ n) × (n ≤ 4095)
-        in_range = is.log.sound.numbers n (resolved_there (segments_of (seen old)) s is.log.sound p true n comes_to)
-
-        told_there : (stat : Stat) (told : TellsStat state mid looked n stat) → m.header n ≡ Some (as_header told.head)
-        told_there stat told = header_there state old looked (Open p) (lawful old.store.log.device) was empty both refl n told.head
-            (has_again state old mid looked first n told.head told.there) k m0 m s keeps is
-
-        file_is : IsNoDirectory state mid looked n → is_dir (node s.tree n) ≡ false
-        file_is object = no_directory_there (segments_of (seen old)) m s is.log n (as_header object.told.head) in_range
-            (told_there object.stat object.told) (λ e. object.other (object.told.kind ∙ e))
-
-        directory_is : IsDirectoryTold state mid looked n → is_dir (node s.tree n) ≡ true
-        directory_is object = directory_there (segments_of (seen old)) m s is.log n (as_header object.told.head) in_range
-            (told_there object.stat object.told) (sym object.told.kind ∙ object.is)
-
-      refused_directory : IsDirectoryTold state mid looked n → Serves state (seen old) (seen looked) (Open p) (Refuse refusals.IsDir)
-      refused_directory object = step_serves state (seen old) (seen looked) (Open p) (lawful old.store.log.device) both.still was
-          (Refuse refusals.IsDir) tt refl refl refl (λ k m0 m s keeps is.
-          open_directory (segments_of (seen old)) s p n (comes_to k m0 m s keeps is) (directory_is k m0 m s keeps is object))
-
-      refused_many : IsNoDirectory state mid looked n → 64 ≤ least_handle looked.handles
-          → Serves state (seen old) (seen looked) (Open p) (Refuse refusals.TooManyOpen)
-      refused_many object many = step_serves state (seen old) (seen looked) (Open p) (lawful old.store.log.device) both.still was
-          (Refuse refusals.TooManyOpen) tt refl refl refl (λ k m0 m s keeps is.
-          open_too_many (segments_of (seen old)) s p n (comes_to k m0 m s keeps is) (file_is k m0 m s keeps is object)
-          (subst (λ hs. 64 ≤ least_handle hs) (sym (is.handles ∙ sym both.still.table)) many))
-
-    opened : (new : Fs D) (h : ℕ) → OpensNumber state mid new n h → Serves state (seen old) (seen new) (Open p) (Handle h)
-    opened new h opens =
-        let table : Handles = new.handles in
-        let reads = both opens.mid opens.reads in
-        subst (λ (s : Store D). Serves state (seen old) (record {
-          log = s.log;
-          saved = s.log.saved;
-          blocks = s.log.totals.data_blocks;
-          others = s.log.totals.meta_blocks;
-          table = table;
-        }) (Open p) (Handle h)) (sym opens.store)
-        (open_gives (seen old) (record (seen opens.mid) { table = table }) reads.still.reads reads.still.saved reads.still.blocks
-        reads.still.others was p n
-        (λ k m0 m s keeps is. comes_to opens.mid opens.reads k m0 m s keeps is)
-        (λ k m0 m s keeps is. file_is opens.mid opens.reads k m0 m s keeps is opens.looked)
-        h opens.few (ap least_handle (sym reads.still.table) ∙ opens.first)
-        (opens.opened ∙ ap (put nat_cmp h n) reads.still.table))
-
-    refused : (new : Fs D) (fault : FsError) → OpensNone state mid new n fault
-        → Serves state (seen old) (seen new) (Open p) (Refuse (refusal_of fault))
-    refused new fault none = ⊎_elim
-        (λ directory. subst (λ (f : FsError). Serves state (seen old) (seen new) (Open p) (Refuse (refusal_of f))) (sym directory.0)
-        (refused_directory new none.0 directory.1))
-        (λ other. ⊎_elim
-        (λ many. subst (λ (f : FsError). Serves state (seen old) (seen new) (Open p) (Refuse (refusal_of f))) (sym many.0)
-        (refused_many new none.0 many.1 many.2))
-        (λ lacks. lacks_object state old new (Open p) (lawful old.store.log.device) was empty (both new none.0) refl n fault
-        (λ k m0 m s keeps is. walked_has state old mid (lawful old.store.log.device) was empty first p true n walk k m0 m s
-        (none.0.still.reads.looks.carries.kept_before keeps) is)
-        (lacks_object_again state old mid new first n fault lacks))
-        other)
-        none.1
-
-    pub open_ends : (new : Fs D) (r : Result ℕ FsError) → IfOk r (OpensNumber state mid new n) → IfErr r (OpensNone state mid new n)
-        → Serves state (seen old) (seen new) (Open p) (answer_by Handle r)
-    open_ends new (Ok h) opens none = opened new h opens
-    open_ends new (Err fault) opens none = refused new fault none
+    pub opens_file : (h : ℕ) → h < 64 → least_handle f.handles ≡ h → (table : Handles) → table ≡ put nat_cmp h n f.handles
+        → Serves state v (record (seen f) { table = table }) (Open path) (Handle h)
+    opens_file h some first table opened = let still = looked.begun.still in
+        open_gives state lawful v (record (seen f) { table = table }) still.reads still.saved still.blocks still.others
+        (was state lawful v f looked.begun) path n looked.walk file_is h some (ap least_handle (sym still.table) ∙ first)
+        (opened ∙ ap (put nat_cmp h n) still.table)

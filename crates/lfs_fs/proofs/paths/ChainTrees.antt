@@ -13,7 +13,7 @@ use Rattle.lfs_model.proofs.Detached.{Under, inside, itself}
 use Rattle.lfs_model.proofs.Growing.{same_or_not}
 use Rattle.lfs_path.specs.Trees.{IsChain, here, risen}
 use Rattle.lfs_path.proofs.Uppers.{up_is}
-use Rattle.lfs_fs.specs.Renaming.{IsAbove, IsNotAbove, risen_by}
+use Rattle.lfs_entries.specs.Renaming.{IsAbove, IsNotAbove, risen_by}
 
 up_again : (t : Tree) (c : List ℕ) → IsChain t c → IsChain t (risen c) × (here (risen c) ≡ up t (here c))
 up_again t [] is = absurd is

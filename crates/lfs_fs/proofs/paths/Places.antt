@@ -1,5 +1,5 @@
 -- How a call comes to the last piece of a path, and what it serves where it doesn't.
-use Rattle.std.proofs.Common.{◌≡◌, ℕ, false, List, Option, None, refl, sym, ◌∙◌, subst, inl, inr, ⊎_elim}
+use Rattle.std.proofs.Common.{◌≡◌, ℕ, false, List, Option, Some, None, refl, sym, ◌∙◌, subst, inl, inr, ⊎_elim}
 use Rattle.lfs_model.specs.Bytes.{AreBytes}
 use Rattle.lfs_model.specs.Call.{Call, Refuse, cleans, takes_no_memory, never_for_device}
 use Rattle.lfs_model.specs.Checkpoint.{CheckpointValue}
@@ -18,7 +18,7 @@ use Rattle.lfs_path.specs.Reaching.{EndsParent}
 use Rattle.lfs_fs.specs.declared.error.FsError.{FsError}
 use Rattle.lfs_fs.specs.declared.fs.Fs.{Fs}
 use Rattle.lfs_fs.specs.Drafted.{files_of}
-use Rattle.lfs_fs.specs.Naming.{BeginsNowhere, BeginsOnly, FindsPlace, LacksPlace, Reaches}
+use Rattle.lfs_fs.specs.Naming.{BeginsAt, BeginsNowhere, BeginsOnly, FindsPlace, LacksPlace, Reaches}
 use Rattle.lfs_fs.specs.Refusals.{refusal_of}
 use Rattle.lfs_fs.specs.Seen.{Begins, IsReady, OnlyReads, seen}
 use Rattle.lfs_fs.specs.Volume.{IsIn, IsStill, Mounted, Serves, segments_of}
@@ -101,3 +101,12 @@ module _ {D : Type 0} (state : D → DeviceState) (lawful : (d : D) → IsLawful
         (named lacks.1.0 lacks.1.1.0 lacks.1.1.1.running))
         began)
         none
+
+-- it comes to the path's last piece
+pub place_begins : {D : Type 0} (state : D → DeviceState) (lawful : (d : D) → IsLawful (state d)) {old new begun : Fs D} {path : List ℕ}
+    {d : ℕ} {l : Last} → Begins old begun → OnlyReads state begun new → AreBytes path → FindsPlace state begun new path d (Some l)
+    → BeginsAt state old new path d l
+place_begins state lawful {old} {new} {begun} {path} {d} {l} begins reads bytes finds = record {
+  reached = place_reached state lawful old new path begun begins reads bytes d (Some l) finds;
+  ready = place_ready state lawful old new path begun begins reads;
+}

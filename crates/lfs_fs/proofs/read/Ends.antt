@@ -1,28 +1,18 @@
--- The ends of the calls that read, and what a call that begins makes of its end.
-use Rattle.std.proofs.Common.{◌≡◌, ◌≢◌, ◌<◌, ◌≤◌, ◌+◌, ◌-◌, ◌*◌, ℕ, Bool, true, false, ◌&&◌, List, length, Some, None, Result, Ok, Err, Vec}
-use Rattle.std.proofs.Common.{Global, refl, sym, ◌∙◌, ap, subst, inl, inr, ⊎_elim, arith, ◌⊎◌}
-use Rattle.lfs_model.specs.Call.{Answer, Call, Data, FormatVersion, Pread, Refuse, Room, Space, Version, changes, cleans, commits, is_ok}
+-- What a call that begins makes of its end, and ends after which nothing has changed.
+use Rattle.std.proofs.Common.{◌≡◌, ◌<◌, ◌+◌, ◌*◌, ℕ, Bool, true, false, ◌&&◌, length, Some}
+use Rattle.std.proofs.Common.{refl, sym, ◌∙◌, ap, subst, inl, inr, ⊎_elim, arith, ◌⊎◌}
+use Rattle.lfs_model.specs.Call.{Answer, Call, FormatVersion, Refuse, Room, Space, Version, changes, cleans, commits, is_ok}
 use Rattle.lfs_model.specs.Call.{takes_no_memory, never_for_device}
 use Rattle.lfs_model.specs.Checkpoint.{CheckpointValue}
 use Rattle.lfs_model.specs.Device.{DeviceState, IsLawful}
-use Rattle.lfs_model.specs.Refusal.{BadHandle, Device, Halted, Inval}
+use Rattle.lfs_model.specs.Refusal.{Device, Halted}
 use Rattle.lfs_model.specs.Stands.{LogMap}
 use Rattle.lfs_model.specs.Step.{Step}
-use Rattle.lfs_model.specs.Tree.{Handles, State}
-use Rattle.lfs_model.specs.Bytes.{part}
-use Rattle.lfs_model.specs.TreeOf.{object}
-use Rattle.std.specs.Prelude.{min}
-use Rattle.lfs_files.specs.declared.fault.LogFault.TheVariants as log
+use Rattle.lfs_model.specs.Tree.{State}
 use Rattle.lfs_files.specs.declared.header.Header.{Header}
-use Rattle.lfs_store.specs.memory.Batch.{staged}
 use Rattle.lfs_store.specs.memory.Present.{as_header}
-use Rattle.lfs_store.specs.log.Held.{IsReadFault, Reads}
-use Rattle.lfs_files.specs.declared.fault.StoreFault.{StoreFault}
-use Rattle.lfs_files.specs.declared.fault.StoreFault.TheVariants as store
-use Rattle.lfs_store.specs.Reading.{ReadsPart}
-use Rattle.lfs_fs.specs.Faults.{error_of_store}
-use Rattle.lfs_fs.specs.Reading.{LacksBytes, LacksObject, ReadsFile}
-use Rattle.lfs_store.proofs.LogReads.{fault_more, held_still, reads_none}
+use Rattle.lfs_store.specs.log.Held.{IsReadFault}
+use Rattle.lfs_store.proofs.LogReads.{reads_none}
 use Rattle.lfs_store.proofs.TreeTotals.{totals_of_tree}
 use Rattle.lfs_fs.specs.declared.error.FsError.{FsError}
 use Rattle.lfs_fs.specs.declared.error.FsError.TheVariants as error
@@ -30,20 +20,14 @@ use Rattle.lfs_fs.specs.declared.fs.Fs.{Fs}
 use Rattle.lfs_fs.specs.declared.rows.Space as space
 use Rattle.lfs_fs.specs.Answers.{room_of}
 use Rattle.lfs_fs.specs.Refusals.{refusal_of}
-use Rattle.lfs_fs.specs.Seen.{Begins, HasHeader, LacksHeader, OnlyReads, seen}
+use Rattle.lfs_fs.specs.Seen.{Begins, HasHeader, OnlyReads, seen}
 use Rattle.lfs_fs.specs.Volume.{IsIn, IsStill, Mounted, Serves, segments_of}
-use Rattle.std.specs.Prelude.{IfErr, IfOk}
-use Rattle.std.specs.Ordering.{nat_cmp}
-use Rattle.std.specs.FinMap.{find}
 use Rattle.lfs_store.proofs.Apart.{no_change}
 use Rattle.lfs_store.specs.memory.Batch.{IsNoChange}
-use Rattle.lfs_fs.specs.Seen.{GivesNone, answer_by}
 use Rattle.lfs_fs.proofs.calls.AnyDevice.{IsOrdinary}
-use Rattle.lfs_fs.proofs.calls.Steps.{never_worn, pread_clipped}
+use Rattle.lfs_fs.proofs.calls.Steps.{never_worn}
 use Rattle.lfs_fs.proofs.calls.Drafts.{not_acknowledged}
-use Rattle.lfs_fs.proofs.volume.Nodes.{opened_file}
-use Rattle.lfs_fs.proofs.open_files.Steps.{read_bad_handle, read_too_much}
-use Rattle.lfs_fs.proofs.volume.Map.{map_of_volume, version_of_volume}
+use Rattle.lfs_fs.proofs.volume.Map.{version_of_volume}
 use Rattle.lfs_fs.proofs.paths.Steps.{version_done}
 use Rattle.lfs_fs.proofs.calls.Exits.{served_halted, served_still}
 use Rattle.lfs_fs.proofs.calls.Reads.{memory_serves, space_serves, told_serves}
@@ -102,34 +86,6 @@ module _ {D : Type 0} (state : D → DeviceState) where
       subst (λ (n : ℕ). Step (segments_of (seen mid)) s Version (FormatVersion n) s)
       (version_of_volume state (seen mid) k m0 m s is ∙ sym told) (version_done (segments_of (seen mid)) s)))
 
-  -- ---- bytes of an object
-
-  module _ (old mid new : Fs D) (first : OnlyReads state old mid) (n : ℕ) where
-    pub reads_file : Reads state mid.store.log new.store.log → (off count : ℕ) (head : Header) (from to : ℕ) (out : List ℕ)
-        → HasHeader state old mid n head → from ≡ min off head.size → to ≡ min (off + count) head.size
-        → ReadsPart state mid.store.log new.store.log mid.store.draft.changes n from to out → ReadsFile state old new n off count out
-    reads_file reads off count head from to out there starts ends read = record {
-      head = head;
-      there = λ k m0 m keeps holds. there k m0 m (reads.looks.carries.kept_before keeps) holds;
-      bytes = λ k m0 m keeps holds. (
-          let is = read k m0 m keeps (held_still state old.store.log mid.store.log k m0 m first.still.reads holds) (as_header head)
-          (omega (arith, ends)) in
-          is ∙ (λ i. part (object (staged (first.draft i).changes m) n (as_header head)) (starts i) (ends i - starts i)));
-    }
-
-    pub lacks_bytes : (fault : StoreFault) (e : FsError) → e ≡ error_of_store fault → ((fault ≡ store.NoMemory → ⊥)
-        → IsReadFault state mid.store.log new.store.log) → (fault ≡ store.Log log.Halted → mid.store.log.halted ≡ true)
-        → (fault ≡ store.Log log.Full → ⊥) → LacksBytes state old new n e
-    lacks_bytes store.NoMemory e is failed halted other = inl is
-    lacks_bytes (store.Log log.Device) e is failed halted other =
-        inr (inr (inr (
-          is,
-          λ k m0 m keeps holds.
-              inl (fault_more state old.store.log mid.store.log new.store.log first.still.reads (failed (λ no. cc)) k m0 m keeps holds),
-        )))
-    lacks_bytes (store.Log log.Halted) e is failed halted other = inr (inr (inl (is, sym first.still.reads.halted ∙ halted refl)))
-    lacks_bytes (store.Log log.Full) e is failed halted other = absurd (other refl)
-
 -- ---- ends after which nothing has changed
 
 module _ {D : Type 0} (state : D → DeviceState) (old new : Mounted D) (call : Call) (lawful : IsLawful (state old.log.device))
@@ -183,84 +139,7 @@ module _ {D : Type 0} (state : D → DeviceState) (old new : Fs D) (call : Call)
   abbrev pub InEnd : (LogMap → State → Type 0) → Type 0
   InEnd P = AfterEach state (seen old) (seen new) call lawful reads.still was P
 
-  -- an object of this number is there
-  abbrev pub HasObject : ℕ → LogMap → State → Type 0
-  HasObject n m s = (n ≤ 4095) × (m.header n ≢ None)
-
   -- a header of the draft is that of the log map
   pub header_there : (n : ℕ) (head : Header) → HasHeader state old new n head → InEnd (λ m s. m.header n ≡ Some (as_header head))
   header_there n head there k m0 m s keeps is = ap (λ (x : LogMap). x.header n) (sym (no_change old.store.draft.changes m empty))
       ∙ there k m0 m keeps is.stores.holds
-
-  pub lacks_header : (n : ℕ) (fault : FsError) → InEnd (HasObject n) → LacksHeader state old new n fault
-      → Serves state (seen old) (seen new) call (Refuse (refusal_of fault))
-  lacks_header n fault has lacks = ⊎_elim
-      (λ halted. absurd (let yes_halted = halted.1 in let running = was in cc))
-      (λ failed. subst (λ (f : FsError). Serves state (seen old) (seen new) call (Refuse (refusal_of f))) (sym failed.0)
-      (failed_serves state (seen old) (seen new) call lawful reads.still was free (λ k m0 m s keeps is. ⊎_elim
-      (λ rose. rose)
-      (λ none.
-      absurd ((has k m0 m s keeps is).1 (ap (λ (x : LogMap). x.header n) (sym (no_change old.store.draft.changes m empty)) ∙ none)))
-      (failed.1 k m0 m keeps is.stores.holds))))
-      lacks
-
-  pub lacks_object : (n : ℕ) (fault : FsError) → InEnd (HasObject n) → LacksObject state old new n fault
-      → Serves state (seen old) (seen new) call (Refuse (refusal_of fault))
-  lacks_object n fault has lacks = ⊎_elim
-      (λ past. subst (λ (f : FsError). Serves state (seen old) (seen new) call (Refuse (refusal_of f))) (sym past.0)
-      (failed_serves state (seen old) (seen new) call lawful reads.still was free
-      (λ k m0 m s keeps is. absurd (let few = (has k m0 m s keeps is).0 in let many = past.1 in omega (arith, few, many)))))
-      (λ header. lacks_header n fault has header)
-      lacks
-
-  pub lacks_memory : takes_no_memory call ≡ false → (n : ℕ) (fault : FsError) → InEnd (HasObject n) → LacksBytes state old new n fault
-      → Serves state (seen old) (seen new) call (Refuse (refusal_of fault))
-  lacks_memory takes n fault has lacks = ⊎_elim
-      (λ (is : fault ≡ error.NoMemory). subst (λ (f : FsError). Serves state (seen old) (seen new) call (Refuse (refusal_of f))) (sym is)
-      (memory_serves state (seen old) (seen new) call lawful reads.still was takes))
-      (λ object. lacks_object n fault has object)
-      lacks
-
--- ---- pread
-
-module _ {D : Type 0} (state : D → DeviceState) (old : Fs D) (lawful : IsLawful (state old.store.log.device))
-    (was : old.store.log.halted ≡ false) (h off count : ℕ) where
-  abbrev call : Call
-  call = Pread h off count
-
-  abbrev table : Handles
-  table = old.handles
-
-  -- a handle gives an object
-  pub handle_has : (n : ℕ) → find nat_cmp h table ≡ Some n → (k : CheckpointValue) (m0 m : LogMap) (s : State)
-      → IsIn state (seen old) k m0 m s → (n ≤ 4095) × (m.header n ≢ None)
-  handle_has n opens k m0 m s is =
-      let file = opened_file (segments_of (seen old)) m s is.log h n (ap (find nat_cmp h) is.handles ∙ opens) in
-      (file.number.1, λ none. absurd (let both : None ≡ Some file.head = sym none ∙ file.there in cc))
-
-  pub pread_without : (fault : FsError) → GivesNone table h fault → Serves state (seen old) (seen old) call (Refuse (refusal_of fault))
-  pread_without fault none =
-      subst (λ (f : FsError). Serves state (seen old) (seen old) call (Refuse (refusal_of f))) (sym none.0)
-      (step_serves state (seen old) (seen old) call lawful (still_none state (seen old)) was (Refuse BadHandle) tt refl refl refl
-      (λ k m0 m s keeps is. read_bad_handle (segments_of (seen old)) s h off count (ap (find nat_cmp h) is.handles ∙ none.1)))
-
-  module _ (n : ℕ) (opens : find nat_cmp h table ≡ Some n) where
-    pub pread_too_much : 65536 < count → Serves state (seen old) (seen old) call (Refuse Inval)
-    pread_too_much much =
-        step_serves state (seen old) (seen old) call lawful (still_none state (seen old)) was (Refuse Inval) tt refl refl refl
-        (λ k m0 m s keeps is. read_too_much (segments_of (seen old)) s h off count n (ap (find nat_cmp h) is.handles ∙ opens) much)
-
-    pub pread_ends : (new : Fs D) (few : count ≤ 65536) (empty : IsNoChange old.store.draft.changes) (reads : OnlyReads state old new)
-        (r : Result (Vec ℕ Global) FsError)
-        → IfOk r (λ bytes. ReadsFile state old new n off count bytes.items) → IfErr r (λ fault. LacksBytes state old new n fault)
-        → Serves state (seen old) (seen new) call (answer_by (λ bytes. Data bytes.items) r)
-    pread_ends new few empty reads (Ok bytes) read missing =
-        step_serves state (seen old) (seen new) call lawful reads.still was (Data bytes.items) tt refl refl refl (λ k m0 m s keeps is.
-        pread_clipped (segments_of (seen old)) m s (map_of_volume state (seen old) k m0 m s is) h n off count
-        (ap (find nat_cmp h) is.handles ∙ opens) read.head
-        (header_there state old new call lawful was empty reads refl n read.head read.there k m0 m s keeps is) few bytes.items
-        (read.bytes k m0 m keeps is.stores.holds
-        ∙ ap (λ (x : LogMap). part (object x n (as_header read.head)) (min off read.head.size)
-        (min (off + count) read.head.size - min off read.head.size)) (no_change old.store.draft.changes m empty)))
-    pread_ends new few empty reads (Err fault) read missing = lacks_memory state old new call lawful was empty reads refl refl n fault
-        (λ k m0 m s keeps is. handle_has n opens k m0 m s is) missing

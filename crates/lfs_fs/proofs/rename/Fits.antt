@@ -1,44 +1,35 @@
--- The draft of a rename fits each log map of its volume: what is lost first, then the headers of
--- both directories and the names in them.
-use Rattle.std.proofs.Common.{◌≡◌, ◌≢◌, ◌&&◌, ◌<◌, ◌≤◌, ◌+◌, ◌-◌, not, ℕ, Bool, true, false, List, length, Option, Some, None, refl, sym}
-use Rattle.std.proofs.Common.{◌∙◌, subst, ⊎_elim, arith, ◌*◌}
-use Rattle.std.specs.Prelude.{◌==◌, if◌then◌else◌, is_none, max}
-use Rattle.std.proofs.lemmas.Bool.{eq-eqb, cases_eq}
-use Rattle.lfs_model.specs.Checkpoint.{CheckpointValue}
-use Rattle.lfs_model.specs.Device.{DeviceState}
-use Rattle.lfs_model.specs.Objects.{IsHeaderOf}
+-- A rename can be drafted in a state, and the draft fits its log map: what is lost first, then the headers of both directories and the
+-- names in them.
+use Rattle.std.proofs.Common.{◌≡◌, ◌&&◌, ◌<◌, ◌≤◌, ◌+◌, ◌-◌, not, ℕ, Bool, true, false, List, Option, Some, None, refl, sym}
+use Rattle.std.proofs.Common.{◌∙◌, ap, subst, arith}
+use Rattle.std.specs.Prelude.{◌==◌, if◌then◌else◌, is_none}
+use Rattle.std.specs.FinMap.{find}
+use Rattle.std.proofs.lemmas.Bool.{eq-eqb}
+use Rattle.lfs_model.specs.Objects.{IsDirectory, IsHeaderOf}
 use Rattle.lfs_model.specs.Stands.{LogMap}
 use Rattle.lfs_model.specs.Step.{name}
-use Rattle.lfs_model.specs.Tree.{State, slot_len}
-use Rattle.lfs_model.proofs.Shrinking.{named_counts}
+use Rattle.lfs_model.specs.Tree.{State, byte_cmp, entry, slot_len}
 use Rattle.lfs_files.specs.declared.header.Header.{Header}
-use Rattle.lfs_store.specs.memory.declared.batch.Loss.{Loss}
-use Rattle.lfs_store.specs.memory.declared.changes.Changes.{Changes}
-use Rattle.lfs_store.specs.memory.Batch.{FitsBatch, staged}
-use Rattle.lfs_store.specs.memory.Changing.{FitsHeader}
-use Rattle.lfs_store.specs.memory.Present.{as_header}
-use Rattle.lfs_store.specs.Drafting.{IsApart}
-use Rattle.lfs_store.specs.Making.{relinked}
-use Rattle.lfs_store.proofs.Apart.{draft_empty, nothing_apart}
+use Rattle.lfs_files.specs.Files.{FilesState, IsApart}
+use Rattle.lfs_files.specs.Headers.{FitsHeader, as_header}
+use Rattle.lfs_path.specs.declared.last.Last.{Last}
+use Rattle.lfs_path.specs.dirs.Directory.{names_at}
 use Rattle.lfs_path.specs.dirs.Taking.{shrunk}
-use Rattle.lfs_fs.specs.declared.fs.Fs.{Fs}
-use Rattle.lfs_fs.specs.declared.entries.Object.{Object}
-use Rattle.lfs_fs.specs.declared.moving.Source.{Source}
-use Rattle.lfs_fs.specs.declared.moving.Target.{Target}
-use Rattle.lfs_fs.specs.Renaming.{DraftsMove, DropsFound, FitsFound, NamesFound, fewer_links, first_holder, gains_directory}
-use Rattle.lfs_fs.specs.Renaming.{is_directory, loses_directory, more_links, second_holder, DraftsTake, RelinksWhere}
-use Rattle.lfs_fs.specs.Unlinking.{LosesLink, LosesObject}
+use Rattle.lfs_entries.specs.declared.entry.Object.{Object}
+use Rattle.lfs_entries.specs.declared.moving.Source.{Source}
+use Rattle.lfs_entries.specs.declared.moving.Target.{Target}
+use Rattle.lfs_entries.specs.Drafting.{HasNamed}
+use Rattle.lfs_entries.specs.Entries.{is_directory, number_of}
+use Rattle.lfs_entries.specs.Moving.{HasFoundName, HasMove, HasMoved, HasNames, IsOther, IsThere, NamedFound, TakesFound, TakesMove}
+use Rattle.lfs_entries.specs.Moving.{fewer_links, first_holder, gains_directory, loses_directory, more_links, second_holder, second_linked}
+use Rattle.lfs_entries.specs.Moving.{size_with}
+use Rattle.lfs_entries.specs.Renaming.{GivesName}
+use Rattle.lfs_entries.specs.Replacing.{FitsFound}
+use Rattle.lfs_fs.proofs.paths.Named.{dir, entry_is, fits_d, holder, piece_is}
+use Rattle.lfs_fs.proofs.rename.Maps.{IsRename, apart_first, apart_second, found, holder_a, holder_b, linked_twice, linked_twice_b, looks_o}
+use Rattle.lfs_fs.proofs.rename.Maps.{not_root, some_links}
+use Rattle.lfs_fs.proofs.volume.Directories.{slot_in_directory}
 use Rattle.lfs_fs.proofs.volume.Headers.{directory_grows, directory_shrinks, known_form, links_fit}
-use Rattle.lfs_fs.proofs.volume.Directories.{directory_kind, slot_in_directory}
-use Rattle.lfs_fs.proofs.rename.Maps.{apart_first, apart_second, names_plain, dir_a, dir_b, kind_o, linked_twice, linked_twice_b, looks_o}
-use Rattle.lfs_fs.proofs.rename.Maps.{there as there_o}
-use Rattle.lfs_store.specs.log.verify.declared.totals.BlockTotals.{BlockTotals}
-use Rattle.lfs_fs.proofs.volume.MovedMaps.{IsMoving, a_3, b_2, second_holder as holder_4}
-use Rattle.lfs_fs.specs.Volume.{Mounted, segments_of}
-use Rattle.lfs_fs.proofs.rename.Drafts.{StartsRename, holds_mid, holds_old, holds_taken, moving, second_none}
-use Rattle.lfs_path.specs.dirs.Adding.{slot_for}
-use Rattle.lfs_store.specs.Writing.{TakesWrite}
-use Rattle.lfs_fs.proofs.volume.LinkDrafts.{link_fits, link_apart}
 
 -- ---- links
 
@@ -78,34 +69,22 @@ few_links source target (Some o) fits gains =
     absurd (gains_none (is_directory source.object.header.kind)
     (source.directory.value == target.directory.value) gains)
 
--- ---- what is lost
-
--- The draft fits, and what is lost is apart from both directories.
-pub record IsLossFit (c : Changes) (m : LogMap) (da db : ℕ) : Type 0 where
-  pub fits : FitsBatch m c
-  pub first : IsApart c.loss da
-  pub second : IsApart c.loss db
-
-relinks_fit : (v : Bool) (c c' : Changes) (m : LogMap) (da db d : ℕ) (head : Header) (l : ℕ)
-    (t : BlockTotals) → RelinksWhere v c c' d head l t
-    → (staged c m).header d ≡ Some (as_header head)
-    → 2 ≤ head.links → IsApart c.loss d → FitsHeader head.kind head.form l head.size → IsLossFit c m da db
-    → IsLossFit c' m da db
-relinks_fit false c c' m da db d head l t is there two apart header fit =
-    subst (λ (x : Changes). IsLossFit x m da db) (sym is) fit
-relinks_fit true c c' m da db d head l t is there two apart header fit = record {
-  fits = is.0.fits m fit.fits there (omega (arith, two)) apart.inode header;
-  first = is.0.apart da fit.first;
-  second = is.0.apart db fit.second;
+named_in : (m : LogMap) (d : ℕ) (head : Header) (nm nm' : List ℕ) (k : ℕ) → IsDirectory m d (as_header head) → nm' ≡ nm
+    → Some k ≡ find byte_cmp nm (names_at m d head) → HasNamed d head nm' m
+named_in m d head nm nm' k directory same gives = record {
+  directory = directory;
+  there = λ none. (
+      let both : Some k ≡ None = gives ∙ ap (λ (w : List ℕ). find byte_cmp w (names_at m d head)) (sym same) ∙ none in
+      cc);
 }
 
-module _ {D : Type 0} {state : D → DeviceState} {v : Mounted D} {old : Fs D} {k : CheckpointValue}
-    {m0 m : LogMap} {s : State} {a b : List ℕ} {source : Source} {dest : Target}
-    (starts : StartsRename state v old k m0 m s a b source dest) where
-  open starts use {moves as g, empty}
+gives_same : (found : Option Object) (n : ℕ) → Some n ≡ number_of found → GivesName found n ≡ true
+gives_same None n same = cc
+gives_same (Some r) n same = eq-eqb r.number.value n (let one : r.number.value ≡ n = cc in one)
 
-  abbrev N : ℕ
-  N = segments_of v
+module _ {N : ℕ} {m : LogMap} {s : State} {a b : List ℕ} {l o : Last} {source : Source} {dest : Target}
+    (g : IsRename N m s a b l o source dest) where
+  open g use {looks_a, looks_b}
 
   abbrev da : ℕ
   da = source.directory.value
@@ -113,54 +92,61 @@ module _ {D : Type 0} {state : D → DeviceState} {v : Mounted D} {old : Fs D} {
   abbrev db : ℕ
   db = dest.directory.value
 
-  module _ (lost : Fs D) where
-    lost_fit : (found : Option Object) → dest.replaced ≡ found → DropsFound state old lost found
-        → IsLossFit lost.store.draft.changes m da db
-    lost_fit None none drops = subst (λ (c : Changes). IsLossFit c m da db) (sym drops.0) record {
-      fits = (draft_empty old.store.draft.changes m empty).1;
-      first = subst (λ (x : Loss). IsApart x da) (sym empty.loss) (nothing_apart da);
-      second = subst (λ (x : Loss). IsApart x db) (sym empty.loss) (nothing_apart db);
-    }
-    -- a directory goes, or what had one link; or it has a link less
-    lost_fit (Some o) some drops = ⊎_elim
-        (λ (goes : (is_directory o.header.kind ≡ true) × LosesObject state old lost o.number.value).
-        record {
-          fits = goes.1.removes.fits m;
-          first = goes.1.removes.apart da not_first;
-          second = goes.1.removes.apart db not_second;
-        })
-        (λ (loses : (is_directory o.header.kind ≡ false)
-        × LosesLink state old lost o.number.value o.header).
-        record {
-          fits = link_fits old lost empty m o.number.value o.header loses.1 there
-              (g.headers o.number.value (as_header o.header) there)
-              (let are = names_plain g o some (kind_o g o some ∙ loses.0) in
-              let some = named_counts s.tree db (name b) o.number.value (there_o g o some) in
-              omega (arith, are, some));
-          first = link_apart old lost empty m o.number.value o.header loses.1 da not_first;
-          second = link_apart old lost empty m o.number.value o.header loses.1 db not_second;
-        })
-        drops
-      where
-        there : m.header o.number.value ≡ Some (as_header o.header)
-        there = (looks_o g o some).there
+  -- ---- both directories are there, with both names
 
-        not_first : da ≢ o.number.value
-        not_first e = apart_first g o some (sym e)
+  there_by : (found : Option Object) → dest.replaced ≡ found → IsThere found m
+  there_by None none = tt
+  there_by (Some r) some = ((looks_o g r some).there, not_root g r some)
 
-        not_second : db ≢ o.number.value
-        not_second e = apart_second g o some (sym e)
+  first_by : (found : Option Object) → dest.replaced ≡ found → IsOther found da
+  first_by None none = tt
+  first_by (Some r) some = λ e. apart_first g r some (sym e)
+
+  second_by : (found : Option Object) → dest.replaced ≡ found → IsOther found db
+  second_by None none = tt
+  second_by (Some r) some = λ e. apart_second g r some (sym e)
+
+  pub has_move : HasMove source dest m
+  has_move = record {
+    map = g.first.map.map;
+    holders = record { first = looks_a.looks.header; second = looks_b.looks.header };
+    replaced = there_by dest.replaced refl;
+    not_first = first_by dest.replaced refl;
+    not_second = second_by dest.replaced refl;
+  }
+
+  found_by : (found : Option Object) → dest.replaced ≡ found → HasFoundName found db dest.holder dest.name.now m
+  found_by None none = tt
+  found_by (Some r) some = named_in m db dest.holder o.name.now dest.name.now r.number.value
+      ((holder g.second).formed dest.holder looks_b.looks.header) g.named_b (looks_o g r some).looks.gives
+
+  pub has_names : HasNames source dest m
+  has_names = record {
+    move = has_move;
+    first = named_in m da source.holder l.name.now source.name.now source.object.number.value
+        ((holder g.first).formed source.holder looks_a.looks.header) g.named_a looks_a.looks.gives;
+    second = found_by dest.replaced refl;
+    -- else both would give one object
+    others = λ same alike. (
+        let names : name a ≡ name b = piece_is g.first ∙ sym g.named_a ∙ alike ∙ g.named_b ∙ sym (piece_is g.second) in
+        let gives : Some source.object.number.value ≡ number_of dest.replaced = sym (found g)
+        ∙ (λ i. entry s.tree (same i) (names i)) ∙ entry_is g.second dest.holder (number_of dest.replaced) looks_b.looks in
+        let on = gives_same dest.replaced source.object.number.value gives in
+        let off = g.apart in
+        cc);
+  }
 
   -- ---- the headers of both directories
+
   fits_a : IsHeaderOf da (as_header source.holder)
-  fits_a = g.headers da (as_header source.holder) g.looks_a.header
+  fits_a = fits_d g.first source.holder looks_a.looks.header
 
   fits_b : IsHeaderOf db (as_header dest.holder)
-  fits_b = g.headers db (as_header dest.holder) g.looks_b.header
+  fits_b = fits_d g.second dest.holder looks_b.looks.header
 
   some_size : slot_len source.holder.form ≤ source.holder.size
-  some_size = slot_in_directory N m s g.map da (dir_a g) source.holder g.looks_a.header fits_a
-      (name a) source.object.number.value g.looks_a.gives
+  some_size = slot_in_directory N m s g.first.map da (dir g.first) source.holder looks_a.looks.header fits_a
+      l.name.now source.object.number.value (sym looks_a.looks.gives)
 
   less : FitsHeader source.holder.kind source.holder.form (fewer_links source dest) source.holder.size
   less = links_fit da source.holder fits_a (fewer_links source dest)
@@ -174,19 +160,17 @@ module _ {D : Type 0} {state : D → DeviceState} {v : Mounted D} {old : Fs D} {
     size_fits = fits_b.size;
   }
 
-  cut_fits : FitsHeader source.holder.kind source.holder.form (fewer_links source dest) (source.holder.size - slot_len source.holder.form)
+  cut_fits : FitsHeader source.holder.kind source.holder.form (fewer_links source dest)
+      (source.holder.size - slot_len source.holder.form)
   cut_fits = record {
     known = less.known;
     links_few = less.links_few;
-    size_fits = (directory_shrinks da source.holder fits_a
-        (directory_kind N m s g.map da (dir_a g) source.holder g.looks_a.header)
-        some_size).size_fits;
+    size_fits = (directory_shrinks da source.holder fits_a (holder_a g).kind some_size).size_fits;
   }
 
   -- the second directory's as a name is drafted into it
   abbrev holder_by : Bool → Header
-  holder_by e = if e then shrunk (first_holder source dest)
-      else relinked dest.holder (more_links source dest)
+  holder_by e = if e then shrunk (first_holder source dest) else second_linked source dest
 
   over_fits : (e : Bool) → FitsHeader (holder_by e).kind (holder_by e).form (holder_by e).links (holder_by e).size
   over_fits true = cut_fits
@@ -200,80 +184,45 @@ module _ {D : Type 0} {state : D → DeviceState} {v : Mounted D} {old : Fs D} {
   new_fits false ne none = record {
     known = more.known;
     links_few = more.links_few;
-    size_fits = (directory_grows db dest.holder fits_b
-        (directory_kind N m s g.map db (dir_b g) dest.holder g.looks_b.header)
+    size_fits = (directory_grows db dest.holder fits_b (holder_b g).kind
         (subst (λ (f : Option Object). FitsFound f source dest) none g.fits
         (λ e. (let on = eq-eqb da db e in let off = ne in cc))).size).size_fits;
   }
 
-  -- ---- the whole draft
-  module _ {new : Fs D} (drafts : DraftsMove state old new source dest)
-      (keeps : (state new.store.log.device).keeps_model) where
-    abbrev takes : DraftsTake state old drafts.taken source dest
-    takes = drafts.takes
-
-    abbrev c4 : Changes
-    c4 = drafts.taken.store.draft.changes
+  -- ---- the draft fits, where nothing was lost before
+  module _ {S D : Type 0} (files : FilesState S D) (none_lost : (k : ℕ) → IsApart files.lost k) where
+    replaced_by : (found : Option Object) → dest.replaced ≡ found → TakesFound files m found
+    replaced_by None none = tt
+    replaced_by (Some r) some = record {
+      there = (looks_o g r some).there;
+      linked = some_links g r some;
+      apart = (none_lost r.number.value).inode;
+      header = links_fit r.number.value r.header (g.first.headers r.number.value (as_header r.header) (looks_o g r some).there)
+          (r.header.links - 1) (omega arith);
+    }
 
     abbrev to : Header
     to = second_holder source dest
 
-    kept : (state drafts.taken.store.log.device).keeps_model
-    kept = drafts.still.reads.looks.carries.kept_before keeps
+    longer_by : (found : Option Object) → dest.replaced ≡ found → (x y : LogMap)
+        → NamedFound found x y db to source.object.number.value dest.name.now
+        → FitsHeader to.kind to.form to.links (size_with found to source.object.number.value dest.name.now)
+    longer_by None none x y names =
+        subst (λ (z : ℕ). FitsHeader to.kind to.form to.links z) names.file.bytes.size (new_fits (da == db) refl none)
+    longer_by (Some r) some x y names = over_fits (da == db)
 
-    moves : IsMoving (staged takes.links.lost.store.draft.changes m)
-        (staged takes.links.relinks.between m) (staged takes.mid.store.draft.changes m)
-        (staged c4 m) da db source.holder dest.holder (fewer_links source dest)
-        (more_links source dest) (name a)
-    moves = moving starts takes kept
-
-    loss_1 : IsLossFit takes.links.lost.store.draft.changes m da db
-    loss_1 = lost_fit takes.links.lost dest.replaced refl takes.links.drops
-
-    loss_2 : IsLossFit takes.links.relinks.between m da db
-    loss_2 = relinks_fit (loses_directory source dest) takes.links.lost.store.draft.changes
-        takes.links.relinks.between m da db da source.holder (fewer_links source dest)
-        takes.mid.store.drafted takes.links.relinks.first moves.has_a.there (linked_twice g)
-        loss_1.first less loss_1
-
-    loss_3 : IsLossFit takes.mid.store.draft.changes m da db
-    loss_3 = ⊎_elim
-        (λ (same : da ≡ db). subst (λ (c : Changes). IsLossFit c m da db)
-        (sym (second_none takes same)) loss_2)
-        (λ (ne : da ≡ db → ⊥). relinks_fit (gains_directory source dest)
-        takes.links.relinks.between takes.mid.store.draft.changes m da db db dest.holder
-        (more_links source dest) takes.mid.store.drafted takes.links.relinks.second
-        (b_2 moves ne).there (linked_twice_b g) loss_2.second more loss_2)
-        (cases_eq da db)
-
-    fits_4 : FitsBatch m c4
-    fits_4 = takes.takes.fits k m0 m kept (holds_mid takes.links k m0 m (holds_old starts))
-        loss_3.fits (λ none. let at = g.looks_a.header in cc) (a_3 moves).there cut_fits loss_3.first
-
-    -- the second directory is written to
-    write : (at : ℕ) (slot : List ℕ) → FitsHeader to.kind to.form to.links (max to.size (at + length slot))
-        → TakesWrite c4 m db to at slot
-    write at slot header = record {
-      there = (holder_4 moves).there;
-      apart = takes.apart db loss_3.second;
-      within = λ absent. absurd (let there = g.looks_b.header in cc);
-      header = header;
+    pub takes_move : {is_open : Bool} {after : FilesState S D} → HasMoved after m m source dest is_open → TakesMove files m m source dest
+    takes_move moved = record {
+      move = has_move;
+      first_staged = λ none. (let at = looks_a.looks.header in cc);
+      second_staged = λ none. (let at = looks_b.looks.header in cc);
+      first_apart = none_lost da;
+      second_apart = none_lost db;
+      replaced = replaced_by dest.replaced refl;
+      first_linked = let two = linked_twice g in omega (arith, two);
+      second_linked = let two = linked_twice_b g in omega (arith, two);
+      first = less;
+      second = more;
+      shorter = cut_fits;
+      longer = longer_by dest.replaced refl _ _ moved.named;
     }
-
-    name_fits : (found : Option Object) → dest.replaced ≡ found
-        → NamesFound state found drafts.taken.store.log new.store.log c4 new.store.draft.changes
-        db to source.object.number.value dest.name.now
-        → FitsBatch m new.store.draft.changes
-    name_fits None none adds = adds.fits k m0 m (holds_taken starts drafts keeps) fits_4
-        (write to.size (slot_for to.form source.object.number.value dest.name.now)
-        (subst (λ (z : ℕ). FitsHeader to.kind to.form to.links z)
-        (adds.file k m0 m keeps (holds_taken starts drafts keeps)).bytes.size
-        (new_fits (da == db) refl none)))
-    name_fits (Some o) some points = points.fits k m0 m (holds_taken starts drafts keeps) fits_4
-        (write (slot_len to.form * points.place) (slot_for to.form source.object.number.value dest.name.now)
-        (subst (λ (z : ℕ). FitsHeader to.kind to.form to.links z)
-        (points.file k m0 m keeps (holds_taken starts drafts keeps)).bytes.size
-        (over_fits (da == db))))
-
-    pub draft_fits : FitsBatch m new.store.draft.changes
-    draft_fits = name_fits dest.replaced refl drafts.names

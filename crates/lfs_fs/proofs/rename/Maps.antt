@@ -7,37 +7,42 @@
 -- `DraftsOver` where it gave another). `free_moved` and `over_moved` say that m5 is the log map of
 -- the state after the call, whether there is room for it or not.
 use Rattle.std.proofs.Common.{length, ◌≡◌, ◌≢◌, ◌≤◌, ◌+◌, ◌-◌, ◌&&◌, not, ℕ, Bool, true, false, List, [], Option, Some, None, refl, sym}
-use Rattle.std.proofs.Common.{◌∙◌, ap, arith, ◌∷◌, ◌<◌, subst, ◌||◌, ◌*◌}
+use Rattle.std.proofs.Common.{◌∙◌, ap, arith, ◌∷◌, ◌<◌, subst, ◌||◌}
 use Rattle.std.specs.Prelude.{nat_lt, T, ◌==◌, if◌then◌else◌, is_some, unwrap_or, is_none}
 use Rattle.std.proofs.lemmas.Bool.{eq-eqb}
 use Rattle.std.proofs.lemmas.Bool.Decides.{nat_tests}
 use Rattle.std.specs.FinMap.{is_sorted}
 use Rattle.lfs_model.specs.Call.{AreArguments, Done, Rename}
 use Rattle.lfs_model.specs.Entry as entry
-use Rattle.lfs_model.specs.Objects.{one_if, IsHeaderOf}
+use Rattle.lfs_model.specs.Objects.{one_if}
 use Rattle.lfs_model.specs.Stands.{LogMap}
 use Rattle.lfs_model.specs.Step.{Step, is_there, let_go, name, target, with_tree}
 use Rattle.lfs_model.specs.Tree.{Dir, Names, State, Tree, byte_cmp, entry as entry_in, form_of, is_dir, links, names, names_in, node}
-use Rattle.lfs_model.specs.Tree.{slot_len, with_name, without_name}
+use Rattle.lfs_model.specs.Tree.{with_name, without_name}
 use Rattle.lfs_model.specs.TreeOf.{tree_in}
-use Rattle.lfs_model.specs.Walk.{At, Parent}
 use Rattle.lfs_model.proofs.KeepsNames.{rename_keeps}
 use Rattle.lfs_model.proofs.Makes.{dir_at}
 use Rattle.lfs_model.proofs.Shrinking.{named_counts}
 use Rattle.lfs_files.specs.declared.header.Header.{Header}
 use Rattle.lfs_files.specs.Headers.{as_header}
-use Rattle.lfs_fs.proofs.volume.Nodes.{IsMapOf, IsShaped, shape_of}
+use Rattle.lfs_path.specs.declared.last.Last.{Last}
+use Rattle.lfs_entries.specs.declared.entry.Object.{Object}
+use Rattle.lfs_entries.specs.declared.moving.Source.{Source}
+use Rattle.lfs_entries.specs.declared.moving.Target.{Target}
+use Rattle.lfs_entries.specs.Entries.{is_directory}
+use Rattle.lfs_entries.specs.Looking.{LooksAt}
+use Rattle.lfs_entries.specs.Moving.{fewer_links, more_links}
+use Rattle.lfs_entries.specs.Renaming.{GivesName}
+use Rattle.lfs_entries.specs.Replacing.{FitsFound, FitsReplaced, FitsTarget}
+use Rattle.lfs_fs.proofs.volume.Nodes.{IsMapOf, IsShaped}
 use Rattle.lfs_fs.proofs.volume.KeptMaps.{HasHolder, map_by}
 use Rattle.lfs_fs.proofs.volume.MovedMaps.{DraftsMove, DraftsName, DraftsOver, IsMoving, IsNamed, named_kept, named_new, named_over}
 use Rattle.lfs_fs.proofs.volume.MovedMaps.{named_shifts}
 use Rattle.lfs_fs.proofs.volume.MovedMaps.{named_tree, named_version, second_after}
 use Rattle.lfs_fs.proofs.volume.MovedNames as trees
 use Rattle.lfs_fs.proofs.volume.MovedNames.{nothing_at, only_at}
-use Rattle.lfs_fs.specs.Renaming.{FitsFound, FitsReplaced, GivesName, FitsTarget, LooksAt, fewer_links, is_directory, more_links}
-use Rattle.lfs_fs.specs.declared.entries.Object.{Object}
-use Rattle.lfs_fs.specs.declared.moving.Source.{Source}
-use Rattle.lfs_fs.specs.declared.moving.Target.{Target}
-use Rattle.lfs_fs.proofs.rename.Views.{d_range, dir, entry_is, given, is_empty, kind_is, may_look, plain_empty, range_is}
+use Rattle.lfs_fs.proofs.paths.Named.{IsReached, dir, entry_is, few, holder, kind_is, range_d}
+use Rattle.lfs_fs.proofs.rename.Views.{no_entries, two_links}
 use Rattle.lfs_fs.proofs.volume.Directories.{directory_kind}
 use Rattle.lfs_fs.proofs.volume.LostNames.{IsLoss, LosesName, LosesOne, lost, own_links, names_plain as plain_names}
 
@@ -57,17 +62,16 @@ module _ (s : State) (a b : List ℕ) (da db : ℕ) where
 
 -- Both names' directories have these headers, the names give these objects, and nothing refuses
 -- the one in the place of the other.
-pub record IsRename (N : ℕ) (m : LogMap) (s : State) (a b : List ℕ) (source : Source)
+pub record IsRename (N : ℕ) (m : LogMap) (s : State) (a b : List ℕ) (l o : Last) (source : Source)
     (dest : Target) : Type 0 where
-  pub map : IsMapOf N m s
-  pub headers : (n : ℕ) (h : entry.Header) → m.header n ≡ Some h → IsHeaderOf n h
-  pub walk_a : Parent s.tree a (At source.directory.value)
-  pub walk_b : Parent s.tree b (At dest.directory.value)
-  pub looks_a : LooksAt m source.directory.value (name a) source.holder (Some source.object)
-  pub looks_b : LooksAt m dest.directory.value (name b) dest.holder dest.replaced
-  pub few_a : source.holder.size ≤ 1024 * slot_len source.holder.form
-  pub few_b : dest.holder.size ≤ 1024 * slot_len dest.holder.form
-  pub other : GivesName dest.replaced source.object.number.value ≡ false
+  pub first : IsReached N m s a source.directory.value l
+  pub second : IsReached N m s b dest.directory.value o
+  pub shaped : IsShaped m
+  pub named_a : source.name.now ≡ l.name.now
+  pub named_b : dest.name.now ≡ o.name.now
+  pub looks_a : LooksAt m source.directory.value l.name.now source.holder (Some source.object)
+  pub looks_b : LooksAt m dest.directory.value o.name.now dest.holder dest.replaced
+  pub apart : GivesName dest.replaced source.object.number.value ≡ false
   pub fits : FitsTarget source dest
 
 -- The log map is that of the state after the call, if that comes to its end.
@@ -118,9 +122,12 @@ nothing_in (e ∷ ms) none = absurd
 
 -- ---- from log map to log map
 
-module _ {N : ℕ} {m : LogMap} {s : State} {a b : List ℕ} {source : Source} {dest : Target}
-    (g : IsRename N m s a b source dest) where
-  open g use {map as is, headers, walk_a, walk_b, looks_a, looks_b, few_a, few_b}
+module _ {N : ℕ} {m : LogMap} {s : State} {a b : List ℕ} {l o : Last} {source : Source} {dest : Target}
+    (g : IsRename N m s a b l o source dest) where
+  open g use {looks_a, looks_b}
+
+  is : IsMapOf N m s
+  is = g.first.map
 
   abbrev da : ℕ
   da = source.directory.value
@@ -146,21 +153,11 @@ module _ {N : ℕ} {m : LogMap} {s : State} {a b : List ℕ} {source : Source} {
   abbrev dir_of : Bool
   dir_of = is_directory source.object.header.kind
 
-  pub shaped : IsShaped m
-  shaped = shape_of N m s is headers
-
-  found : entry_in s.tree da (name a) ≡ Some n
-  found = given N m s is headers a da walk_a head_a source.object looks_a
+  pub found : entry_in s.tree da (name a) ≡ Some n
+  found = entry_is g.first head_a (Some n) looks_a.looks
 
   kind_n : is_dir (node s.tree n) ≡ dir_of
-  kind_n = kind_is N m s is headers source.object
-      (range_is N m s is headers a da walk_a head_a source.object looks_a) looks_a.there
-
-  pub dir_a : is_dir (node s.tree da) ≡ true
-  dir_a = dir N m s is headers a da walk_a
-
-  pub dir_b : is_dir (node s.tree db) ≡ true
-  dir_b = dir N m s is headers b db walk_b
+  kind_n = kind_is g.first head_a looks_a.looks.header l.name.now n (sym looks_a.looks.gives) source.object.header looks_a.there
 
   order_in : (d : ℕ) → is_dir (node s.tree d) ≡ true → T (is_sorted byte_cmp (names_in s.tree d))
   order_in d dir = (is.log.sound.limits d (Dir (form_of (node s.tree d)) (names_in s.tree d))
@@ -169,37 +166,37 @@ module _ {N : ℕ} {m : LogMap} {s : State} {a b : List ℕ} {source : Source} {
   move : trees.IsMove s.tree da db n (name a)
   move = record {
     in_order = is.log.sound.in_order;
-    is_a = dir_a;
-    order_a = order_in da dir_a;
+    is_a = dir g.first;
+    order_a = order_in da (dir g.first);
     found = found;
-    is_b = dir_b;
-    order_b = order_in db dir_b;
+    is_b = dir g.second;
+    order_b = order_in db (dir g.second);
   }
 
   pub holder_a : HasHolder m da head_a
   holder_a = record {
-    number = d_range N m s is headers a da walk_a;
-    there = looks_a.header;
-    kind = directory_kind N m s is da dir_a head_a looks_a.header;
-    few = few_a;
+    number = range_d g.first;
+    there = looks_a.looks.header;
+    kind = directory_kind N m s is da (dir g.first) head_a looks_a.looks.header;
+    few = few g.first head_a looks_a.looks.header;
   }
 
   pub holder_b : HasHolder m db head_b
   holder_b = record {
-    number = d_range N m s is headers b db walk_b;
-    there = looks_b.header;
-    kind = directory_kind N m s is db dir_b head_b looks_b.header;
-    few = few_b;
+    number = range_d g.second;
+    there = looks_b.looks.header;
+    kind = directory_kind N m s is db (dir g.second) head_b looks_b.looks.header;
+    few = few g.second head_b looks_b.looks.header;
   }
 
   linked : (k : ℕ) (h : entry.Header) → m.header k ≡ Some h → h.links ≡ links s.tree k
   linked k h at = is.log.links k h at ∙ ap (λ (t : Tree). links t k) (sym is.log.is)
 
   pub linked_twice : 2 ≤ head_a.links
-  linked_twice = (may_look N m s is headers a da walk_a).linked head_a looks_a.header
+  linked_twice = (holder g.first).linked head_a looks_a.looks.header
 
   pub linked_twice_b : 2 ≤ head_b.links
-  linked_twice_b = (may_look N m s is headers b db walk_b).linked head_b looks_b.header
+  linked_twice_b = (holder g.second).linked head_b looks_b.looks.header
 
   abbrev after : Tree
   after = with_name (without_name s.tree da (name a)) db (name b) n
@@ -226,11 +223,10 @@ module _ {N : ℕ} {m : LogMap} {s : State} {a b : List ℕ} {source : Source} {
       (drafts : DraftsMove m m2 m3 m4 da db head_a head_b la lb (name a))
       (new : DraftsName m4 m5 db n (second_after da db head_a head_b la lb) (name b)) where
     pub free_moving : IsMoving m m2 m3 m4 da db head_a head_b la lb (name a)
-    free_moving = record { kept = shaped; has_a = holder_a; has_b = holder_b; drafts = drafts }
+    free_moving = record { kept = g.shaped; has_a = holder_a; has_b = holder_b; drafts = drafts }
 
     absent : entry_in s.tree db (name b) ≡ None
-    absent = entry_is N m s is headers b db walk_b head_b None
-        (subst (LooksAt m db (name b) head_b) none looks_b)
+    absent = entry_is g.second head_b None (subst (LooksAt m db o.name.now head_b) none looks_b).looks
 
     free_named : IsNamed m4 m5 db n (second_after da db head_a head_b la lb) (name b)
     free_named = named_new free_moving new
@@ -279,49 +275,41 @@ module _ {N : ℕ} {m : LogMap} {s : State} {a b : List ℕ} {source : Source} {
         (named_kept free_moving free_named) tree_is free_links
 
   -- ---- it gives another object of the same sort, no directory with names
-  module _ (o : Object) (some : dest.replaced ≡ Some o) where
+  module _ (r : Object) (some : dest.replaced ≡ Some r) where
     abbrev old : ℕ
-    old = o.number.value
+    old = r.number.value
 
     abbrev h : entry.Header
-    h = as_header o.header
+    h = as_header r.header
 
-    pub looks_o : LooksAt m db (name b) head_b (Some o)
-    looks_o = subst (LooksAt m db (name b) head_b) some looks_b
+    pub looks_o : LooksAt m db o.name.now head_b (Some r)
+    looks_o = subst (LooksAt m db o.name.now head_b) some looks_b
 
-    pub there : entry_in s.tree db (name b) ≡ Some old
-    there = given N m s is headers b db walk_b head_b o looks_o
+    there : entry_in s.tree db (name b) ≡ Some old
+    there = entry_is g.second head_b (Some old) looks_o.looks
 
-    in_range : (1 ≤ old) × (old ≤ 4095)
-    in_range = range_is N m s is headers b db walk_b head_b o looks_o
-
-    pub other : old ≢ n
+    other : old ≢ n
     other same =
         let on = eq-eqb old n same in
         let off : (old == n) ≡ false
-        = subst (λ (f : Option Object). GivesName f n ≡ false) some g.other in
+        = subst (λ (f : Option Object). GivesName f n ≡ false) some g.apart in
         cc
 
-    fits : FitsReplaced source.object.header.kind o.header
+    fits : FitsReplaced source.object.header.kind r.header
     fits = subst (λ (f : Option Object). FitsFound f source dest) some g.fits
 
-    pub kind_o : is_dir (node s.tree old) ≡ is_directory o.header.kind
-    kind_o = kind_is N m s is headers o in_range looks_o.there
+    kind_o : is_dir (node s.tree old) ≡ is_directory r.header.kind
+    kind_o = kind_is g.second head_b looks_o.looks.header o.name.now old (sym looks_o.looks.gives) r.header looks_o.there
 
     alike : is_dir (node s.tree old) ≡ is_dir (node s.tree n)
     alike = kind_o ∙ fits.same ∙ sym kind_n
 
     empty : names_in s.tree old ≡ []
-    empty = nothing_in (names_in s.tree old) (by (is_directory o.header.kind) refl)
-      where
-        by : (v : Bool) → is_directory o.header.kind ≡ v
-            → nat_lt 0 (length (names_in s.tree old)) ≡ false
-        by true dir = is_empty N m s is headers o in_range looks_o.there dir
-            (fits.empty (sym fits.same ∙ dir))
-        by false plain = plain_empty N m s is headers o in_range looks_o.there plain
+    empty = nothing_in (names_in s.tree old) (no_entries is old r.header (g.first.headers old h looks_o.there) looks_o.there kind_o
+        (λ dir. fits.empty (sym fits.same ∙ dir)))
 
     -- ---- the object
-    not_root : old ≢ 1
+    pub not_root : old ≢ 1
     not_root e =
         let some = named_counts s.tree db (name b) old there in
         let none : names s.tree old ≡ 0 = ap (names s.tree) e ∙ is.log.sound.root_unnamed in
@@ -339,7 +327,7 @@ module _ {N : ℕ} {m : LogMap} {s : State} {a b : List ℕ} {source : Source} {
     lose : LosesOne N m s change old h
     lose = record {
       map = is;
-      shaped = shaped;
+      shaped = g.shaped;
       there = looks_o.there;
       named = is.log.sound.named db (name b) old there;
       not_root = not_root;
@@ -348,8 +336,21 @@ module _ {N : ℕ} {m : LogMap} {s : State} {a b : List ℕ} {source : Source} {
       links_gone = trees.links_gone move (name b) old there other alike empty;
     }
 
-    pub names_plain : is_dir (node s.tree old) ≡ false → names s.tree old ≡ h.links
+    names_plain : is_dir (node s.tree old) ≡ false → names s.tree old ≡ h.links
     names_plain = plain_names lose
+
+    pub some_links : 0 < r.header.links
+    some_links = by (is_dir (node s.tree old)) refl
+      where
+        by : (v : Bool) → is_dir (node s.tree old) ≡ v → 0 < r.header.links
+        by true on =
+            let are = linked old h looks_o.there in
+            let two = two_links (node s.tree old) s.tree old on in
+            omega (arith, are, two)
+        by false off =
+            let are = names_plain off in
+            let some = named_counts s.tree db (name b) old there in
+            omega (arith, are, some)
 
     abbrev x : ℕ
     x = one_if (is_dir (node s.tree n))
@@ -375,17 +376,17 @@ module _ {N : ℕ} {m : LogMap} {s : State} {a b : List ℕ} {source : Source} {
       pub lost_a : HasHolder m1 da head_a
       lost_a = record {
         number = holder_a.number;
-        there = loss.changed.headers da (λ e. apart_first (sym e)) ∙ looks_a.header;
+        there = loss.changed.headers da (λ e. apart_first (sym e)) ∙ looks_a.looks.header;
         kind = holder_a.kind;
-        few = few_a;
+        few = holder_a.few;
       }
 
       pub lost_b : HasHolder m1 db head_b
       lost_b = record {
         number = holder_b.number;
-        there = loss.changed.headers db (λ e. apart_second (sym e)) ∙ looks_b.header;
+        there = loss.changed.headers db (λ e. apart_second (sym e)) ∙ looks_b.looks.header;
         kind = holder_b.kind;
-        few = few_b;
+        few = holder_b.few;
       }
 
       module _ {m2 m3 m4 m5 : LogMap}

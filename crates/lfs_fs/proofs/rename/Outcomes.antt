@@ -1,226 +1,254 @@
--- What a rename answers, once both names were found.
-use Rattle.std.proofs.Common.{◌≡◌, ◌<◌, ◌≤◌, ◌^◌, ℕ, true, false, List, Option, Some, Result, Ok, Err, sym, subst, ⊎_elim, arith, ◌*◌, refl}
-use Rattle.std.proofs.Common.{◌∙◌, ap, ◌⊎◌, inl, inr}
-use Rattle.std.specs.Prelude.{IfErr, OnErr, OnOk}
+-- What a rename serves where both paths were walked, exit by exit.
+use Rattle.std.proofs.Common.{◌≡◌, ◌<◌, ◌≤◌, ◌^◌, ◌*◌, ◌||◌, ℕ, Bool, true, false, List, Option, Some, None, Result, Ok, Err, refl, sym}
+use Rattle.std.proofs.Common.{◌∙◌, ap, subst, inl, inr, arith}
+use Rattle.std.specs.Prelude.{IfErr, IsErrOf, OnErr, OnOk}
 use Rattle.lfs_model.specs.Call.{Done, Refuse, Rename}
 use Rattle.lfs_model.specs.Device.{DeviceState, IsLawful}
+use Rattle.lfs_model.specs.Need.{need}
+use Rattle.lfs_model.specs.Refusal as refusals
+use Rattle.lfs_model.specs.Refusal.{Refusal}
+use Rattle.lfs_model.specs.Step.{Step, last_dots, no_last}
+use Rattle.lfs_model.specs.Tree.{Handles, State}
+use Rattle.lfs_files.specs.declared.fault.LogFault.TheVariants as log
+use Rattle.lfs_files.specs.Files as files
+use Rattle.lfs_files.specs.Files.{FilesState}
+use Rattle.lfs_store.specs.declared.store.Store.{Store}
+use Rattle.lfs_store.proofs.TreeTotals.{totals_of_tree}
 use Rattle.lfs_path.specs.declared.last.Last.{Last}
+use Rattle.lfs_path.specs.Lasts.{HasLast}
+use Rattle.lfs_path.specs.Laws.{SaysLast}
 use Rattle.lfs_path.specs.Pieces.{is_dots}
 use Rattle.lfs_path.specs.Trees.{here}
+use Rattle.lfs_path.proofs.LastPieces.{last_says}
+use Rattle.lfs_entries.specs.declared.fault.EntryFault.{EntryFault}
+use Rattle.lfs_entries.specs.declared.fault.EntryFault.TheVariants as fault
+use Rattle.lfs_entries.specs.declared.moving.Source.{Source}
+use Rattle.lfs_entries.specs.declared.moving.Target.{Target}
+use Rattle.lfs_entries.specs.Moving.{CountsMove, DraftsMove, HasNames}
+use Rattle.lfs_entries.specs.Renaming.{ChecksRename, HasBothNames, RefusesRename}
+use Rattle.lfs_entries.specs.Telling.{FailsWhere}
 use Rattle.lfs_fs.specs.declared.error.FsError.{FsError}
 use Rattle.lfs_fs.specs.declared.error.FsError.TheVariants as error
 use Rattle.lfs_fs.specs.declared.fs.Fs.{Fs}
-use Rattle.lfs_fs.specs.declared.moving.Source.{Source}
-use Rattle.lfs_fs.specs.declared.moving.Target.{Target}
+use Rattle.lfs_fs.specs.Accepting.{need_of}
+use Rattle.lfs_fs.specs.Drafted.{files_of}
+use Rattle.lfs_fs.specs.Faults.{error_of_entry}
+use Rattle.lfs_fs.specs.Finishing.{Finishes}
+use Rattle.lfs_fs.specs.Naming.{Reaches}
 use Rattle.lfs_fs.specs.Refusals.{refusal_of}
-use Rattle.lfs_fs.specs.Renaming.{ChecksRename, FindsBoth, GivesName, MovesEntry, MovesNone, ReachesBoth, IsMoveReady, TurnsMove, FailsMove}
-use Rattle.lfs_fs.specs.Renaming.{GivesUpMove, of_drop, of_memory, of_name, of_take}
-use Rattle.lfs_fs.specs.Seen.{OnlyReads, answer_by, seen}
-use Rattle.lfs_fs.specs.Volume.{Mounted, Serves, IsIn, IsStill, segments_of}
-use Rattle.lfs_fs.proofs.rename.Refusals.{same_done, same_worn}
-use Rattle.lfs_model.specs.Checkpoint.{CheckpointValue}
-use Rattle.lfs_model.specs.Need.{need}
-use Rattle.lfs_model.specs.Stands.{LogMap}
-use Rattle.lfs_model.specs.Step.{Step}
-use Rattle.lfs_model.specs.Totals.{IsCounted}
-use Rattle.lfs_model.specs.Tree.{State}
-use Rattle.lfs_store.specs.memory.declared.changes.Changes.{Changes}
-use Rattle.lfs_store.specs.memory.Batch.{staged}
-use Rattle.lfs_store.proofs.TreeTotals.{totals_of_tree}
-use Rattle.lfs_fs.specs.Accepting.{StagesDraft, TurnsDown, need_of}
+use Rattle.lfs_fs.specs.Renaming.{IsOpen, IsShut, ReachesBoth}
+use Rattle.lfs_fs.specs.Seen.{IsReady, answer_by, seen}
+use Rattle.lfs_fs.specs.Volume.{IsStill, Mounted, Serves, segments_of}
+use Rattle.lfs_fs.proofs.calls.AnyDevice.{IsOrdinary}
+use Rattle.lfs_fs.proofs.calls.Exits.{point_of, served_still}
+use Rattle.lfs_fs.proofs.calls.Drafts.{not_acknowledged}
+use Rattle.lfs_fs.proofs.calls.Files as calls
+use Rattle.lfs_fs.proofs.calls.Files.{Explains, IsBegun, Makes, apart_now, begun_after, begun_at, counted_now, fault_serves, finish_ends}
+use Rattle.lfs_fs.proofs.calls.Files.{fits_now, gives_up, has_now, only, reached_in, refused_after, rose_where, still_after, still_ready}
+use Rattle.lfs_fs.proofs.calls.Files.{told}
+use Rattle.lfs_fs.proofs.calls.Files.{with_store}
+use Rattle.lfs_fs.proofs.calls.Steps.{not_worn, worn}
+use Rattle.lfs_fs.proofs.paths.Looks.{only_none}
+use Rattle.lfs_fs.proofs.rename.Drafts.{moved_map}
+use Rattle.lfs_fs.proofs.rename.Fits.{has_move, has_names, takes_move}
+use Rattle.lfs_fs.proofs.rename.Maps.{IsRename, renamed, tree_after}
+use Rattle.lfs_fs.proofs.rename.Refusals.{AreReached, passes, rename_explained, renames, same_step}
+use Rattle.lfs_fs.proofs.rename.Steps.{StopsAt, conditions, rename_done, rename_lacks, rename_stops}
 use Rattle.lfs_fs.proofs.volume.Nodes.{need_shaped}
-use Rattle.lfs_fs.proofs.rename.Drafts.{StartsRename, draft_moved, draft_totals}
-use Rattle.lfs_fs.proofs.rename.Maps.{renamed, tree_after, IsMoved}
-use Rattle.lfs_fs.proofs.rename.Fits.{draft_fits}
-use Rattle.lfs_fs.proofs.rename.Refusals as checked
-use Rattle.lfs_fs.proofs.rename.Steps.{PassesAll, before_space, rename_done, rename_lacks}
-use Rattle.lfs_fs.proofs.write.Ends.{still_more, AreDrafts, draft_ends, draft_turned, totals_read}
-use Rattle.lfs_store.proofs.LogReads.{held_still}
-use Rattle.lfs_fs.proofs.read.Ends.{fails_serves}
-use Rattle.lfs_fs.proofs.rename.Fails.{name_rises, take_rises}
 
-module _ {D : Type 0} (state : D → DeviceState) (lawful : (d : D) → IsLawful (state d))
-    (v : Mounted D) (old : Fs D) (a : List ℕ) (da : ℕ) (from : Option Last) (b chain : List ℕ)
-    (to : Option Last) (reached : ReachesBoth state v old a da from b chain to)
-    (running : old.store.log.halted ≡ false) (l : Last) (is_from : from ≡ Some l) (o : Last)
-    (is_to : to ≡ Some o) (plain : is_dots l.name.now ≡ false)
-    (other_plain : is_dots o.name.now ≡ false) (mid : Fs D) (only : OnlyReads state old mid)
-    (source : Source) (target : Target) where
-  -- where both names give one object
-  pub same_ends : FindsBoth state old mid da l.name.now l.slash (here chain) o.name.now o.slash
-      source target
-      → GivesName target.replaced source.object.number.value ≡ true → (r : Result (Unit {0}) FsError)
-      → OnOk r (mid.store.log.number < 2 ^ 62) → OnErr r (2 ^ 62 ≤ mid.store.log.number)
-      → IfErr r (λ fault. fault ≡ error.Worn)
-      → Serves state v (seen mid) (Rename a b) (answer_by (λ _. Done) r)
-  same_ends both gives (Ok u) young aged is =
-      same_done state lawful v old a da from b chain to reached running l is_from o is_to plain
-      other_plain mid only source target both gives
-      (let one = reached.still.reads.number in let two = only.still.reads.number in
-      omega (arith, one, two, young))
-  same_ends both gives (Err fault) young aged is = subst
-      (λ (e : FsError). Serves state v (seen mid) (Rename a b) (Refuse (refusal_of e))) (sym is)
-      (same_worn state lawful v old a da from b chain to reached running l is_from o is_to plain
-      other_plain mid only source target both gives
-      (let one = reached.still.reads.number in let two = only.still.reads.number in
-      omega (arith, one, two, aged)))
+module _ {D : Type 0} (state : D → DeviceState) (lawful : (d : D) → IsLawful (state d)) (v : Mounted D) (f : Fs D) (a : List ℕ) (da : ℕ)
+    (from : Option Last) (b chain : List ℕ) (to : Option Last) (reached : ReachesBoth state v f a da from b chain to)
+    (ready : IsReady f) where
+  abbrev N : ℕ
+  N = segments_of v
 
-  module _ (checks : ChecksRename state old mid da l.name.now l.slash chain o.name.now o.slash
-      source target) where
-    abbrev N : ℕ
-    N = segments_of v
+  begun : IsBegun state v f
+  begun = begun_at state v f a da from reached.first ready
 
-    was : v.log.halted ≡ false
-    was = sym reached.still.reads.halted ∙ running
+  was : v.log.halted ≡ false
+  was = calls.was state lawful v f begun
 
-    still_mid : IsStill state v (seen mid)
-    still_mid = still_more state lawful v (seen old) (seen mid) reached.still only.still
+  -- ---- paths without a last piece, or with one that is dots
+  refused : (r : Refusal) → IsOrdinary (Refuse r) → ((s : State) → StopsAt (conditions N s a b da (here chain)) (Refuse r))
+      → Serves state v (seen f) (Rename a b) (Refuse r)
+  refused r ordinary at =
+      refused_after state lawful v f begun f.store (only_none state f).still (Rename a b) refl refl refl r ordinary
+      (λ k m0 m s keeps is. rename_stops N s a b da (here chain) (reached.first.walk k m0 m s keeps is)
+      (reached.second.walk k m0 m s keeps is) (at s))
 
-    -- in one state
-    starts : (state mid.store.log.device).keeps_model → (k : CheckpointValue) (m0 m : LogMap)
-        (s : State) → IsIn state v k m0 m s → StartsRename state v mid k m0 m s a b source target
-    starts keeps k m0 m s is = checked.starts state lawful v old a da from b chain to reached
-        running l is_from o is_to plain other_plain mid only source target checks k m0 m s keeps is
+  pub no_first : from ≡ None → Serves state v (seen f) (Rename a b) (Refuse refusals.Busy)
+  no_first none =
+      let says : no_last a ≡ true = last_says a None (subst (HasLast a) none reached.first.last) in
+      refused refusals.Busy tt (λ s. inl (ap (λ (x : Bool). x || no_last b) says, refl))
 
-    -- ---- the draft
-    module _ (ready : Fs D) (move : IsMoveReady state mid ready source target) where
-      abbrev c : Changes
-      c = ready.store.draft.changes
+  module _ (l : Last) (is_from : from ≡ Some l) where
+    says : SaysLast a (Some l)
+    says = last_says a (Some l) (subst (HasLast a) is_from reached.first.last)
 
-      still_ready : IsStill state v (seen ready)
-      still_ready = still_more state lawful v (seen mid) (seen ready) still_mid move.still
+    pub no_second : to ≡ None → Serves state v (seen f) (Rename a b) (Refuse refusals.Busy)
+    no_second none =
+        let none_says : no_last b ≡ true = last_says b None (subst (HasLast b) none reached.second.last) in
+        refused refusals.Busy tt (λ s. inl ((λ i. says.0 i || none_says i), refl))
 
-      -- in one state
-      module _ (keeps : (state ready.store.log.device).keeps_model) (k : CheckpointValue)
-          (m0 m : LogMap) (s : State) (is : IsIn state v k m0 m s) where
-        kept : (state mid.store.log.device).keeps_model
-        kept = move.still.reads.looks.carries.kept_before keeps
+    module _ (o : Last) (is_to : to ≡ Some o) where
+      other_says : SaysLast b (Some o)
+      other_says = last_says b (Some o) (subst (HasLast b) is_to reached.second.last)
 
-        start : StartsRename state v mid k m0 m s a b source target
-        start = starts kept k m0 m s is
+      pub dots_first : is_dots l.name.now ≡ true → Serves state v (seen f) (Rename a b) (Refuse refusals.Inval)
+      dots_first dots = refused refusals.Inval tt
+          (λ s. inr ((λ i. says.0 i || other_says.0 i), inl (ap (λ (x : Bool). x || last_dots b) (says.2 ∙ dots), refl)))
 
-        passes : PassesAll (before_space N s a b source.directory.value target.directory.value)
-        passes = checked.passes state lawful v old a da from b chain to reached running l is_from o
-            is_to plain other_plain mid only source target checks k m0 m s kept is
+      pub dots_second : is_dots l.name.now ≡ false → is_dots o.name.now ≡ true
+          → Serves state v (seen f) (Rename a b) (Refuse refusals.Inval)
+      dots_second plain dots = refused refusals.Inval tt (λ s. inr (
+        (λ i. says.0 i || other_says.0 i),
+        inl ((λ i. (says.2 ∙ plain) i || (other_says.2 ∙ dots) i), refl),
+      ))
 
-        moved : IsMoved N (staged c m) s a b source.directory.value target.directory.value
-        moved = draft_moved start move.drafts keeps
+      -- ---- both end in names, which were looked up
+      module _ (plain : is_dots l.name.now ≡ false) (other_plain : is_dots o.name.now ≡ false) (store : Store D)
+          (reads : files.Reads (files_of state f.store) (files_of state store)) where
+        abbrev now : Fs D
+        now = with_store f store
 
-        counted_here : IsCounted (staged c m) ready.store.drafted.data_blocks
-            ready.store.drafted.meta_blocks
-        counted_here = draft_totals start move.drafts keeps
-            (totals_read state lawful v old mid reached.still reached.drafted only m is.counted)
+        still : IsStill state (seen f) (seen now)
+        still = (only state lawful v f begun store reads).still
 
-        -- what the tree needs after it
-        needs : need (tree_after s a b source.directory.value target.directory.value) ≡ need_of ready
-        needs = ap need (sym moved.tree)
-            ∙ (need_shaped totals_of_tree (staged c m) moved.shape ready.store.drafted.data_blocks
-            ready.store.drafted.meta_blocks counted_here).0
-
-        done : need_of ready ≤ 47 * N
-            → Step N s (Rename a b) Done (renamed s a b source.directory.value target.directory.value)
-        done room = rename_done N s a b source.directory.value target.directory.value start.moves.walk_a
-            start.moves.walk_b passes (subst (λ (x : ℕ). x ≤ 47 * N) (sym needs) room)
-
-      -- ---- the call
-      module _ (new : Fs D) (rest : new.handles ≡ ready.handles) where
-        drafts : AreDrafts state lawful v ready new (Rename a b) Done still_ready was rest
-        drafts keeps k m0 m s is =
-            let begun = start keeps k m0 m s is in record {
-              next = renamed s a b source.directory.value target.directory.value;
-              answer = Done;
-              ok = refl;
-              fits = draft_fits begun move.drafts keeps;
-              counted = counted_here keeps k m0 m s is;
-              map = λ room. (moved keeps k m0 m s is).map (reached.bytes, reached.other_bytes)
-                  (done keeps k m0 m s is room);
-              done = done keeps k m0 m s is;
-              lacks = λ more. rename_lacks N s a b source.directory.value target.directory.value
-                  begun.moves.walk_a begun.moves.walk_b (passes keeps k m0 m s is)
-                  (subst (λ (x : ℕ). 47 * N < x) (sym (needs keeps k m0 m s is)) more);
+        here_in : calls.InEach state lawful v f begun store (λ m s. AreReached N m s a b da chain l o)
+        here_in k m0 m s keeps is =
+            let before = reads.looks.carries.kept_before keeps in
+            record {
+              first = reached_in state lawful v f begun a da l
+                  (subst (Reaches state v f a da) is_from reached.first) before k m0 m s is;
+              second = reached_in state lawful v f begun b (here chain) o
+                  (subst (Reaches state v f b (here chain)) is_to reached.second) before k m0 m s is;
+              directories = reached.directories k m0 m s before is;
+              plain = plain;
+              other_plain = other_plain;
             }
 
-        staged_serves : StagesDraft state ready new → Serves state v (seen new) (Rename a b) Done
-        unfolding drafts
-        staged_serves stages = draft_ends state lawful v ready new (Rename a b) Done still_ready was
-            rest refl refl refl refl drafts refl (λ keeps k m0 m s is. (refl, is.handles))
-            {X = Unit {0}} (Ok tt) stages tt
+        pub checks_refused : (why : EntryFault)
+            → RefusesRename (files_of state f.store) (files_of state store) da l.name.now l.slash chain o.name.now o.slash why
+            → (why ≡ fault.Log log.Halted → (files_of state f.store).halted ≡ true) → (why ≡ fault.Log log.Full → ⊥)
+            → Serves state v (seen now) (Rename a b) (Refuse (refusal_of (error_of_entry why)))
+        checks_refused why refuses halted other =
+            fault_serves state lawful v f begun store still (Rename a b) refl refl refl why halted other
+            (λ k m0 m s keeps is. rename_explained (files_of state f.store) (files_of state store) (here_in k m0 m s keeps is)
+            (λ P all. told state lawful v f begun store P all k m0 m s keeps is)
+            (calls.Rose state lawful v f begun store)
+            (λ P holds fails. rose_where state lawful v f begun store still P fails k m0 m s keeps is holds) why refuses)
 
-        turned_serves : (fault : FsError) → TurnsDown state ready new fault
-            → Serves state v (seen new) (Rename a b) (Refuse (refusal_of fault))
-        turned_serves = draft_turned state lawful v ready new (Rename a b) Done still_ready was rest
-            refl refl refl refl drafts
+        -- ---- both names give one object
+        module _ (same : HasBothNames (files_of state f.store) (files_of state store) da l.name.now l.slash chain o.name.now o.slash) where
+          stays : calls.InEach state lawful v f begun store (λ m s. Step N s (Rename a b) Done s)
+          stays k m0 m s keeps is = same_step (files_of state f.store) (files_of state store) (here_in k m0 m s keeps is)
+              (λ P all. told state lawful v f begun store P all k m0 m s keeps is) same
 
-    -- ---- it is staged, or it isn't
-    move_made : (new : Fs D) → MovesEntry state mid new source target
-        → Serves state v (seen new) (Rename a b) Done
-    move_made new moves = staged_serves moves.mid moves.ready new moves.table moves.stages
+          pub same_ends : (r : Result (Unit {0}) FsError) → OnOk r (store.log.number < 2 ^ 62) → OnErr r (2 ^ 62 ≤ store.log.number)
+              → IfErr r (λ e. e ≡ error.Worn) → Serves state v (seen now) (Rename a b) (answer_by (λ _. Done) r)
+          same_ends (Ok u) young aged is = served_still state v (seen now) (Rename a b) Done (lawful v.log.device)
+              (still_after state lawful v f begun store still) was tt
+              (λ p keeps at k m0 m inside. inl (
+                stays k m0 m p.state keeps inside,
+                not_worn N (Rename a b) p
+                    (let number = at.number in let all = (still_after state lawful v f begun store still).reads.number in
+                    omega (arith, number, all, young)),
+              ))
+              (λ e. cc)
+          same_ends (Err e) young aged is = subst (λ (x : FsError). Serves state v (seen now) (Rename a b) (Refuse (refusal_of x))) (sym is)
+              (served_still state v (seen now) (Rename a b) (Refuse refusals.Worn) (lawful v.log.device)
+              (still_after state lawful v f begun store still) was tt
+              (λ p keeps at k m0 m inside. inr (
+                refusals.Worn,
+                refl,
+                worn N (Rename a b) p (point_of state (seen now) p.state)
+                    (let number = at.number in let all = (still_after state lawful v f begun store still).reads.number in
+                    omega (arith, number, all, aged)) refl Done p.state (stays k m0 m p.state keeps inside) refl,
+                refl,
+              ))
+              (not_acknowledged (Rename a b) refusals.Worn))
 
-    move_unmade : (new : Fs D) (fault : FsError) → TurnsMove state mid new source target fault
-        → Serves state v (seen new) (Rename a b) (Refuse (refusal_of fault))
-    move_unmade new fault turns = turned_serves turns.mid turns.ready new turns.table fault
-        turns.turns
+        -- ---- the draft
+        module _ (source : Source) (dest : Target)
+            (checks : ChecksRename (files_of state f.store) (files_of state store) da l.name.now l.slash chain o.name.now o.slash source
+            dest)
+            (is_open : Bool) (held : is_open ≡ true → IsOpen f.handles dest.replaced)
+            (shut : is_open ≡ false → IsShut f.handles dest.replaced)
+            (next : Store D) (redrafts : files.Redrafts (files_of state store) (files_of state next)) where
+          abbrev d1 : ℕ
+          d1 = source.directory.value
 
-    module _ (failed : Fs D) (same : IsStill state (seen mid) (seen failed)) where
-      still_failed : IsStill state v (seen failed)
-      still_failed = still_more state lawful v (seen mid) (seen failed) still_mid same
+          abbrev d2 : ℕ
+          d2 = dest.directory.value
 
-      kept_mid : (state failed.store.log.device).keeps_model
-          → (state mid.store.log.device).keeps_model
-      kept_mid keeps = same.reads.looks.carries.kept_before keeps
+          begun_now : IsBegun state v now
+          begun_now = begun_after state lawful v f begun store reads
 
-      fails_by : (fault : FsError)
-          → (fault ≡ error.NoMemory) ⊎ ((fault ≡ error.Device) × ((k : CheckpointValue)
-          (m0 m : LogMap) (s : State) → (state failed.store.log.device).keeps_model
-          → IsIn state v k m0 m s
-          → (state v.log.device).failures < (state failed.store.log.device).failures))
-          → Serves state v (seen failed) (Rename a b) (Refuse (refusal_of fault))
-      fails_by = fails_serves state v (seen failed) (Rename a b) (lawful v.log.device) still_failed
-          was refl refl
+          renames_in : calls.InEach state lawful v f begun store (λ m s. IsRename N m s a b l o source dest)
+          renames_in k m0 m s keeps is = renames (files_of state f.store) (files_of state store) (here_in k m0 m s keeps is)
+              (λ P all. told state lawful v f begun store P all k m0 m s keeps is) source dest checks
 
-      undrafted : (fault : FsError) → FailsMove state mid failed source target fault
-          → Serves state v (seen failed) (Rename a b) (Refuse (refusal_of fault))
-      undrafted fault (of_memory is) = fails_by fault (inl is)
-      undrafted fault (of_drop none) = fails_by fault (⊎_elim inl
-          (λ device. inr (
-            device.0,
-            λ k m0 m s keeps is. (
-                let rose = device.1 k m0 m keeps
-                (held_still state v.log mid.store.log k m0 m still_mid.reads is.stores.holds) in
-                let low = still_mid.reads.looks.carries.failures in
-                omega (arith, rose, low)),
-          ))
-          none)
-      undrafted fault (of_take linked links fails) = fails_by fault (⊎_elim inl
-          (λ device. inr (
-            device.0,
-            λ k m0 m s keeps is.
-                take_rises (starts (kept_mid keeps) k m0 m s is) links failed keeps device.1,
-          ))
-          fails)
-      undrafted fault (of_name taken takes next fails) = fails_by fault (⊎_elim inl
-          (λ device. inr (
-            device.0,
-            λ k m0 m s keeps is.
-                name_rises (starts (kept_mid keeps) k m0 m s is) takes
-                (next.reads.looks.carries.kept_before keeps) failed keeps device.1,
-          ))
-          fails)
+          -- it is made
+          module _ (drafts : DraftsMove (files_of state store) (files_of state next) source dest is_open)
+              (counts : CountsMove (files_of state store) (files_of state next) source dest) where
+            makes : calls.InEach state lawful v now begun_now next
+                (Makes state lawful v now begun_now next redrafts (Rename a b) refl refl refl refl)
+            makes k m0 m s keeps is =
+                let kept = redrafts.looks.carries.kept_before keeps in
+                let g = renames_in k m0 m s kept is in
+                let pass = passes (files_of state f.store) (files_of state store) (here_in k m0 m s kept is)
+                (λ P all. told state lawful v f begun store P all k m0 m s kept is) source dest checks in
+                let has = has_now state lawful v now begun_now k m0 m s is in
+                let moved = drafts.has m m keeps has (has_move g) in
+                let table : s.handles ≡ f.handles = is.handles ∙ sym begun.still.table in
+                let map = moved_map g is_open (λ on. subst (λ (hs : Handles). IsOpen hs dest.replaced) (sym table) (held on))
+                (λ off. subst (λ (hs : Handles). IsShut hs dest.replaced) (sym table) (shut off)) (files_of state next) moved in
+                let counted = counts m m moved.map keeps has moved.has (has_move g) (g.shaped.long d1) map.shape.map
+                (counted_now state lawful v now begun_now k m0 m s is) in
+                let needs : need (tree_after s a b d1 d2) ≡ need_of (with_store now next) = ap need (sym map.tree)
+                ∙ (need_shaped totals_of_tree moved.map map.shape next.drafted.data_blocks next.drafted.meta_blocks counted).0 in
+                let done : need_of (with_store now next) ≤ 47 * N → Step N s (Rename a b) Done (renamed s a b d1 d2) =
+                λ room. rename_done N s a b d1 d2 g.first.walk g.second.walk pass
+                (subst (λ (x : ℕ). x ≤ 47 * N) (sym needs) room) in
+                record {
+                  next = renamed s a b d1 d2;
+                  answer = Done;
+                  ok = refl;
+                  map = moved.map;
+                  has = moved.has;
+                  fits = drafts.fits m m keeps has (fits_now state lawful v now begun_now m)
+                      (takes_move g (files_of state store) (apart_now state lawful v now begun_now) moved);
+                  counted = counted;
+                  is = λ room. map.map (reached.first.bytes, reached.second.bytes) (done room);
+                  done = done;
+                  lacks = λ more. rename_lacks N s a b d1 d2 g.first.walk g.second.walk pass
+                      (subst (λ (x : ℕ). 47 * N < x) (sym needs) more);
+                }
 
-    -- nothing was drafted
-    move_undrafted : (new : Fs D) (fault : FsError)
-        → GivesUpMove state mid new source target fault
-        → Serves state v (seen new) (Rename a b) (Refuse (refusal_of fault))
-    move_undrafted new fault gives = subst
-        (λ (x : Mounted D). Serves state v x (Rename a b) (Refuse (refusal_of fault)))
-        (sym gives.same)
-        (undrafted gives.mid gives.still fault gives.fails)
-
-    -- ---- where nothing refuses it
-    pub move_ends : (new : Fs D) → (r : Result (Unit {0}) FsError)
-        → OnOk r (MovesEntry state mid new source target)
-        → IfErr r (MovesNone state mid new source target)
-        → Serves state v (seen new) (Rename a b) (answer_by (λ _. Done) r)
-    move_ends new (Ok u) made refused = move_made new made
-    move_ends new (Err fault) none refused =
-        ⊎_elim (move_unmade new fault) (move_undrafted new fault) refused
+          pub move_ends : (new : Fs D) → new.handles ≡ f.handles → (drafted : Result (Unit {0}) EntryFault)
+              (result : Result (Unit {0}) FsError) → Finishes state (with_store now next) new drafted result
+              → OnOk drafted (DraftsMove (files_of state store) (files_of state next) source dest is_open)
+              → OnOk drafted (CountsMove (files_of state store) (files_of state next) source dest)
+              → IfErr drafted (FailsWhere (files_of state store) (files_of state next) (HasNames source dest))
+              → (IsErrOf drafted (fault.Log log.Halted) → (files_of state store).halted ≡ true)
+              → (IsErrOf drafted (fault.Log log.Full) → ⊥)
+              → Serves state v (seen new) (Rename a b) (answer_by (λ _. Done) result)
+          unfolding makes
+          move_ends new rest (Ok done) result finishes drafts counts failed halted other =
+              finish_ends state lawful v now begun_now next redrafts (Rename a b) refl refl refl refl
+              (makes drafts counts) new rest Done refl
+              (λ k m0 m s keeps is. (refl, is.handles)) result finishes
+          move_ends new rest (Err why) result finishes drafts counts failed halted other =
+              gives_up state lawful v now begun_now next (still_ready state lawful v now begun_now next redrafts)
+              (Rename a b) refl refl refl
+              new why result finishes (λ same. halted (ap Err same)) (λ same. other (ap Err same)) (explains why failed) Done
+            where
+              explains : (why : EntryFault) → FailsWhere (files_of state store) (files_of state next) (HasNames source dest) why
+                  → calls.InEach state lawful v now begun_now next
+                  (λ m s. Explains (Rename a b) N s (calls.Rose state lawful v now begun_now next) why)
+              explains fault.NoMemory failed k m0 m s keeps is = tt
+              explains (fault.Log log) failed k m0 m s keeps is =
+                  rose_where state lawful v now begun_now next (still_ready state lawful v now begun_now next redrafts)
+                  (HasNames source dest) failed k m0 m s keeps is
+                  (has_names (renames_in k m0 m s (redrafts.looks.carries.kept_before keeps) is))
+              explains other failed k m0 m s keeps is = absurd failed

@@ -8,33 +8,35 @@ use Rattle.lfs_model.specs.Refusal.{Refusal}
 use Rattle.lfs_model.specs.Sound.{NamesGive}
 use Rattle.lfs_model.specs.Step.{Step}
 use Rattle.lfs_model.specs.Tree.{State, Tree}
-use Rattle.lfs_model.specs.Walk.{At, End, Parent, Refused}
+use Rattle.lfs_model.specs.Walk.{Parent, Refused}
 use Rattle.lfs_model.proofs.StepsAre.{step_ends}
 use Rattle.lfs_files.specs.declared.fault.LogFault.TheVariants as log
+use Rattle.lfs_files.specs.Files as files
 use Rattle.lfs_store.specs.declared.draft.Draft.{Draft}
 use Rattle.lfs_store.specs.declared.store.Store.{Store}
-use Rattle.lfs_store.specs.memory.Batch.{IsNoChange, staged}
+use Rattle.lfs_store.specs.memory.Batch.{IsNoChange}
 use Rattle.lfs_path.specs.declared.last.Last.{Last}
 use Rattle.lfs_path.specs.declared.walk_fault.WalkFault.{WalkFault}
 use Rattle.lfs_path.specs.declared.walk_fault.WalkFault.TheVariants as walk
 use Rattle.lfs_path.specs.Lasts.{HasLast}
 use Rattle.lfs_path.specs.Reaching.{EndsParent, IsParent}
-use Rattle.lfs_path.specs.Telling.{Tells}
+use Rattle.lfs_path.specs.Telling.{Tells, TellsRefusal}
 use Rattle.lfs_path.specs.Trees.{HasTree, IsChain, here}
 use Rattle.lfs_fs.specs.declared.error.FsError.{FsError}
 use Rattle.lfs_fs.specs.declared.fs.Fs.{Fs}
-use Rattle.lfs_fs.specs.Drafted.{EndsRefused, WalksTo, files_of}
+use Rattle.lfs_fs.specs.Drafted.{files_of}
 use Rattle.lfs_fs.specs.Faults.{error_of_walk}
 use Rattle.lfs_fs.specs.Naming.{Reaches}
 use Rattle.lfs_fs.specs.Refusals.{refusal_of}
 use Rattle.lfs_fs.specs.Renaming.{ReachesBoth}
-use Rattle.lfs_fs.specs.Seen.{OnlyReads, seen}
+use Rattle.lfs_fs.specs.Seen.{IsReady, OnlyReads, seen}
 use Rattle.lfs_fs.specs.Volume.{Mounted, Serves, segments_of}
-use Rattle.lfs_fs.proofs.new_entries.Ends.{still_more}
-use Rattle.lfs_fs.proofs.paths.Later.{later_refused}
+use Rattle.lfs_fs.proofs.calls.Files.{IsBegun, begun_at, has_now, still_after, with_store}
+use Rattle.lfs_fs.proofs.calls.StoreCalls.{ends_parent, ends_refused}
+use Rattle.lfs_fs.proofs.paths.Later.{later_reaches, later_refused}
+use Rattle.lfs_fs.proofs.paths.Places.{path_read}
+use Rattle.lfs_fs.proofs.paths.Walks.{tree_of_volume}
 use Rattle.lfs_fs.proofs.rename.Steps.{rename_refused, rename_refused_next}
-use Rattle.lfs_fs.proofs.calls.Exits.{still_in}
-use Rattle.lfs_fs.proofs.paths.Walks.{walked}
 
 -- the second path ends somewhere
 pub first_refused : (N : ℕ) (s : State) (a b : List ℕ) → NamesGive s.tree → (r : Refusal)
@@ -43,56 +45,46 @@ first_refused N s a b whole r walk =
     let some = (step_ends N s whole (Rename a b)).2 in
     rename_refused N s a b r some.second_end some.second walk
 
--- the walk ends in the directory of this chain
-abbrev pub EndsChain : List ℕ → List ℕ → Tree → End → Type 0
-EndsChain path chain t e = IsChain t chain × EndsParent path t e
+module _ {D : Type 0} (state : D → DeviceState) (lawful : (d : D) → IsLawful (state d)) (v : Mounted D) (f : Fs D) (a : List ℕ) (da : ℕ)
+    (from : Option Last) (reached : Reaches state v f a da from) (ready : IsReady f) (store : Store D)
+    (reads : files.Reads (files_of state f.store) (files_of state store)) (b : List ℕ) where
+  begun : IsBegun state v f
+  begun = begun_at state v f a da from reached ready
 
-pub ends_chain : {D : Type 0} (state : D → DeviceState) (a b : Store D) (path chain : List ℕ)
-    → Tells (files_of state a) (files_of state b) HasTree (IsParent path chain)
-    → WalksTo state a.log b.log a.draft.changes (EndsChain path chain) (At (here chain))
-ends_chain state a b path chain tells k m0 m keeps holds tree =
-    let parent = tells m (staged a.draft.changes m) keeps
-    record { checkpoint = k; acknowledged = m0; holds = holds; draft = refl } tree in
-    (parent.directories, parent.ends)
+  only : OnlyReads state f (with_store f store)
+  only = path_read state f store reads
 
-module _ {D : Type 0} (state : D → DeviceState) (lawful : (d : D) → IsLawful (state d))
-    (v : Mounted D) (old : Fs D) (a : List ℕ) (da : ℕ) (from : Option Last)
-    (reached : Reaches state v old a da from) (running : old.store.log.halted ≡ false)
-    (new : Fs D) (only : OnlyReads state old new) where
   was : v.log.halted ≡ false
-  was = sym reached.still.reads.halted ∙ running
+  was = sym reached.still.reads.halted ∙ ready.running
 
   -- the call came to the directories of both
-  pub reaches_both : (b : List ℕ) → AreBytes b → (chain : List ℕ) → (to : Option Last)
-      → HasLast b to
-      → WalksTo state old.store.log new.store.log old.store.draft.changes (EndsChain b chain)
-      (At (here chain))
-      → ReachesBoth state v new a da from b chain to
-  reaches_both b bytes chain to last walks = record {
-    still = still_more state v (seen old) (seen new) (lawful v.log.device) reached.still only.still;
-    empty = subst (λ (x : Draft). IsNoChange x.changes) (sym only.draft) reached.empty;
-    drafted = only.drafted ∙ reached.drafted ∙ sym only.still.reads.totals;
-    bytes = reached.bytes;
-    other_bytes = bytes;
-    last = reached.last;
-    other_last = last;
-    walk = λ k m0 m s keeps is.
-        reached.walk k m0 m s (only.still.reads.looks.carries.kept_before keeps) is;
-    other_walk = λ k m0 m s keeps is. (
-        let both = walked state (seen old) (seen new) (lawful old.store.log.device) only.still
-        running old.store.draft.changes reached.empty (EndsChain b chain) (At (here chain)) walks
-        k m0 m s keeps (still_in state v (seen old) k m0 m s reached.still is) in
-        record { directories = both.0; ends = both.1 });
+  pub reaches_both : AreBytes b → (chain : List ℕ) → (to : Option Last) → HasLast b to
+      → Tells (files_of state f.store) (files_of state store) HasTree (IsParent b chain)
+      → ReachesBoth state v (with_store f store) a da from b chain to
+  reaches_both bytes chain to last tells = record {
+    first = record {
+      still = still_after state lawful v f begun store only.still;
+      empty = subst (λ (x : Draft). IsNoChange x.changes) (sym only.draft) reached.empty;
+      drafted = only.drafted ∙ reached.drafted ∙ sym only.still.reads.totals;
+      bytes = reached.bytes;
+      last = reached.last;
+      walk = λ k m0 m s keeps is. reached.walk k m0 m s (only.still.reads.looks.carries.kept_before keeps) is;
+    };
+    second = later_reaches state lawful v f (with_store f store) reached.still was reached.empty only reached.drafted b bytes (here chain)
+        to last (ends_parent state f.store store b chain (here chain) refl tells);
+    directories = λ k m0 m s keeps is. subst (λ (t : Tree). IsChain t chain) (sym is.log.is)
+        (tells m m keeps (has_now state lawful v f begun k m0 m s is) (tree_of_volume state v k m0 m s is)).directories;
   }
 
   -- the second isn't walked to its end
-  pub second_ends : (b : List ℕ) (fault : WalkFault) (e : FsError) → e ≡ error_of_walk fault
-      → EndsRefused state old.store.log new.store.log old.store.draft.changes (EndsParent b) fault
-      → (fault ≡ walk.Log log.Halted → old.store.log.halted ≡ true)
-      → (fault ≡ walk.Log log.Full → ⊥)
-      → Serves state v (seen new) (Rename a b) (Refuse (refusal_of e))
-  second_ends b =
-      later_refused state lawful v old new reached.still was reached.empty only (EndsParent b)
+  pub second_ends : (cause : WalkFault) (e : FsError) → e ≡ error_of_walk cause
+      → TellsRefusal (files_of state f.store) (files_of state store) HasTree (EndsParent b) cause
+      → (cause ≡ walk.Log log.Halted → f.store.log.halted ≡ true)
+      → (cause ≡ walk.Log log.Full → ⊥)
+      → Serves state v (seen (with_store f store)) (Rename a b) (Refuse (refusal_of e))
+  second_ends cause e is ends =
+      later_refused state lawful v f (with_store f store) reached.still was reached.empty only (EndsParent b)
       (Rename a b) refl refl refl
       (λ k m0 m s keeps is r w. rename_refused_next (segments_of v) s a b da r
       (reached.walk k m0 m s (only.still.reads.looks.carries.kept_before keeps) is) w)
+      cause e is (ends_refused state f.store store (EndsParent b) cause ends)

@@ -1,7 +1,8 @@
 -- The call rename, exit by exit.
 use Rattle.std.proofs.Common.{◌≡◌, ◌⊎◌, ◌<◌, ◌≤◌, ◌*◌, ◌++◌, ℕ, Bool, true, false, not, ◌&&◌, ◌||◌, List, [], ◌∷◌, length, refl, ◌∙◌, ap}
-use Rattle.std.proofs.Common.{inl, inr, ⊎_elim, nat_le, nat_lt}
+use Rattle.std.proofs.Common.{◌≢◌, inl, inr, ⊎_elim, nat_le, nat_lt, eqb}
 use Rattle.std.specs.Prelude.{◌==◌, if◌then◌else◌}
+use Rattle.std.proofs.lemmas.Bool.Decides.{eqb_tells}
 use Rattle.lfs_model.specs.Call.{Answer, Done, Refuse, Rename}
 use Rattle.lfs_model.specs.Need.{need}
 use Rattle.lfs_model.specs.PathText.{slash}
@@ -76,75 +77,98 @@ module _ (N : ℕ) (s : State) (a b : List ℕ) (da db : ℕ) where
   abbrev pub renamed : Tree
   renamed = if is_there t db b then let_go moved s.handles old else moved
 
-  abbrev pub from_space : List (Bool × Answer)
-  from_space = no_space N renamed ∷ []
+  -- the list from one condition on, with those that follow it
+  abbrev from_links : List (Bool × Answer) → List (Bool × Answer)
+  from_links rest = when (gives_dir t da a && not (is_there t db b) && not (da == db) && nat_le 1000 (links t db)) TooManyLinks ∷ rest
 
-  abbrev from_links : List (Bool × Answer)
-  from_links = when (gives_dir t da a && not (is_there t db b) && not (da == db) && nat_le 1000 (links t db)) TooManyLinks ∷ from_space
+  abbrev from_full : List (Bool × Answer) → List (Bool × Answer)
+  from_full rest = when (not (is_there t db b) && not (da == db) && is_full t db) DirFull ∷ from_links rest
 
-  abbrev from_full : List (Bool × Answer)
-  from_full = when (not (is_there t db b) && not (da == db) && is_full t db) DirFull ∷ from_links
+  abbrev from_empty : List (Bool × Answer) → List (Bool × Answer)
+  from_empty rest = when (is_there t db b && nat_lt 0 (length (names_in t old))) NotEmpty ∷ from_full rest
 
-  abbrev from_empty : List (Bool × Answer)
-  from_empty = when (is_there t db b && nat_lt 0 (length (names_in t old))) NotEmpty ∷ from_full
+  abbrev from_directory : List (Bool × Answer) → List (Bool × Answer)
+  from_directory rest = when (is_there t db b && gives_dir t db b && not (gives_dir t da a)) IsDir
+      ∷ when (is_there t db b && gives_dir t da a && not (gives_dir t db b)) NotDir ∷ from_empty rest
 
-  abbrev from_not : List (Bool × Answer)
-  from_not = when (is_there t db b && gives_dir t da a && not (gives_dir t db b)) NotDir ∷ from_empty
+  abbrev from_same : List (Bool × Answer) → List (Bool × Answer)
+  from_same rest = (is_there t db b && n == old, Done) ∷ when (is_within t n db) Inval ∷ from_directory rest
 
-  abbrev pub from_directory : List (Bool × Answer)
-  from_directory = when (is_there t db b && gives_dir t db b && not (gives_dir t da a)) IsDir ∷ from_not
+  abbrev from_next : List (Bool × Answer) → List (Bool × Answer)
+  from_next rest = when (is_long t db b) NameTooLong ∷ when (slash b && not (gives_dir t da a)) NotDir ∷ from_same rest
 
-  abbrev from_within : List (Bool × Answer)
-  from_within = when (is_within t n db) Inval ∷ from_directory
+  abbrev from_source : List (Bool × Answer) → List (Bool × Answer)
+  from_source rest = when (is_long t da a) NameTooLong ∷ when (not (is_there t da a)) NoEntry
+      ∷ when (slash a && not (gives_dir t da a)) NotDir ∷ from_next rest
 
-  abbrev pub from_same : List (Bool × Answer)
-  from_same = (is_there t db b && n == old, Done) ∷ from_within
+  abbrev from_pieces : List (Bool × Answer) → List (Bool × Answer)
+  from_pieces rest = when (no_last a || no_last b) Busy ∷ when (last_dots a || last_dots b) Inval ∷ from_source rest
 
-  abbrev pub from_next : List (Bool × Answer)
-  from_next = when (is_long t db b) NameTooLong ∷ when (slash b && not (gives_dir t da a)) NotDir ∷ from_same
-
-  abbrev pub from_source : List (Bool × Answer)
-  from_source = when (is_long t da a) NameTooLong ∷ when (not (is_there t da a)) NoEntry ∷ when (slash a && not (gives_dir t da a)) NotDir
-      ∷ from_next
+  -- all of them, and all but the need of space
+  abbrev pub need_left : List (Bool × Answer)
+  need_left = no_space N renamed ∷ []
 
   abbrev pub conditions : List (Bool × Answer)
-  conditions = when (no_last a || no_last b) Busy ∷ when (last_dots a || last_dots b) Inval ∷ from_source
+  conditions = from_pieces need_left
 
-  -- all but the need of space
   abbrev pub before_space : List (Bool × Answer)
-  before_space =
-      when (no_last a || no_last b) Busy
-      ∷ when (last_dots a || last_dots b) Inval
-      ∷ when (is_long t da a) NameTooLong
-      ∷ when (not (is_there t da a)) NoEntry
-      ∷ when (slash a && not (gives_dir t da a)) NotDir
-      ∷ when (is_long t db b) NameTooLong
-      ∷ when (slash b && not (gives_dir t da a)) NotDir
-      ∷ (is_there t db b && n == old, Done)
-      ∷ when (is_within t n db) Inval
-      ∷ when (is_there t db b && gives_dir t db b && not (gives_dir t da a)) IsDir
-      ∷ when (is_there t db b && gives_dir t da a && not (gives_dir t db b)) NotDir
-      ∷ when (is_there t db b && nat_lt 0 (length (names_in t old))) NotEmpty
-      ∷ when (not (is_there t db b) && not (da == db) && is_full t db) DirFull
-      ∷ when (gives_dir t da a && not (is_there t db b) && not (da == db) && nat_le 1000 (links t db)) TooManyLinks
-      ∷ []
+  before_space = from_pieces []
 
-  module _ (walk : Parent t a (At da)) (other_walk : Parent t b (At db)) where
-    pub rename_stops : (x : Answer) → StopsAt conditions x → Step N s (Rename a b) x s
-    rename_stops x at =
-        let is = stops s conditions (Done, with_tree s renamed) x at in
-        record {
-          first_end = At da;
-          second_end = At db;
-          first = walk;
-          second = other_walk;
-          answer = ap (λ r. r.0) is;
-          state = ap (λ r. r.1) is;
-        }
+  -- ---- what is known of both names
 
-    pub rename_passes : PassesAll conditions → Step N s (Rename a b) Done (with_tree s renamed)
-    rename_passes all =
-        let is = passes_all s conditions (Done, with_tree s renamed) all in
+  -- Both paths end in names.
+  pub record AreNamed : Type 0 where
+    pub pieces : (no_last a || no_last b) ≡ false
+    pub names : (last_dots a || last_dots b) ≡ false
+
+  -- The first gives an object.
+  pub record NamesSource (number : ℕ) (dir : Bool) : Type 0 where
+    pub short : is_long t da a ≡ false
+    pub there : is_there t da a ≡ true
+    pub is : n ≡ number
+    pub kind : gives_dir t da a ≡ dir
+    pub ends : (slash a && not dir) ≡ false
+
+  -- The second may be its name.
+  pub record MayBeNamed (dir : Bool) : Type 0 where
+    pub short : is_long t db b ≡ false
+    pub ends : (slash b && not dir) ≡ false
+
+  -- It gives an object too.
+  pub record NamesTarget (number : ℕ) (dir : Bool) : Type 0 where
+    pub there : is_there t db b ≡ true
+    pub is : old ≡ number
+    pub kind : gives_dir t db b ≡ dir
+
+-- a fact, and those behind it
+pass : {A B : Type 0} → A → B → A × B
+pass x y = (x, y)
+
+never : (x : Bool) → (x && not x) ≡ false
+never true = refl
+never false = refl
+
+none_new : (x y z : Bool) → (x && not true && y && z) ≡ false
+none_new true y z = refl
+none_new false y z = refl
+
+-- what is so of two directories
+apart_only : (x y : ℕ) (c : Bool) → (x ≢ y → c ≡ false) → (not (x == y) && c) ≡ false
+apart_only x y c none = ⊎_elim
+    (λ (h : (eqb x y ≡ true) × (x ≡ y)). ap (λ (v : Bool). not v && c) h.0)
+    (λ (h : (eqb x y ≡ false) × (x ≢ y)). (λ i. not (h.0 i) && none h.1 i))
+    (eqb_tells x y)
+
+where_dir : (x y : ℕ) (dir c : Bool) → (x ≢ y → dir ≡ true → c ≡ false) → (dir && not false && not (x == y) && c) ≡ false
+where_dir x y true c none = apart_only x y c (λ ne. none ne refl)
+where_dir x y false c none = refl
+
+-- ---- the call
+module _ (N : ℕ) (s : State) (a b : List ℕ) (da db : ℕ) where
+  module _ (walk : Parent s.tree a (At da)) (other_walk : Parent s.tree b (At db)) where
+    pub rename_stops : {x : Answer} → StopsAt (conditions N s a b da db) x → Step N s (Rename a b) x s
+    rename_stops {x} at =
+        let is = stops s (conditions N s a b da db) (Done, with_tree s (renamed N s a b da db)) x at in
         record {
           first_end = At da;
           second_end = At db;
@@ -155,205 +179,163 @@ module _ (N : ℕ) (s : State) (a b : List ℕ) (da db : ℕ) where
         }
 
     -- where nothing but the need of space may refuse it
-    module _ (all : PassesAll before_space) where
-      pub rename_done : need renamed ≤ 47 * N → Step N s (Rename a b) Done (with_tree s renamed)
-      rename_done room = rename_passes (passes_both before_space from_space all (not_below (47 * N) (need renamed) room, tt))
+    module _ (all : PassesAll (before_space N s a b da db)) where
+      pub rename_done : need (renamed N s a b da db) ≤ 47 * N → Step N s (Rename a b) Done (with_tree s (renamed N s a b da db))
+      rename_done room =
+          let is = passes_all s (conditions N s a b da db) (Done, with_tree s (renamed N s a b da db))
+          (passes_both (before_space N s a b da db) (need_left N s a b da db) all
+          (not_below (47 * N) (need (renamed N s a b da db)) room, tt)) in
+          record {
+            first_end = At da;
+            second_end = At db;
+            first = walk;
+            second = other_walk;
+            answer = ap (λ r. r.0) is;
+            state = ap (λ r. r.1) is;
+          }
 
-      pub rename_lacks : 47 * N < need renamed → Step N s (Rename a b) (Refuse NoSpace) s
-      rename_lacks lacks = rename_stops (Refuse NoSpace)
-          (stops_behind before_space from_space (Refuse NoSpace) all (inl (below (47 * N) (need renamed) lacks, refl)))
+      pub rename_lacks : 47 * N < need (renamed N s a b da db) → Step N s (Rename a b) (Refuse NoSpace) s
+      rename_lacks lacks = rename_stops (stops_behind (before_space N s a b da db) (need_left N s a b da db) (Refuse NoSpace) all
+          (inl (below (47 * N) (need (renamed N s a b da db)) lacks, refl)))
 
-  -- ---- both paths end in names
-  pub record AreNamed : Type 0 where
-    pub pieces : (no_last a || no_last b) ≡ false
-    pub names : (last_dots a || last_dots b) ≡ false
+-- ---- both names, one behind the other
+module _ {N : ℕ} {s : State} {a b : List ℕ} {da db : ℕ} where
+  module _ (named : AreNamed N s a b da db) where
+    abbrev Stops : Answer → Type 0
+    Stops = StopsAt (conditions N s a b da db)
 
-  pub stops_source : AreNamed → (x : Answer) → StopsAt from_source x → StopsAt conditions x
-  stops_source named x at = inr (named.pieces, inr (named.names, at))
+    abbrev StopsIn : (List (Bool × Answer) → List (Bool × Answer)) → Answer → Type 0
+    StopsIn from = StopsAt (from (need_left N s a b da db))
 
-  -- ---- the first gives an object
-  pub record NamesSource (number : ℕ) (dir : Bool) : Type 0 where
-    pub short : is_long t da a ≡ false
-    pub there : is_there t da a ≡ true
-    pub is : n ≡ number
-    pub kind : gives_dir t da a ≡ dir
-    pub ends : (slash a && not dir) ≡ false
+    pub stops_source : {x : Answer} → StopsIn (from_source N s a b da db) x → Stops x
+    stops_source at = inr (named.pieces, inr (named.names, at))
 
-  module _ (number : ℕ) (dir : Bool) (source : NamesSource number dir) where
-    pub stops_next : (x : Answer) → StopsAt from_next x → StopsAt from_source x
-    stops_next x at = inr (source.short, inr (ap not source.there, inr (ap (λ (y : Bool). slash a && not y) source.kind ∙ source.ends, at)))
+    module _ {number : ℕ} {dir : Bool} (source : NamesSource N s a b da db number dir) where
+      slash_a : (slash a && not (gives_dir s.tree da a)) ≡ false
+      slash_a = ap (λ (y : Bool). slash a && not y) source.kind ∙ source.ends
 
-    pub stops_slash : is_long t db b ≡ false → (slash b && not dir) ≡ true → StopsAt from_next (Refuse NotDir)
-    stops_slash short ends = inr (short, inl (ap (λ (y : Bool). slash b && not y) source.kind ∙ ends, refl))
+      pub stops_next : {x : Answer} → StopsIn (from_next N s a b da db) x → Stops x
+      stops_next at = stops_source (inr (source.short, inr (ap not source.there, inr (slash_a, at))))
 
-    module _ (short : is_long t db b ≡ false) (ends : (slash b && not dir) ≡ false) where
-      pub stops_same : (x : Answer) → StopsAt from_same x → StopsAt from_next x
-      stops_same x at = inr (short, inr (ap (λ (y : Bool). slash b && not y) source.kind ∙ ends, at))
+      pub stops_slash : is_long s.tree db b ≡ false → (slash b && not dir) ≡ true → Stops (Refuse NotDir)
+      stops_slash short ends = stops_next (inr (short, inl (ap (λ (y : Bool). slash b && not y) source.kind ∙ ends, refl)))
 
-    -- ---- the second gives another
-    module _ (replaced : ℕ) (there : is_there t db b ≡ true) (is : old ≡ replaced) where
-      pub stops_done : (number == replaced) ≡ true → StopsAt from_same Done
-      stops_done same = inl ((λ i. there i && source.is i == is i) ∙ same, refl)
+      module _ (may : MayBeNamed N s a b da db dir) where
+        slash_b : (slash b && not (gives_dir s.tree da a)) ≡ false
+        slash_b = ap (λ (y : Bool). slash b && not y) source.kind ∙ may.ends
 
-      module _ (other : (number == replaced) ≡ false) where
-        same_not : (is_there t db b && n == old) ≡ false
-        same_not = (λ i. there i && source.is i == is i) ∙ other
+        stops_same : {x : Answer} → StopsIn (from_same N s a b da db) x → Stops x
+        stops_same at = stops_next (inr (may.short, inr (slash_b, at)))
 
-        pub stops_within : is_within t number db ≡ true → StopsAt from_same (Refuse Inval)
-        stops_within within = inr (same_not, inl (ap (λ (q : ℕ). is_within t q db) source.is ∙ within, refl))
+        within_is : {v : Bool} → is_within s.tree number db ≡ v → is_within s.tree (target s.tree da a) db ≡ v
+        within_is is = ap (λ (q : ℕ). is_within s.tree q db) source.is ∙ is
 
-        module _ (within : is_within t number db ≡ false) where
-          pub stops_directory : (x : Answer) → StopsAt from_directory x → StopsAt from_same x
-          stops_directory x at = inr (same_not, inr (ap (λ (q : ℕ). is_within t q db) source.is ∙ within, at))
+        -- ---- the second gives an object
+        module _ {replaced : ℕ} {other_dir : Bool} (dest : NamesTarget N s a b da db replaced other_dir) where
+          same_is : {v : Bool} → (number == replaced) ≡ v → (is_there s.tree db b && target s.tree da a == target s.tree db b) ≡ v
+          same_is is = (λ i. dest.there i && source.is i == dest.is i) ∙ is
 
-          module _ (other_dir : Bool) (kind : gives_dir t db b ≡ other_dir) where
-            is_dir_of : (is_there t db b && gives_dir t db b && not (gives_dir t da a)) ≡ (other_dir && not dir)
-            is_dir_of i = there i && kind i && not (source.kind i)
+          pub stops_done : (number == replaced) ≡ true → Stops Done
+          stops_done same = stops_same (inl (same_is same, refl))
 
-            not_dir_of : (is_there t db b && gives_dir t da a && not (gives_dir t db b)) ≡ (dir && not other_dir)
-            not_dir_of i = there i && source.kind i && not (kind i)
+          module _ (other : (number == replaced) ≡ false) where
+            pub stops_within : is_within s.tree number db ≡ true → Stops (Refuse Inval)
+            stops_within within = stops_same (inr (same_is other, inl (within_is within, refl)))
 
-            pub stops_is_dir : (other_dir && not dir) ≡ true → StopsAt from_directory (Refuse IsDir)
-            stops_is_dir wrong = inl (is_dir_of ∙ wrong, refl)
+            module _ (within : is_within s.tree number db ≡ false) where
+              stops_directory : {x : Answer} → StopsIn (from_directory N s a b da db) x → Stops x
+              stops_directory at = stops_same (inr (same_is other, inr (within_is within, at)))
 
-            pub stops_not_dir : (other_dir && not dir) ≡ false → (dir && not other_dir) ≡ true → StopsAt from_directory (Refuse NotDir)
-            stops_not_dir right wrong = inr (is_dir_of ∙ right, inl (not_dir_of ∙ wrong, refl))
+              is_dir_of : {v : Bool} → (other_dir && not dir) ≡ v
+                  → (is_there s.tree db b && gives_dir s.tree db b && not (gives_dir s.tree da a)) ≡ v
+              is_dir_of is = (λ i. dest.there i && dest.kind i && not (source.kind i)) ∙ is
 
-            module _ (right : (other_dir && not dir) ≡ false) (also : (dir && not other_dir) ≡ false) where
-              pub stops_empty : nat_lt 0 (length (names_in t old)) ≡ true → StopsAt from_directory (Refuse NotEmpty)
-              stops_empty full = inr (is_dir_of ∙ right, inr (not_dir_of ∙ also, inl ((λ i. there i && full i), refl)))
+              not_dir_of : {v : Bool} → (dir && not other_dir) ≡ v
+                  → (is_there s.tree db b && gives_dir s.tree da a && not (gives_dir s.tree db b)) ≡ v
+              not_dir_of is = (λ i. dest.there i && source.kind i && not (dest.kind i)) ∙ is
+
+              empty_of : {v : Bool} → nat_lt 0 (length (names_in s.tree replaced)) ≡ v
+                  → (is_there s.tree db b && nat_lt 0 (length (names_in s.tree (target s.tree db b)))) ≡ v
+              empty_of is = (λ i. dest.there i && nat_lt 0 (length (names_in s.tree (dest.is i)))) ∙ is
+
+              pub stops_is_dir : other_dir ≡ true → dir ≡ false → Stops (Refuse IsDir)
+              stops_is_dir on off = stops_directory (inl (is_dir_of (λ i. on i && not (off i)), refl))
+
+              pub stops_not_dir : other_dir ≡ false → dir ≡ true → Stops (Refuse NotDir)
+              stops_not_dir off on = stops_directory
+                  (inr (is_dir_of (λ i. off i && not (on i)), inl (not_dir_of (λ i. on i && not (off i)), refl)))
+
+              pub stops_empty : other_dir ≡ true → dir ≡ true → nat_lt 0 (length (names_in s.tree replaced)) ≡ true
+                  → Stops (Refuse NotEmpty)
+              stops_empty on also full = stops_directory (inr (
+                is_dir_of (λ i. on i && not (also i)),
+                inr (not_dir_of (λ i. also i && not (on i)), inl (empty_of full, refl)),
+              ))
 
               -- nothing but the need of space is left
-              pub passes_replaced : AreNamed → (slash b && not dir) ≡ false → is_long t db b ≡ false
-                  → nat_lt 0 (length (names_in t old)) ≡ false
-                  → PassesAll before_space
-              passes_replaced named ends short empty = (
-                named.pieces,
-                (
-                  named.names,
-                  (
-                    source.short,
-                    (
-                      ap not source.there,
-                      (
-                        ap (λ (y : Bool). slash a && not y) source.kind ∙ source.ends,
-                        (
-                          short,
-                          (
-                            ap (λ (y : Bool). slash b && not y) source.kind
-                                ∙ ends,
-                            (
-                              same_not,
-                              (
-                                ap (λ (q : ℕ). is_within t q db) source.is ∙ within,
-                                (
-                                  is_dir_of ∙ right,
-                                  (
-                                    not_dir_of
-                                        ∙ also,
-                                    (
-                                      (λ i. there i && empty i),
-                                      (
-                                        (λ i. not (there i) && not (da == db) && is_full t db),
-                                        (
-                                          (λ i. gives_dir t da a && not (there i) && not (da == db) && nat_le 1000 (links t db))
-                                              ∙ never (gives_dir t da a) (not (da == db)) (nat_le 1000 (links t db)),
-                                          tt,
-                                        ),
-                                      ),
-                                    ),
-                                  ),
-                                ),
-                              ),
-                            ),
-                          ),
-                        ),
-                      ),
-                    ),
-                  ),
+              pub passes_replaced : other_dir ≡ dir → nat_lt 0 (length (names_in s.tree replaced)) ≡ false
+                  → PassesAll (before_space N s a b da db)
+              passes_replaced alike empty =
+                  pass named.pieces (pass named.names (pass source.short (pass (ap not source.there) (pass slash_a
+                  (pass may.short (pass slash_b (pass (same_is other) (pass (within_is within)
+                  (pass (is_dir_of (ap (λ (y : Bool). y && not dir) alike ∙ never dir))
+                  (pass (not_dir_of (ap (λ (y : Bool). dir && not y) alike ∙ never dir)) (pass (empty_of empty)
+                  (pass (λ i. not (dest.there i) && not (da == db) && is_full s.tree db)
+                  (pass ((λ i. gives_dir s.tree da a && not (dest.there i) && not (da == db) && nat_le 1000 (links s.tree db))
+                  ∙ none_new (gives_dir s.tree da a) (not (da == db)) (nat_le 1000 (links s.tree db))) tt)))))))))))))
+
+        -- ---- it gives none
+        module _ (new : is_there s.tree db b ≡ false) where
+          same_none : (is_there s.tree db b && target s.tree da a == target s.tree db b) ≡ false
+          same_none i = new i && target s.tree da a == target s.tree db b
+
+          pub stops_within_new : is_within s.tree number db ≡ true → Stops (Refuse Inval)
+          stops_within_new within = stops_same (inr (same_none, inl (within_is within, refl)))
+
+          module _ (within : is_within s.tree number db ≡ false) where
+            is_dir_none : (is_there s.tree db b && gives_dir s.tree db b && not (gives_dir s.tree da a)) ≡ false
+            is_dir_none i = new i && gives_dir s.tree db b && not (gives_dir s.tree da a)
+
+            not_dir_none : (is_there s.tree db b && gives_dir s.tree da a && not (gives_dir s.tree db b)) ≡ false
+            not_dir_none i = new i && gives_dir s.tree da a && not (gives_dir s.tree db b)
+
+            empty_none : (is_there s.tree db b && nat_lt 0 (length (names_in s.tree (target s.tree db b)))) ≡ false
+            empty_none i = new i && nat_lt 0 (length (names_in s.tree (target s.tree db b)))
+
+            full_is : {v : Bool} → (not (da == db) && is_full s.tree db) ≡ v
+                → (not (is_there s.tree db b) && not (da == db) && is_full s.tree db) ≡ v
+            full_is is = (λ i. not (new i) && not (da == db) && is_full s.tree db) ∙ is
+
+            links_is : {v : Bool} → (dir && not false && not (da == db) && nat_le 1000 (links s.tree db)) ≡ v
+                → (gives_dir s.tree da a && not (is_there s.tree db b) && not (da == db) && nat_le 1000 (links s.tree db)) ≡ v
+            links_is is = (λ i. source.kind i && not (new i) && not (da == db) && nat_le 1000 (links s.tree db)) ∙ is
+
+            -- in another directory
+            module _ (apart : (da == db) ≡ false) where
+              stops_room : {x : Answer} → StopsIn (from_full N s a b da db) x → Stops x
+              stops_room at = stops_same (inr (
+                same_none,
+                inr (
+                  within_is within,
+                  inr (is_dir_none, inr (not_dir_none, inr (empty_none, at))),
                 ),
-              )
-                where
-                  never : (x y z : Bool) → (x && false && y && z) ≡ false
-                  never true y z = refl
-                  never false y z = refl
+              ))
 
-    -- ---- the second gives none
-    module _ (new : is_there t db b ≡ false) where
-      same_none : (is_there t db b && n == old) ≡ false
-      same_none i = new i && n == old
+              pub stops_full : is_full s.tree db ≡ true → Stops (Refuse DirFull)
+              stops_full full = stops_room (inl (full_is (λ i. not (apart i) && full i), refl))
 
-      pub stops_within_new : is_within t number db ≡ true → StopsAt from_same (Refuse Inval)
-      stops_within_new within = inr (same_none, inl (ap (λ (q : ℕ). is_within t q db) source.is ∙ within, refl))
+              pub stops_links : is_full s.tree db ≡ false → dir ≡ true → nat_le 1000 (links s.tree db) ≡ true
+                  → Stops (Refuse TooManyLinks)
+              stops_links free directory many = stops_room (inr (
+                full_is (λ i. not (apart i) && free i),
+                inl (links_is (λ i. directory i && not false && not (apart i) && many i), refl),
+              ))
 
-      module _ (within : is_within t number db ≡ false) (apart : (da == db) ≡ false) where
-        before : (x : Answer) → StopsAt from_full x → StopsAt from_same x
-        before x at = inr (
-          same_none,
-          inr (
-            ap (λ (q : ℕ). is_within t q db) source.is ∙ within,
-            inr (
-              (λ i. new i && gives_dir t db b && not (gives_dir t da a)),
-              inr (
-                (λ i. new i && gives_dir t da a && not (gives_dir t db b)),
-                inr ((λ i. new i && nat_lt 0 (length (names_in t old))), at),
-              ),
-            ),
-          ),
-        )
-
-        pub stops_full : is_full t db ≡ true → StopsAt from_same (Refuse DirFull)
-        stops_full full = before (Refuse DirFull) (inl ((λ i. not (new i) && not (apart i) && full i), refl))
-
-        pub stops_links : is_full t db ≡ false → dir ≡ true → nat_le 1000 (links t db) ≡ true → StopsAt from_same (Refuse TooManyLinks)
-        stops_links free directory many = before (Refuse TooManyLinks) (inr (
-          (λ i. not (new i) && not (apart i) && free i),
-          inl ((λ i. (source.kind ∙ directory) i && not (new i) && not (apart i) && many i), refl),
-        ))
-
-      -- nothing but the need of space is left
-      pub passes_new : AreNamed → (slash b && not dir) ≡ false → is_long t db b ≡ false → is_within t number db ≡ false
-          → (not (da == db) && is_full t db) ≡ false → (dir && true && not (da == db) && nat_le 1000 (links t db)) ≡ false
-          → PassesAll before_space
-      passes_new named ends short within free few = (
-        named.pieces,
-        (
-          named.names,
-          (
-            source.short,
-            (
-              ap not source.there,
-              (
-                ap (λ (y : Bool). slash a && not y) source.kind ∙ source.ends,
-                (
-                  short,
-                  (
-                    ap (λ (y : Bool). slash b && not y) source.kind
-                        ∙ ends,
-                    (
-                      same_none,
-                      (
-                        ap (λ (q : ℕ). is_within t q db) source.is ∙ within,
-                        (
-                          (λ i. new i && gives_dir t db b && not (gives_dir t da a)),
-                          (
-                            (λ i. new i && gives_dir t da a && not (gives_dir t db b)),
-                            (
-                              (λ i. new i && nat_lt 0 (length (names_in t old))),
-                              (
-                                (λ i. not (new i) && not (da == db) && is_full t db)
-                                    ∙ free,
-                                ((λ i. source.kind i && not (new i) && not (da == db) && nat_le 1000 (links t db)) ∙ few, tt),
-                              ),
-                            ),
-                          ),
-                        ),
-                      ),
-                    ),
-                  ),
-                ),
-              ),
-            ),
-          ),
-        ),
-      )
+            -- nothing but the need of space is left
+            pub passes_new : (da ≢ db → is_full s.tree db ≡ false)
+                → (da ≢ db → dir ≡ true → nat_le 1000 (links s.tree db) ≡ false) → PassesAll (before_space N s a b da db)
+            passes_new free few =
+                pass named.pieces (pass named.names (pass source.short (pass (ap not source.there) (pass slash_a
+                (pass may.short (pass slash_b (pass same_none (pass (within_is within) (pass is_dir_none (pass not_dir_none
+                (pass empty_none (pass (full_is (apart_only da db (is_full s.tree db) free))
+                (pass (links_is (where_dir da db dir (nat_le 1000 (links s.tree db)) few)) tt)))))))))))))

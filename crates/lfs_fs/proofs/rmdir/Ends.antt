@@ -1,282 +1,192 @@
--- An empty directory that was drafted out of the volume, as a step of the model.
-use Rattle.std.proofs.Common.{◌≡◌, ◌≢◌, ◌≤◌, ◌-◌, ◌*◌, ℕ, true, false, List, Option, Some, Result, refl, sym, ◌∙◌, ap, subst, ⊎_elim, arith}
-use Rattle.std.proofs.Common.{inl, inr, ◌+◌}
-use Rattle.std.specs.Prelude.{IfErr, OnOk}
-use Rattle.std.specs.FinMap.{find}
+-- The call rmdir as a step of the model: what the rule of an empty directory takes, why it takes none, and the name that goes.
+use Rattle.std.proofs.Common.{◌≡◌, ◌<◌, ◌*◌, ℕ, Bool, true, false, List, [], length, Option, Some, None, Result, refl, sym, ◌∙◌, ap}
+use Rattle.std.proofs.Common.{nat_lt, arith}
+use Rattle.std.specs.Prelude.{IfErr, IsErrOf, OnOk, unwrap_or}
+use Rattle.lfs_model.specs.declared.Kind.{Kind}
 use Rattle.lfs_model.specs.declared.Kind.TheVariants as kind
 use Rattle.lfs_model.specs.Call.{Done, Refuse, Rmdir}
-use Rattle.lfs_model.specs.Checkpoint.{CheckpointValue}
 use Rattle.lfs_model.specs.Device.{DeviceState, IsLawful}
-use Rattle.lfs_model.specs.Encodes.{IsLogMap}
-use Rattle.lfs_model.specs.Objects.{IsDirectory, IsHeaderOf, one_if}
 use Rattle.lfs_model.specs.Stands.{LogMap}
-use Rattle.lfs_model.specs.Step.{Step, name}
-use Rattle.lfs_model.specs.Totals.{IsCounted}
-use Rattle.lfs_model.specs.Tree.{State, byte_cmp, is_dir, node, slot_len}
-use Rattle.lfs_model.specs.Walk.{At, Parent}
+use Rattle.lfs_model.specs.Step.{Step, target}
+use Rattle.lfs_model.specs.Tree.{Dir, File, Names, Node, State, is_dir, names_in, names_of, node, slot_len}
+use Rattle.lfs_model.specs.TreeOf.{node_by}
+use Rattle.lfs_model.proofs.KeepsNames.{rmdir_keeps}
+use Rattle.lfs_files.specs.declared.fault.LogFault.TheVariants as log
 use Rattle.lfs_files.specs.declared.header.Header.{Header}
-use Rattle.lfs_files.specs.Files.{HasFile}
-use Rattle.lfs_store.specs.declared.draft.Draft.{Draft}
-use Rattle.lfs_store.specs.memory.declared.changes.Changes.{Changes}
-use Rattle.lfs_store.specs.memory.Batch.{FitsBatch, IsNoChange, staged}
-use Rattle.lfs_store.specs.memory.Changing.{FitsHeader}
-use Rattle.lfs_store.specs.memory.Present.{as_header}
-use Rattle.lfs_store.specs.log.Held.{Holds}
-use Rattle.lfs_store.specs.Drafting.{IsApart}
-use Rattle.lfs_store.specs.Recounting.{AreTotals}
-use Rattle.lfs_store.proofs.Apart.{draft_empty}
-use Rattle.lfs_store.proofs.LogReads.{held_still}
-use Rattle.lfs_store.proofs.TreeTotals.{totals_of_tree}
+use Rattle.lfs_files.specs.Files as files
+use Rattle.lfs_files.specs.Files.{FilesState}
+use Rattle.lfs_files.specs.Headers.{as_header}
+use Rattle.lfs_store.specs.declared.store.Store.{Store}
 use Rattle.lfs_path.specs.declared.last.Last.{Last}
-use Rattle.lfs_path.specs.dirs.Directory.{names_at}
-use Rattle.lfs_path.specs.dirs.Taking.{CutsSlot, TakesName}
+use Rattle.lfs_path.specs.Seeing.{HasHeader}
+use Rattle.lfs_path.specs.Telling.{TellsFault}
+use Rattle.lfs_path.proofs.of_dirs.SlotsKept.{empty_directory}
+use Rattle.lfs_entries.specs.declared.entry.Entry.{Entry}
+use Rattle.lfs_entries.specs.declared.fault.EntryFault.{EntryFault}
+use Rattle.lfs_entries.specs.declared.fault.EntryFault.TheVariants as fault
+use Rattle.lfs_entries.specs.Entries.{is_directory}
+use Rattle.lfs_entries.specs.Looking.{IsHolder, LooksAt, LooksUp}
+use Rattle.lfs_entries.specs.OldEntries.{HasEmpty, RefusesEmpty}
+use Rattle.lfs_entries.specs.OldNames.{CountsDrop, DraftsDrop, HasOld}
+use Rattle.lfs_entries.specs.Telling.{FailsWhere, InEach}
 use Rattle.lfs_fs.specs.declared.error.FsError.{FsError}
 use Rattle.lfs_fs.specs.declared.fs.Fs.{Fs}
-use Rattle.lfs_fs.specs.Accepting.{StagesDraft, TurnsDown, need_of}
+use Rattle.lfs_fs.specs.Drafted.{files_of}
+use Rattle.lfs_fs.specs.Faults.{error_of_entry}
+use Rattle.lfs_fs.specs.Finishing.{Finishes}
 use Rattle.lfs_fs.specs.Naming.{Reaches}
 use Rattle.lfs_fs.specs.Refusals.{refusal_of}
-use Rattle.lfs_fs.specs.Removing.{DraftsRmdir, HasEmpty, less_linked}
-use Rattle.lfs_fs.specs.Seen.{OnlyReads, answer_by, seen}
-use Rattle.lfs_fs.specs.Unlinking.{FailsUnlink}
-use Rattle.lfs_fs.specs.Volume.{IsIn, IsStill, Mounted, Serves, segments_of}
-use Rattle.lfs_fs.proofs.volume.Nodes.{IsMapOf, IsShaped, room_shaped}
-use Rattle.lfs_fs.proofs.volume.Headers.{directory_shrinks, links_fit}
-use Rattle.lfs_fs.proofs.volume.Map.{headers_of_volume, map_of_volume}
-use Rattle.lfs_fs.proofs.volume.Directories.{slot_in_directory}
-use Rattle.lfs_fs.proofs.old_entries.Views.{found_d, says}
-use Rattle.lfs_fs.proofs.rmdir.Refusals as checked
-use Rattle.lfs_fs.proofs.rmdir.Steps.{removed}
-use Rattle.lfs_fs.proofs.write.Ends.{still_more, draft_ends, totals_read}
-use Rattle.lfs_fs.proofs.old_entries.Removal.{IsEntry, apart, dir, holder_is, links_many, loss, shape_2, holder_2, removed_map}
-use Rattle.lfs_fs.proofs.old_entries.Removal.{removed_shape}
-use Rattle.lfs_fs.proofs.volume.LostNames.{LosesName}
-use Rattle.lfs_fs.proofs.volume.LinkDrafts.{all_lost, links_set}
-use Rattle.lfs_fs.proofs.volume.MovedMaps.{Relinks}
-use Rattle.lfs_fs.proofs.volume.KeptMaps.{HasHolder, holder_directory}
-use Rattle.lfs_model.proofs.KeepsNames.{rmdir_keeps}
-use Rattle.lfs_fs.proofs.read.Ends.{fails_serves}
+use Rattle.lfs_fs.specs.Seen.{IsReady, answer_by, seen}
+use Rattle.lfs_fs.specs.Volume.{Mounted, Serves, segments_of}
+use Rattle.lfs_fs.proofs.calls.Checks.{below, not_below}
+use Rattle.lfs_fs.proofs.calls.Files as calls
+use Rattle.lfs_fs.proofs.calls.Files.{Explains, IsBegun, Rose, begun_after, begun_at, fault_serves, only, reached_in, rose_where, told}
+use Rattle.lfs_fs.proofs.calls.Files.{with_store}
+use Rattle.lfs_fs.proofs.old_entries.Dropping.{MayGo}
+use Rattle.lfs_fs.proofs.old_entries.Drops.{drop_ends}
+use Rattle.lfs_fs.proofs.old_entries.Explained.{plain_so}
+use Rattle.lfs_fs.proofs.old_entries.Steps.{gone}
+use Rattle.lfs_fs.proofs.paths.Named.{IsReached, gives_is, has_piece, holder, kind_is, last_dots_is, long_is, range_n, short_is, target_is}
+use Rattle.lfs_fs.proofs.paths.Named.{there_is}
+use Rattle.lfs_fs.proofs.rmdir.Steps.{rmdir_done, rmdir_dots, rmdir_full, rmdir_long, rmdir_missing, rmdir_plain}
+use Rattle.lfs_fs.proofs.volume.Directories.{size_of_directory}
+use Rattle.lfs_fs.proofs.volume.Map.{shape_of_volume}
+use Rattle.lfs_fs.proofs.volume.Nodes.{IsShaped, node_by_header}
+use Rattle.lfs_fs.proofs.volume.Slots.{no_slots, some_names}
 
-module _ {D : Type 0} (state : D → DeviceState) (lawful : (d : D) → IsLawful (state d))
-    (v : Mounted D) (old mid : Fs D) (path : List ℕ) (d : ℕ) (piece : Option Last)
-    (reached : Reaches state v old path d piece) (running : old.store.log.halted ≡ false)
-    (last : Last) (is_last : piece ≡ Some last) (only : OnlyReads state old mid)
-    (head : Header) (n : ℕ) (object : Header)
-    (has : HasEmpty state old mid d last.name.now head n object) where
-  still_mid : IsStill state v (seen mid)
-  still_mid = still_more state lawful v (seen old) (seen mid) reached.still only.still
+module _ {N : ℕ} {m : LogMap} {s : State} {p : List ℕ} {d : ℕ} {l : Last} (g : IsReached N m s p d l) (e : Entry)
+    (looks : LooksAt m d l.name.now e.holder (Some e.object)) (is_kind : e.object.header.kind ≡ kind.Directory) where
+  abbrev n : ℕ
+  n = e.object.number.value
 
-  was : v.log.halted ≡ false
-  was = sym reached.still.reads.halted ∙ running
+  abbrev object : Header
+  object = e.object.header
 
-  -- ---- where the device keeps the model so far, and the volume is in a state
-  module _ (kept_mid : (state mid.store.log.device).keeps_model) (k : CheckpointValue)
-      (m0 m : LogMap) (s : State) (is : IsIn state v k m0 m s) where
-    walk : Parent s.tree path (At d)
-    walk = reached.walk k m0 m s (only.still.reads.looks.carries.kept_before kept_mid) is
+  dir_n : is_dir (node s.tree n) ≡ true
+  dir_n = kind_is g e.holder looks.looks.header l.name.now n (sym looks.looks.gives) object looks.there ∙ ap is_directory is_kind
 
-    map : IsMapOf (segments_of v) m s
-    map = map_of_volume state v k m0 m s is
+  -- it has a name for each slot
+  size_n : slot_len object.form * length (names_in s.tree n) ≡ object.size
+  size_n = size_of_directory N m s g.map n dir_n object looks.there (g.headers n (as_header object) looks.there)
 
-    in_mid : Holds state mid.store.log k m0 m
-    in_mid = held_still state v.log mid.store.log k m0 m still_mid.reads is.stores.holds
+  has_names : (b : Bool) → nat_lt 0 (length (names_in s.tree n)) ≡ b → nat_lt 0 (length (names_in s.tree (target s.tree d p))) ≡ b
+  has_names b are =
+      ap (λ (q : ℕ). nat_lt 0 (length (names_in s.tree q))) (target_is g e.holder (Some n) looks.looks) ∙ are
 
-    -- the directory, and the one that stands in it
-    placed : IsEntry (segments_of v) m s path d n head (as_header object)
-    placed = checked.placed state lawful v old path d piece reached running last is_last mid only k
-        m0 m s kept_mid is walk head n object has
+  pub some_there : 0 < object.size → nat_lt 0 (length (names_in s.tree (target s.tree d p))) ≡ true
+  some_there some = has_names true (below 0 (length (names_in s.tree n))
+      (some_names object.form (length (names_in s.tree n)) object.size size_n some))
 
-    is_directory : is_dir (node s.tree n) ≡ true
-    is_directory = ap is_dir (checked.empty_there state lawful v old path d piece reached running
-        last is_last mid only k m0 m s kept_mid is walk head n object has)
+  module _ (empty : object.size ≡ 0) where
+    pub none_there : nat_lt 0 (length (names_in s.tree (target s.tree d p))) ≡ false
+    none_there = has_names false (not_below 0 (length (names_in s.tree n))
+        (let none = no_slots object.form (length (names_in s.tree n)) object.size size_n empty in omega (arith, none)))
 
-    done : Step (segments_of v) s (Rmdir path) Done (removed s path d)
-    done = checked.empty_step state lawful v old path d piece reached running last is_last mid only
-        k m0 m s kept_mid is walk head n object has
+    empty_node : node s.tree n ≡ Some (Dir object.form [])
+    empty_node =
+        node_by_header N m s g.map.log n (as_header object)
+        (range_n g e.holder looks.looks.header l.name.now n (sym looks.looks.gives)) looks.there
+        ∙ ap (λ (x : Kind). Some (node_by m x n (as_header object))) is_kind
+        ∙ ap (λ (ms : Names). Some (Dir object.form ms)) (empty_directory m n object empty).1
 
-    found : find byte_cmp (name path) (names_at m d head) ≡ Some n
-    found = found_d state lawful v old path d piece reached last is_last mid only k m0 m s is walk
-        kept_mid head n has.sees.looks
+    pub no_names : names_in s.tree n ≡ []
+    no_names = ap (λ (o : Option Node). names_of (unwrap_or o (File []))) empty_node
 
-    fits_d : IsHeaderOf d (as_header head)
-    fits_d = headers_of_volume state v k m0 m s is d (as_header head) placed.holder
+-- ---- it is taken
 
-    kind_d : head.kind ≡ kind.Directory
-    kind_d = (holder_is placed).kind
+module _ {S D : Type 0} {a b : FilesState S D} {N : ℕ} {m : LogMap} {s : State} {p : List ℕ} {d : ℕ} {l : Last} {e : Entry}
+    (has : HasEmpty a b d l.name.now e) (g : IsReached N m s p d l) (shaped : IsShaped m)
+    (looks : LooksAt m d l.name.now e.holder (Some e.object)) where
+  done : Step N s (Rmdir p) Done (gone s p d)
+  done = rmdir_done N s p d g.walk (has_piece g) (last_dots_is g ∙ has.finds.named)
+      (short_is g e.holder looks.looks.header has.finds.short) (there_is g e.holder (Some e.object.number.value) looks.looks)
+      (gives_is g e.holder e.object.number.value looks.looks e.object.header looks.there ∙ ap is_directory has.dir)
+      (none_there g e looks has.dir has.empty)
 
-    formed_d : IsDirectory m d (as_header head)
-    formed_d = holder_directory m d head placed.shaped (holder_is placed)
+  pub may_rmdir : MayGo N m s p d l e (Rmdir p)
+  may_rmdir = record {
+    reached = g;
+    shaped = shaped;
+    looks = looks;
+    empty = no_names g e looks has.dir has.empty;
+    done = done;
+    sound = rmdir_keeps N s (gone s p d) p Done g.map.log.sound done;
+  }
 
-    some_size : slot_len head.form ≤ head.size
-    some_size = slot_in_directory (segments_of v) m s placed.map d (dir placed) head placed.holder
-        fits_d (name path) n found
+-- ---- it isn't
 
-    piece_is : name path ≡ last.name.now
-    piece_is = (says state lawful v old path d piece reached last is_last mid only).1
+module _ {S D : Type 0} (a b : FilesState S D) {N : ℕ} {m : LogMap} {s : State} {p : List ℕ} {d : ℕ} {l : Last}
+    (g : IsReached N m s p d l) (see : (P : LogMap → Type 0) → InEach a b P → P m) (rose : Type 0)
+    (rises : TellsFault a b (IsHolder d) → rose) where
+  at_entry : (e : Entry) → InEach a b (λ x. LooksAt x d l.name.now e.holder (Some e.object))
+      → LooksAt m d l.name.now e.holder (Some e.object)
+  at_entry e looks = see (λ x. LooksAt x d l.name.now e.holder (Some e.object)) looks
 
-    many : 3 ≤ head.links
-    many = links_many placed is_directory
+  pub empty_explained : (why : EntryFault) → RefusesEmpty a b d l.name.now why → Explains (Rmdir p) N s rose why
+  empty_explained fault.Inval why = rmdir_dots N s p d g.walk (has_piece g) (last_dots_is g ∙ why)
+  empty_explained fault.NameTooLong why =
+      rmdir_long N s p d g.walk (has_piece g) (last_dots_is g ∙ why.0)
+      (long_is g why.1.head (see (HasHeader d why.1.head) why.1.header) why.1.long)
+  empty_explained fault.NoEntry why =
+      let at : LooksUp m d l.name.now why.1.head None = see (λ x. LooksUp x d l.name.now why.1.head None) why.1.looks in
+      rmdir_missing N s p d g.walk (has_piece g) (last_dots_is g ∙ why.0) (short_is g why.1.head at.header why.1.short)
+      (there_is g why.1.head None at)
+  empty_explained fault.NotDir why =
+      let e = why.1.entry in
+      let at = at_entry e why.1.looks in
+      rmdir_plain N s p d g.walk (has_piece g) (last_dots_is g ∙ why.0) (short_is g e.holder at.looks.header why.1.short)
+      (there_is g e.holder (Some e.object.number.value) at.looks)
+      (gives_is g e.holder e.object.number.value at.looks e.object.header at.there ∙ plain_so e.object.header.kind why.1.is)
+  empty_explained fault.NotEmpty why =
+      let e = why.1.entry in
+      let at = at_entry e why.1.looks in
+      rmdir_full N s p d g.walk (has_piece g) (last_dots_is g ∙ why.0) (short_is g e.holder at.looks.header why.1.short)
+      (there_is g e.holder (Some e.object.number.value) at.looks)
+      (gives_is g e.holder e.object.number.value at.looks e.object.header at.there ∙ ap is_directory why.1.is.0)
+      (some_there g e at why.1.is.0 why.1.is.1)
+  empty_explained (fault.Log f) why = rises why
+  empty_explained other why = absurd why
 
-  -- ---- the draft isn't made
-  pub rmdir_undrafted : (ready : Fs D) → IsStill state (seen mid) (seen ready) → (new : Mounted D)
-      → new ≡ seen ready → (fault : FsError)
-      → FailsUnlink state mid ready d head n last.name.now fault
-      → Serves state v new (Rmdir path) (Refuse (refusal_of fault))
-  rmdir_undrafted ready still new same fault fails =
-      subst (λ (w : Mounted D). Serves state v w (Rmdir path) (Refuse (refusal_of fault)))
-      (sym same)
-      (fails_serves state v (seen ready) (Rmdir path) (lawful v.log.device) still_ready was refl
-      refl fault (⊎_elim inl (λ failed. inr (
-        failed.0,
-        λ k m0 m s keeps is. (
-            let kept = still.reads.looks.carries.kept_before keeps in
-            let there : find byte_cmp last.name.now (names_at m d head) ≡ Some n =
-            subst (λ (x : List ℕ). find byte_cmp x (names_at m d head) ≡ Some n)
-            (piece_is kept k m0 m s is) (found kept k m0 m s is) in
-            let rose = failed.1 k m0 m keeps (in_mid kept k m0 m s is) (formed_d kept k m0 m s is)
-            (λ none. let at = there in cc) (apart (placed kept k m0 m s is)) in
-            let before = still_mid.reads.looks.carries.failures in
-            omega (arith, rose, before)),
-      )) fails))
-    where
-      still_ready : IsStill state v (seen ready)
-      still_ready = still_more state lawful v (seen mid) (seen ready) still_mid still
+-- ---- the call
 
-  -- ---- it is made
-  module _ (ready : Fs D) (still : IsStill state (seen mid) (seen ready))
-      (drafts : DraftsRmdir state mid ready d head n last.name.now) where
-    abbrev c : Changes
-    c = ready.store.draft.changes
+module _ {D : Type 0} (state : D → DeviceState) (lawful : (d : D) → IsLawful (state d)) (v : Mounted D) (f : Fs D) (path : List ℕ) (d : ℕ)
+    (l : Last) (reached : Reaches state v f path d (Some l)) (ready : IsReady f) (store : Store D)
+    (reads : files.Reads (files_of state f.store) (files_of state store)) where
+  begun : IsBegun state v f
+  begun = begun_at state v f path d (Some l) reached ready
 
-    -- the log map without the directory, and then with a link less of the other
-    abbrev without_it : LogMap → LogMap
-    without_it m = staged drafts.gone m
+  pub empty_refused : (why : EntryFault) → (why ≡ fault.Log log.Halted → (files_of state f.store).halted ≡ true)
+      → (why ≡ fault.Log log.Full → ⊥) → RefusesEmpty (files_of state f.store) (files_of state store) d l.name.now why
+      → Serves state v (seen (with_store f store)) (Rmdir path) (Refuse (refusal_of (error_of_entry why)))
+  empty_refused why halted other refuses =
+      fault_serves state lawful v f begun store (only state lawful v f begun store reads).still (Rmdir path) refl refl refl why halted other
+      (λ k m0 m s keeps is. (
+      let g = reached_in state lawful v f begun path d l reached (reads.looks.carries.kept_before keeps) k m0 m s is in
+      empty_explained (files_of state f.store) (files_of state store) g (λ P all. told state lawful v f begun store P all k m0 m s keeps is)
+      (Rose state lawful v f begun store)
+      (λ fails. rose_where state lawful v f begun store (only state lawful v f begun store reads).still (IsHolder d) fails k m0 m s keeps is
+      (holder g))
+      why refuses))
 
-    abbrev between : LogMap → LogMap
-    between m = staged drafts.linked m
+  module _ (e : Entry) (has : HasEmpty (files_of state f.store) (files_of state store) d l.name.now e) (next : Store D)
+      (redrafts : files.Redrafts (files_of state store) (files_of state next)) where
+    read : IsBegun state v (with_store f store)
+    read = begun_after state lawful v f begun store reads
 
-    still_ready : IsStill state v (seen ready)
-    still_ready = still_more state lawful v (seen mid) (seen ready) still_mid still
+    may : calls.InEach state lawful v (with_store f store) read next (λ m s. MayGo (segments_of v) m s path d l e (Rmdir path))
+    may k m0 m s keeps is =
+        let kept = redrafts.looks.carries.kept_before keeps in
+        may_rmdir has (reached_in state lawful v f begun path d l reached (reads.looks.carries.kept_before kept) k m0 m s is)
+        (shape_of_volume state v k m0 m s is)
+        (told state lawful v f begun store (λ x. LooksAt x d l.name.now e.holder (Some e.object)) has.finds.looks k m0 m s kept is)
 
-    none_drafted : IsNoChange mid.store.draft.changes
-    none_drafted = subst (λ (x : Draft). IsNoChange x.changes) (sym only.draft) reached.empty
-
-    same_mid : (m : LogMap) → staged mid.store.draft.changes m ≡ m
-    same_mid m = (draft_empty mid.store.draft.changes m none_drafted).0
-
-    kept : (state ready.store.log.device).keeps_model → (state mid.store.log.device).keeps_model
-    kept keeps = still.reads.looks.carries.kept_before keeps
-
-    module _ (keeps : (state ready.store.log.device).keeps_model) (k : CheckpointValue)
-        (m0 m : LogMap) (s : State) (is : IsIn state v k m0 m s) where
-      placed_here : IsEntry (segments_of v) m s path d n head (as_header object)
-      placed_here = placed (kept keeps) k m0 m s is
-
-      apart_d : d ≢ n
-      apart_d e = apart placed_here (sym e)
-
-      -- the directory goes, and the other has a link less
-      loses : LosesName s m (without_it m) n (as_header object)
-      loses = inr (all_lost s mid.store.draft.changes drafts.gone m n object (inl has.dir)
-          drafts.removes)
-
-      links : Relinks (without_it m) (between m) d head (head.links - 1)
-      links = links_set drafts.gone drafts.linked m d head (head.links - 1) drafts.sets
-
-      there_1 : (without_it m).header d ≡ Some (as_header head)
-      there_1 = (loss placed_here (head.links - 1) loses links).changed.headers d apart_d
-          ∙ placed_here.holder
-
-      shaped_2 : IsShaped (between m)
-      shaped_2 = shape_2 placed_here (head.links - 1) loses links
-
-      holder_then : HasHolder (between m) d (less_linked head)
-      holder_then = holder_2 placed_here (head.links - 1) loses links
-
-      has_directory : HasFile (between m) d (less_linked head)
-      has_directory = record { map = shaped_2.map; there = holder_then.there }
-
-      -- its name goes
-      cut : CutsSlot (between m) (staged c m) d (less_linked head)
-      cut = drafts.takes.cut k m0 m keeps (in_mid (kept keeps) k m0 m s is) has_directory
-
-      takes_it : TakesName (between m) (staged c m) d (less_linked head) (name path)
-      takes_it = subst (TakesName (between m) (staged c m) d (less_linked head))
-          (sym (piece_is (kept keeps) k m0 m s is))
-          (drafts.takes.names k m0 m keeps (in_mid (kept keeps) k m0 m s is) has_directory
-          (holder_directory (between m) d (less_linked head) shaped_2 holder_then))
-
-      less : head.links - 1 + one_if (is_dir (node s.tree n)) ≡ head.links
-      less =
-          let all = many (kept keeps) k m0 m s is in
-          let one : one_if (is_dir (node s.tree n)) ≡ 1
-          = ap one_if (is_directory (kept keeps) k m0 m s is) in
-          omega (arith, all, one)
-
-      after : IsMapOf (segments_of v) (staged c m) (removed s path d)
-      after = removed_map placed_here (head.links - 1) loses links less cut takes_it
-          refl refl
-          (rmdir_keeps (segments_of v) s (removed s path d) path Done is.log.sound
-          (done (kept keeps) k m0 m s is))
-
-      -- ---- the draft fits
-      links_less : FitsHeader head.kind head.form (head.links - 1) head.size
-      links_less = links_fit d head (fits_d (kept keeps) k m0 m s is) (head.links - 1) (omega arith)
-
-      size_less : FitsHeader head.kind head.form head.links (head.size - slot_len head.form)
-      size_less = directory_shrinks d head (fits_d (kept keeps) k m0 m s is)
-          (kind_d (kept keeps) k m0 m s is) (some_size (kept keeps) k m0 m s is)
-
-      apart_1 : IsApart drafts.gone.loss d
-      apart_1 = drafts.removes.apart d apart_d
-
-      fits_linked : FitsBatch m drafts.linked
-      fits_linked = drafts.sets.fits m (drafts.removes.fits m) there_1
-          (let all = many (kept keeps) k m0 m s is in omega (arith, all)) apart_1.inode links_less
-
-      fits_here : FitsBatch m c
-      fits_here =
-          drafts.takes.fits k m0 m keeps (in_mid (kept keeps) k m0 m s is) fits_linked
-          (λ none. (let at = placed_here.holder in absurd (cc))) holder_then.there
-          record { known = links_less.known; links_few = links_less.links_few; size_fits = size_less.size_fits }
-          (drafts.sets.apart d apart_1)
-
-      -- ---- the totals
-      totals_mid : AreTotals (staged mid.store.draft.changes m) mid.store.drafted
-      totals_mid = subst (λ (x : LogMap). AreTotals x mid.store.drafted) (sym (same_mid m))
-          (totals_read state lawful v old mid reached.still reached.drafted only m is.counted)
-
-      map_mid : IsLogMap (staged mid.store.draft.changes m)
-      map_mid = subst IsLogMap (sym (same_mid m)) is.map
-
-      totals_1 : AreTotals (without_it m) drafts.half
-      totals_1 = drafts.counts k m0 m keeps (in_mid (kept keeps) k m0 m s is) map_mid
-          (loss placed_here (head.links - 1) loses links).shape.map totals_mid
-
-      counted_here : IsCounted (staged c m) ready.store.drafted.data_blocks
-          ready.store.drafted.meta_blocks
-      counted_here = drafts.takes.counts k m0 m keeps (in_mid (kept keeps) k m0 m s is)
-          has_directory (shaped_2.long d) after.map (drafts.relinks m there_1 totals_1)
-
-      -- the tree needs no more than there is
-      room : need_of ready ≤ 47 * segments_of v
-      room = room_shaped totals_of_tree (segments_of v) (staged c m) (removed s path d) after
-          (removed_shape placed_here (head.links - 1) loses links less cut takes_it)
-          ready.store.drafted.data_blocks ready.store.drafted.meta_blocks counted_here
-
-    -- ---- the call
-    module _ (new : Fs D) (rest : new.handles ≡ ready.handles) {X : Type 0} (r : Result X FsError)
-        (done_by : OnOk r (StagesDraft state ready new)) (down : IfErr r (TurnsDown state ready new))
-      where
-        pub rmdir_ends : Serves state v (seen new) (Rmdir path) (answer_by (λ _. Done) r)
-        rmdir_ends = draft_ends state lawful v ready new (Rmdir path) Done still_ready was rest refl
-            refl refl refl (λ keeps k m0 m s is. record {
-              next = removed s path d;
-              answer = Done;
-              ok = refl;
-              fits = fits_here keeps k m0 m s is;
-              counted = counted_here keeps k m0 m s is;
-              map = λ has_room. after keeps k m0 m s is;
-              done = λ has_room. done (kept keeps) k m0 m s is;
-              lacks = λ more. absurd
-                  (let most = room keeps k m0 m s is in omega (arith, most, more));
-            }) refl (λ keeps k m0 m s is. (refl, is.handles)) r done_by down
+    pub rmdir_ends : (new : Fs D) → new.handles ≡ f.handles → (drafted : Result (Unit {0}) EntryFault) (result : Result (Unit {0}) FsError)
+        → Finishes state (with_store f next) new drafted result
+        → OnOk drafted (DraftsDrop (files_of state store) (files_of state next) d e false l.name.now)
+        → OnOk drafted (CountsDrop (files_of state store) (files_of state next) d e)
+        → IfErr drafted (FailsWhere (files_of state store) (files_of state next) (HasOld d e l.name.now))
+        → (IsErrOf drafted (fault.Log log.Halted) → (files_of state store).halted ≡ true) → (IsErrOf drafted (fault.Log log.Full) → ⊥)
+        → Serves state v (seen new) (Rmdir path) (answer_by (λ _. Done) result)
+    rmdir_ends new rest drafted result =
+        drop_ends state lawful v (with_store f store) read next redrafts path d l e (Rmdir path) refl refl refl refl may false (λ no. cc)
+        (λ off plain. absurd (let on : is_directory e.object.header.kind ≡ true = ap is_directory has.dir in cc)) new rest drafted result

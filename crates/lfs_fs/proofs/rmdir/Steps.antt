@@ -3,11 +3,11 @@ use Rattle.std.proofs.Common.{◌≡◌, ℕ, Bool, true, false, List, [], ◌�
 use Rattle.std.specs.Prelude.{not}
 use Rattle.lfs_model.specs.Call.{Answer, Done, Refuse, Rmdir}
 use Rattle.lfs_model.specs.Refusal.{Busy, Inval, NameTooLong, NoEntry, NotDir, NotEmpty, Refusal}
-use Rattle.lfs_model.specs.Step.{Step, checked, gives_dir, is_long, is_there, last_dots, let_go, name, no_last, removes_dir, target, when}
-use Rattle.lfs_model.specs.Step.{with_tree}
-use Rattle.lfs_model.specs.Tree.{State, names_in, without_name}
+use Rattle.lfs_model.specs.Step.{Step, checked, gives_dir, is_long, is_there, last_dots, no_last, removes_dir, target, when}
+use Rattle.lfs_model.specs.Tree.{State, names_in}
 use Rattle.lfs_model.specs.Walk.{At, Parent, Refused}
 use Rattle.lfs_fs.proofs.calls.Checks.{passes, refuses}
+use Rattle.lfs_fs.proofs.old_entries.Steps.{gone}
 
 pub rmdir_refused : (N : ℕ) (s : State) (p : List ℕ) (r : Refusal) → Parent s.tree p (Refused r)
     → Step N s (Rmdir p) (Refuse r) s
@@ -19,10 +19,6 @@ rmdir_refused N s p r walk = record {
   answer = refl;
   state = refl;
 }
-
--- the state after it, with the parent d
-abbrev pub removed : State → List ℕ → ℕ → State
-removed s p d = with_tree s (let_go (without_name s.tree d (name p)) s.handles (target s.tree d p))
 
 module _ (N : ℕ) (s : State) (p : List ℕ) (d : ℕ) (walk : Parent s.tree p (At d)) where
   step_rmdir : (a : Answer) (s' : State) → removes_dir s p d ≡ (a, s') → Step N s (Rmdir p) a s'
@@ -36,7 +32,7 @@ module _ (N : ℕ) (s : State) (p : List ℕ) (d : ℕ) (walk : Parent s.tree p 
   }
 
   abbrev done : Answer × State
-  done = (Done, removed s p d)
+  done = (Done, gone s p d)
 
   abbrev is_full : Bool
   is_full = nat_lt 0 (length (names_in s.tree (target s.tree d p)))
@@ -105,6 +101,6 @@ module _ (N : ℕ) (s : State) (p : List ℕ) (d : ℕ) (walk : Parent s.tree p 
             rmdir_full full = step_rmdir (Refuse NotEmpty) s
                 (is_directory ∙ refuses s is_full (Refuse NotEmpty) [] done full)
 
-            pub rmdir_done : is_full ≡ false → Step N s (Rmdir p) Done (removed s p d)
-            rmdir_done empty = step_rmdir Done (removed s p d)
+            pub rmdir_done : is_full ≡ false → Step N s (Rmdir p) Done (gone s p d)
+            rmdir_done empty = step_rmdir Done (gone s p d)
                 (is_directory ∙ passes s is_full (Refuse NotEmpty) [] done empty)

@@ -1,36 +1,32 @@
--- A directory of a volume: its names as the model sees them, the same with a new object made, and the least number that is free.
-use Rattle.std.proofs.Common.{refl, take, drop, map, slice_index, ◌≡◌, ◌≢◌, ◌<◌, ◌≤◌, ◌*◌, ◌/◌, ◌%◌, ℕ, true, false, List, [], length}
-use Rattle.std.proofs.Common.{Option, Some, None, sym, ◌∙◌, ap, subst, ⊎_elim, arith, nat_lt, ◌∷◌}
+-- A directory of a volume: its names as the model sees them, and the least number that is free.
+use Rattle.std.proofs.Common.{refl, ◌≡◌, ◌≢◌, ◌<◌, ◌≤◌, ◌*◌, ℕ, true, false, List, [], length}
+use Rattle.std.proofs.Common.{Option, Some, None, sym, ◌∙◌, ap, ⊎_elim, arith, nat_lt, ◌∷◌}
 use Rattle.std.specs.Prelude.{is_some, unwrap_or}
 use Rattle.std.proofs.lemmas.Bool.{cases_lt}
-use Rattle.std.specs.List.{AllByRecursion, range_with_len}
-use Rattle.std.specs.FinMap.{find, put}
+use Rattle.std.specs.FinMap.{find}
 use Rattle.lfs_model.specs.declared.Kind.{Kind}
 use Rattle.lfs_model.specs.declared.Kind.TheVariants as kind
-use Rattle.lfs_model.specs.Changing.{IsWithHeader}
 use Rattle.lfs_model.specs.Encodes.{HasInode}
-use Rattle.lfs_model.specs.Objects.{AreStoredWhole, IsChangedAt, IsDirectory, IsHeaderOf, byte_in}
-use Rattle.lfs_model.specs.Slot.{slot_in}
+use Rattle.lfs_model.specs.Entry as entry
+use Rattle.lfs_model.specs.Objects.{IsDirectory, IsHeaderOf}
 use Rattle.lfs_model.specs.Stands.{LogMap}
 use Rattle.lfs_model.specs.Step.{is_full, is_long, is_there, name}
 use Rattle.lfs_model.specs.Tree.{Dir, File, Names, Node, State, byte_cmp, entry as entry_in, form_of, is_dir, least, name_limit, name_len}
 use Rattle.lfs_model.specs.Tree.{names_in, names_of, node, slot_len}
-use Rattle.lfs_model.specs.TreeOf.{map_of, node_by, object, slots}
+use Rattle.lfs_model.specs.TreeOf.{map_of, node_by, slots}
 use Rattle.lfs_model.proofs.Leasts.{least_free, least_taken}
 use Rattle.lfs_model.proofs.Makes.{starts_one}
-use Rattle.lfs_model.proofs.ObjectBytes.{same_objects}
 use Rattle.lfs_model.proofs.Standing.{slots_length}
 use Rattle.lfs_files.specs.declared.header.Header.{Header}
 use Rattle.lfs_store.specs.memory.Present.{as_header}
-use Rattle.lfs_store.specs.Making.{relinked}
-use Rattle.lfs_store.specs.Writing.{WritesFile, resized}
-use Rattle.lfs_fs.proofs.volume.FileBytes.{slots_same}
 use Rattle.lfs_fs.proofs.calls.Checks.{below, not_below, at_most, not_at_most}
-use Rattle.lfs_fs.specs.Naming.{NewKind, kind_of_new, more_links}
-use Rattle.lfs_fs.proofs.new_entries.Maps.{NamesNew, kind_by_node}
-use Rattle.lfs_fs.proofs.new_entries.Objects.{IsMade}
 use Rattle.lfs_fs.proofs.volume.Slots.{all_slots, free_slots, slots_whole, some_slot}
 use Rattle.lfs_fs.proofs.volume.Nodes.{IsMapOf, dir_there, no_header_none, node_by_header}
+
+kind_by_node : (m : LogMap) (n : ℕ) (h : entry.Header) (k : Kind) → is_dir (Some (node_by m k n h)) ≡ true → k ≡ kind.Directory
+kind_by_node m n h kind.File dir = absurd (cc)
+kind_by_node m n h kind.Directory dir = refl
+kind_by_node m n h kind.Link dir = absurd (cc)
 
 -- a map that has a name isn't empty
 some_names : (ms : Names) (nm : List ℕ) (n : ℕ) → find byte_cmp nm ms ≡ Some n → 0 < length ms
@@ -103,92 +99,6 @@ module _ (N : ℕ) (m : LogMap) (s : State) (is : IsMapOf N m s) (d : ℕ) (dir 
   pub directory_formed : IsHeaderOf d (as_header head) → IsDirectory m d (as_header head)
   directory_formed fits = let formed = is.log.formed d (as_header head) there directory_kind in
       record { whole = fits.slots directory_kind; formed = formed.0; apart = formed.1 }
-
-  -- ---- with a new object made it is as it was
-  module _ (m1 : LogMap) (n : ℕ) (k : NewKind) (other : n ≢ d) (made : IsMade m n k m1) where
-    changed : IsChangedAt m n m1
-    changed = made.changed
-
-    pub made_header : m1.header d ≡ Some (as_header head)
-    made_header = made.changed.headers d (λ e. other (sym e)) ∙ there
-
-    slots_1 : slots m1 d (as_header head) ≡ slots m d (as_header head)
-    slots_1 = slots_same m m1 n changed d (as_header head) (λ e. other (sym e))
-
-    -- with other links too
-    module _ (links : ℕ) (m2 : LogMap) (linked : IsWithHeader m1 d (Some (as_header (relinked head links))) m2) where
-      abbrev head2 : Header
-      head2 = relinked head links
-
-      object_2 : object m2 d (as_header head2) ≡ object m1 d (as_header head)
-      object_2 = same_objects m2 m1 d d (as_header head2) (as_header head) refl
-          (λ p lt. ap (λ (b : List ℕ). slice_index b (p % 512)) (linked.block d (p / 512)))
-
-      slots_by : slots m2 d (as_header head2) ≡ slots m1 d (as_header head)
-      unfolding slots
-      slots_by = ap (λ (bytes : List ℕ). map (λ j. take (slot_len head.form) (drop (slot_len head.form * j) bytes))
-          (range_with_len 0 (head.size / slot_len head.form))) object_2
-
-      slots_2 : slots m2 d (as_header head2) ≡ slots m d (as_header head)
-      slots_2 = slots_by ∙ slots_1
-
-      pub linked_names : map_of head.form (slots m2 d (as_header head2)) ≡ names_there
-      linked_names = ap (map_of head.form) slots_2
-
-      pub linked_directory : IsHeaderOf d (as_header head) → IsDirectory m2 d (as_header head2)
-      linked_directory fits =
-          let was = directory_formed fits in record {
-            whole = was.whole;
-            formed = subst (AllByRecursion (λ b. slot_in head.form b ≢ None)) (sym slots_2) was.formed;
-            apart = ap length linked_names ∙ was.apart ∙ ap length (sym slots_2);
-          }
-
-      whole_2 : AreStoredWhole m1 d → AreStoredWhole m2 d
-      whole_2 whole = record {
-        long = λ i has. ap length (linked.block d i) ∙ whole.long i (subst (λ (b : List ℕ). 0 < length b) (linked.block d i) has);
-        nonzero = λ i has. (let one = whole.nonzero i (subst (λ (b : List ℕ). 0 < length b) (linked.block d i) has) in
-            (one.0, subst (λ (b : List ℕ). 0 < slice_index b one.0) (sym (linked.block d i)) one.1));
-      }
-
-      byte_2 : (p : ℕ) → byte_in m2 d p ≡ byte_in m1 d p
-      byte_2 p = ap (λ (b : List ℕ). slice_index b (p % 512)) (linked.block d (p / 512))
-
-      -- what is written then is written over it as it was
-      module _ (m' : LogMap) (size at : ℕ) (w : List ℕ) (writes : WritesFile m2 m' d head2 (resized head2 size) at w) where
-        writes_1 : WritesFile m1 m' d head (resized head2 size) at w
-        writes_1 = record {
-          bytes = record {
-            some = writes.bytes.some;
-            size = writes.bytes.size;
-            bytes = record {
-              before = λ p lt. writes.bytes.bytes.before p lt ∙ byte_2 p;
-              inside = writes.bytes.bytes.inside;
-              behind = λ p le. writes.bytes.bytes.behind p le ∙ byte_2 p;
-            };
-          };
-          only = record {
-            headers = λ q ne. writes.only.headers q ne ∙ linked.others q ne;
-            blocks = λ q i ne. writes.only.blocks q i ne ∙ linked.block q i;
-            version = writes.only.version ∙ linked.version;
-          };
-          whole = λ whole. writes.whole (whole_2 whole);
-          header = writes.header;
-        }
-
-        -- a slot added to it there names the object
-        pub names_new : (nm : List ℕ) → links ≡ more_links (kind_of_new k) head.links → size ≤ 8511488
-            → IsDirectory m' d (as_header (resized head2 size))
-            → map_of head.form (slots m' d (as_header (resized head2 size)))
-            ≡ put byte_cmp nm n (map_of head.form (slots m2 d (as_header head2))) → NamesNew m m1 m' d n k head size at w nm
-        names_new nm right small directory names = record {
-          there = there;
-          made = made;
-          writes = subst (λ (l : ℕ). WritesFile m1 m' d head (resized (relinked head l) size) at w) right writes_1;
-          small = small;
-          directory = subst (λ (l : ℕ). IsDirectory m' d (as_header (resized (relinked head l) size))) right directory;
-          names = subst (λ (l : ℕ). map_of head.form (slots m' d (as_header (resized (relinked head l) size)))
-              ≡ put byte_cmp nm n names_there) right (names ∙ ap (put byte_cmp nm n) linked_names);
-        }
 
 -- ---- the least number
 

@@ -20,7 +20,7 @@ loop-name-preserved g c =
     (g.F.Files.state c.push_entry.new.files) c.args.names.items at.yielded
     (into_iter_items at.name-iterator) (into_iter_items c.next.new.self) (into_iter_len at.name-iterator)
     at.entries.items at.invariant c.in-Some.name c.in-Some.ensures.steps.0
-    c.in_ok-push_entry.ensures.reads (g.met.F.Files.lawful c.args.files.now) (into_iter_len c.next.new.self)
+    c.in_ok-push_entry.ensures.only.reads (g.met.F.Files.lawful c.args.files.now) (into_iter_len c.next.new.self)
     (let gone = c.in-Some.ensures.steps.1 in omega (arith, gone)) put.0 c.push_entry.new.entries.items put.1 put.2
 
 pub returns-in_err-push_entry-clause-failed : goal.returns-in_err-push_entry-clause-failed
@@ -31,7 +31,7 @@ returns-in_err-push_entry-clause-failed g c =
     (g.F.Files.state c.push_entry.new.files) c.args.names.items at.yielded
     (into_iter_items at.name-iterator) (into_iter_items c.next.new.self) (into_iter_len at.name-iterator)
     at.entries.items at.invariant c.in-Some.name c.in-Some.ensures.steps.0
-    c.in_err-push_entry.ensures.reads c.in_err-push_entry.field-0.0 c.in_err-push_entry.ensures.failed)
+    c.in_err-push_entry.ensures.only.reads c.in_err-push_entry.field-0.0 c.in_err-push_entry.ensures.failed)
 
 pub returns-clause-answer : goal.returns-clause-answer
 returns-clause-answer g c =

@@ -21,7 +21,7 @@ loop-name-preserved g c =
     (g.F.Files.state c.push_row.new.files) c.args.names.items at.yielded
     (into_iter_items at.name-iterator) (into_iter_items c.next.new.self) (into_iter_len at.name-iterator)
     at.rows.items at.invariant c.in-Some.name c.in-Some.ensures.steps.0
-    c.in_ok-push_row.ensures.reads (g.met.F.Files.lawful c.args.files.now) (into_iter_len c.next.new.self)
+    c.in_ok-push_row.ensures.only.reads (g.met.F.Files.lawful c.args.files.now) (into_iter_len c.next.new.self)
     (let gone = c.in-Some.ensures.steps.1 in omega (arith, gone)) put.0 c.push_row.new.rows.items put.1 put.2
 
 pub returns-in_err-push_row-clause-failed : goal.returns-in_err-push_row-clause-failed
@@ -32,7 +32,7 @@ returns-in_err-push_row-clause-failed g c =
     (g.F.Files.state c.push_row.new.files) c.args.names.items at.yielded
     (into_iter_items at.name-iterator) (into_iter_items c.next.new.self) (into_iter_len at.name-iterator)
     at.rows.items at.invariant c.in-Some.name c.in-Some.ensures.steps.0
-    c.in_err-push_row.ensures.reads c.in_err-push_row.field-0.0 c.in_err-push_row.ensures.failed)
+    c.in_err-push_row.ensures.only.reads c.in_err-push_row.field-0.0 c.in_err-push_row.ensures.failed)
 
 pub returns-clause-answer : goal.returns-clause-answer
 returns-clause-answer g c =

@@ -14,8 +14,8 @@ returns-in_err-take_name-clause-failed g c =
     let p = err_from_is_err_and c.from_residual-in_err-take_name.result c.from_residual-in_err-take_name.ensures.1 in rw (p.1, p.2)
     (move_takes_not (g.F.Files.state c.args.files.now) (g.F.Files.state c.drop_replaced.new.files)
     (g.F.Files.state c.relink_holders.new.files)
-    (g.F.Files.state c.take_name.new.files) c.args.source c.args.target c.args.is_open c.drop_replaced.ensures.redrafts
-    c.relink_holders.ensures.redrafts c.take_name.ensures.redrafts c.in_ok-drop_replaced.ensures.done c.in_ok-from.ensures.done
+    (g.F.Files.state c.take_name.new.files) c.args.source c.args.target c.args.is_open c.drop_replaced.ensures.only.redrafts
+    c.relink_holders.ensures.redrafts c.take_name.ensures.only.redrafts c.in_ok-drop_replaced.ensures.done c.in_ok-from.ensures.done
     c.in_err-take_name.field-0.0
     (subst (λ (h : Header). FailsWhere (g.F.Files.state c.relink_holders.new.files) (g.F.Files.state c.take_name.new.files)
     (HasNamed c.args.source.directory.value h c.args.source.name.now) c.in_err-take_name.field-0.0) c.in_ok-from.ensures.first
@@ -44,11 +44,11 @@ returns-clause-done g c =
     ok_one c.draft_target.result _ _
     (λ named. move_drafted (g.F.Files.state c.args.files.now) (g.F.Files.state c.drop_replaced.new.files)
     (g.F.Files.state c.relink_holders.new.files)
-    (g.F.Files.state c.take_name.new.files) c.args.source c.args.target c.args.is_open c.drop_replaced.ensures.redrafts
-    c.relink_holders.ensures.redrafts c.take_name.ensures.redrafts c.in_ok-drop_replaced.ensures.done c.in_ok-from.ensures.done
+    (g.F.Files.state c.take_name.new.files) c.args.source c.args.target c.args.is_open c.drop_replaced.ensures.only.redrafts
+    c.relink_holders.ensures.redrafts c.take_name.ensures.only.redrafts c.in_ok-drop_replaced.ensures.done c.in_ok-from.ensures.done
     (subst (λ (h : Header). Takes (g.F.Files.state c.relink_holders.new.files) (g.F.Files.state c.take_name.new.files)
     c.args.source.directory.value h c.args.source.name.now) c.in_ok-from.ensures.first c.in_ok-take_name.ensures.done)
-    (g.F.Files.state c.draft_target.new.files) c.draft_target.ensures.redrafts
+    (g.F.Files.state c.draft_target.new.files) c.draft_target.ensures.only.redrafts
     (subst (λ (h : Header). NamesFound (g.F.Files.state c.take_name.new.files) (g.F.Files.state c.draft_target.new.files)
     c.args.target.replaced c.args.target.directory.value h c.args.source.object.number.value c.args.target.name.now) holder named))
     c.draft_target.ensures.done
@@ -61,11 +61,11 @@ returns-clause-counted g c =
     ok_both c.draft_target.result _ _ _
     (λ named counted. move_counted (g.F.Files.state c.args.files.now) (g.F.Files.state c.drop_replaced.new.files)
     (g.F.Files.state c.relink_holders.new.files)
-    (g.F.Files.state c.take_name.new.files) c.args.source c.args.target c.args.is_open c.drop_replaced.ensures.redrafts
-    c.relink_holders.ensures.redrafts c.take_name.ensures.redrafts c.in_ok-drop_replaced.ensures.done c.in_ok-from.ensures.done
+    (g.F.Files.state c.take_name.new.files) c.args.source c.args.target c.args.is_open c.drop_replaced.ensures.only.redrafts
+    c.relink_holders.ensures.redrafts c.take_name.ensures.only.redrafts c.in_ok-drop_replaced.ensures.done c.in_ok-from.ensures.done
     (subst (λ (h : Header). Takes (g.F.Files.state c.relink_holders.new.files) (g.F.Files.state c.take_name.new.files)
     c.args.source.directory.value h c.args.source.name.now) c.in_ok-from.ensures.first c.in_ok-take_name.ensures.done)
-    (g.F.Files.state c.draft_target.new.files) c.draft_target.ensures.redrafts
+    (g.F.Files.state c.draft_target.new.files) c.draft_target.ensures.only.redrafts
     (subst (λ (h : Header). NamesFound (g.F.Files.state c.take_name.new.files) (g.F.Files.state c.draft_target.new.files)
     c.args.target.replaced c.args.target.directory.value h c.args.source.object.number.value c.args.target.name.now) holder named)
     c.requires.may.from_size
@@ -81,11 +81,11 @@ returns-clause-failed g c =
     IfErr-weaker c.draft_target.result _ _
     (move_names_not (g.F.Files.state c.args.files.now) (g.F.Files.state c.drop_replaced.new.files)
     (g.F.Files.state c.relink_holders.new.files)
-    (g.F.Files.state c.take_name.new.files) c.args.source c.args.target c.args.is_open c.drop_replaced.ensures.redrafts
-    c.relink_holders.ensures.redrafts c.take_name.ensures.redrafts c.in_ok-drop_replaced.ensures.done c.in_ok-from.ensures.done
+    (g.F.Files.state c.take_name.new.files) c.args.source c.args.target c.args.is_open c.drop_replaced.ensures.only.redrafts
+    c.relink_holders.ensures.redrafts c.take_name.ensures.only.redrafts c.in_ok-drop_replaced.ensures.done c.in_ok-from.ensures.done
     (subst (λ (h : Header). Takes (g.F.Files.state c.relink_holders.new.files) (g.F.Files.state c.take_name.new.files)
     c.args.source.directory.value h c.args.source.name.now) c.in_ok-from.ensures.first c.in_ok-take_name.ensures.done)
-    (g.F.Files.state c.draft_target.new.files) c.draft_target.ensures.redrafts)
+    (g.F.Files.state c.draft_target.new.files) c.draft_target.ensures.only.redrafts)
     (subst (λ (h : Header).
     IfErr c.draft_target.result (FailsWhere (g.F.Files.state c.take_name.new.files) (g.F.Files.state c.draft_target.new.files)
     (HasFoundName c.args.target.replaced c.args.target.directory.value h c.args.target.name.now))) holder c.draft_target.ensures.failed)

@@ -13,7 +13,7 @@ returns-clause-done g c =
     let links = c.links_beside-links.ensures ∙ ap (λ (t : Bool). links_beside t c.args.holder.links) c.is_new_directory-gains.ensures in
     entry_drafted (g.F.Files.state c.args.files.now) (g.F.Files.state c.draft_object.new.files) (g.F.Files.state c.relink_where.new.files)
     (g.F.Files.state c.add.new.files) c.args.directory.value c.args.holder c.args.number.value c.args.number.some
-    (new_kind c.args.object) c.args.name.now c.draft_object.ensures.redrafts c.relink_where.ensures.redrafts c.add.ensures.redrafts
+    (new_kind c.args.object) c.args.name.now c.draft_object.ensures.only.redrafts c.relink_where.ensures.redrafts c.add.ensures.redrafts
     c.in_ok-draft_object.ensures.done
     (subst (λ (t : Bool).
     Relinks (g.F.Files.state c.draft_object.new.files) (g.F.Files.state c.relink_where.new.files) t c.args.directory.value
@@ -28,7 +28,7 @@ returns-clause-counted g c =
     let links = c.links_beside-links.ensures ∙ ap (λ (t : Bool). links_beside t c.args.holder.links) c.is_new_directory-gains.ensures in
     entry_counted (g.F.Files.state c.args.files.now) (g.F.Files.state c.draft_object.new.files) (g.F.Files.state c.relink_where.new.files)
     (g.F.Files.state c.add.new.files) c.args.directory.value c.args.holder c.args.number.value c.args.number.some
-    (new_kind c.args.object) c.args.name.now c.draft_object.ensures.redrafts c.relink_where.ensures.redrafts c.add.ensures.redrafts
+    (new_kind c.args.object) c.args.name.now c.draft_object.ensures.only.redrafts c.relink_where.ensures.redrafts c.add.ensures.redrafts
     c.in_ok-draft_object.ensures.done
     (subst (λ (t : Bool).
     Relinks (g.F.Files.state c.draft_object.new.files) (g.F.Files.state c.relink_where.new.files) t c.args.directory.value

@@ -18,7 +18,7 @@ returns-clause-done g c =
     on_ok_weaker c.take_name.result
     (drop_drafted (g.F.Files.state c.args.files.now) (g.F.Files.state c.lose_link.new.files) (g.F.Files.state c.relink_where.new.files)
     (g.F.Files.state c.take_name.new.files) c.args.directory.value c.args.entry c.args.is_open c.args.name.now
-    c.lose_link.ensures.redrafts c.relink_where.ensures.redrafts c.take_name.ensures.redrafts c.in_ok-lose_link.ensures.done
+    c.lose_link.ensures.only.redrafts c.relink_where.ensures.redrafts c.take_name.ensures.only.redrafts c.in_ok-lose_link.ensures.done
     (subst
     (λ (t : Bool). Relinks (g.F.Files.state c.lose_link.new.files) (g.F.Files.state c.relink_where.new.files) t c.args.directory.value
     c.args.entry.holder (holder_without c.args.entry).links) c.is_directory-loses.ensures.value
@@ -36,7 +36,7 @@ returns-clause-counted g c =
     on_ok_weaker c.take_name.result
     (drop_counted (g.F.Files.state c.args.files.now) (g.F.Files.state c.lose_link.new.files) (g.F.Files.state c.relink_where.new.files)
     (g.F.Files.state c.take_name.new.files) c.args.directory.value c.args.entry c.args.is_open c.args.name.now
-    c.lose_link.ensures.redrafts c.relink_where.ensures.redrafts c.take_name.ensures.redrafts c.in_ok-lose_link.ensures.done
+    c.lose_link.ensures.only.redrafts c.relink_where.ensures.redrafts c.take_name.ensures.only.redrafts c.in_ok-lose_link.ensures.done
     (subst
     (λ (t : Bool). Relinks (g.F.Files.state c.lose_link.new.files) (g.F.Files.state c.relink_where.new.files) t c.args.directory.value
     c.args.entry.holder (holder_without c.args.entry).links) c.is_directory-loses.ensures.value
@@ -53,7 +53,7 @@ returns-clause-failed g c =
     IfErr-weaker c.take_name.result _ _
     (drop_fails (g.F.Files.state c.args.files.now) (g.F.Files.state c.lose_link.new.files) (g.F.Files.state c.relink_where.new.files)
     (g.F.Files.state c.take_name.new.files) c.args.directory.value c.args.entry c.args.is_open c.args.name.now
-    c.lose_link.ensures.redrafts c.relink_where.ensures.redrafts c.take_name.ensures.redrafts c.in_ok-lose_link.ensures.done
+    c.lose_link.ensures.only.redrafts c.relink_where.ensures.redrafts c.take_name.ensures.only.redrafts c.in_ok-lose_link.ensures.done
     (subst
     (λ (t : Bool). Relinks (g.F.Files.state c.lose_link.new.files) (g.F.Files.state c.relink_where.new.files) t c.args.directory.value
     c.args.entry.holder (holder_without c.args.entry).links) c.is_directory-loses.ensures.value

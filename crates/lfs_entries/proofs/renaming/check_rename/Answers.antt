@@ -16,9 +16,10 @@ returns-in_err-target-clause-refused g c =
     let a = g.F.Files.state c.find_source.new.files in
     let b = g.F.Files.state c.find_target.new.files in
     of_second c.in_ok-source.source
-    (source_still s a b c.in_ok-source.ensures.reads c.in_err-target.ensures.reads c.args.directory.value c.args.from.name.now
+    (source_still s a b c.in_ok-source.ensures.only.reads c.in_err-target.ensures.only.reads c.args.directory.value c.args.from.name.now
     c.args.from.slash c.in_ok-source.source c.in_ok-source.ensures.found)
-    (next_behind s a b c.in_ok-source.ensures.reads c.in_err-target.ensures.reads (here c.args.chain) c.args.to.name.now c.args.to.slash
+    (next_behind s a b c.in_ok-source.ensures.only.reads c.in_err-target.ensures.only.reads
+    (here c.args.chain) c.args.to.name.now c.args.to.slash
     c.in_ok-source.source.object.header.kind c.in_err-target.field-0.0
     (subst (λ (d : ℕ). RefusesNext a b d c.args.to.name.now c.args.to.slash c.in_ok-source.source.object.header.kind
     c.in_err-target.field-0.0) c.directory.ensures.value c.in_err-target.ensures.refused)))
@@ -29,10 +30,10 @@ returns-then-has_two_forms-clause-refused g c =
     let two = c.has_two_forms.ensures.two c.if-has_two_forms.true in
     of_second c.in_ok-source.source
     (source_still (g.F.Files.state c.args.files.now) (g.F.Files.state c.find_source.new.files) (g.F.Files.state c.find_target.new.files)
-    c.in_ok-source.ensures.reads c.in_ok-target.ensures.reads c.args.directory.value c.args.from.name.now c.args.from.slash
+    c.in_ok-source.ensures.only.reads c.in_ok-target.ensures.only.reads c.args.directory.value c.args.from.name.now c.args.from.slash
     c.in_ok-source.source c.in_ok-source.ensures.found)
     (λ may. never_two (g.F.Files.state c.args.files.now) (g.F.Files.state c.find_source.new.files) (g.F.Files.state c.find_target.new.files)
-    c.in_ok-source.ensures.reads c.in_ok-target.ensures.reads c.args.directory.value c.args.from.name.now c.args.from.slash
+    c.in_ok-source.ensures.only.reads c.in_ok-target.ensures.only.reads c.args.directory.value c.args.from.name.now c.args.from.slash
     (here c.args.chain) c.args.to.name.now c.args.to.slash c.in_ok-source.source c.in_ok-target.target c.in_ok-source.ensures.found
     (subst (λ (d : ℕ). FindsTarget (g.F.Files.state c.find_source.new.files) (g.F.Files.state c.find_target.new.files) d c.args.to.name.now
     c.args.to.slash c.in_ok-source.source.object.header.kind c.in_ok-target.target) c.directory.ensures.value
@@ -43,7 +44,7 @@ returns-then-is_object-clause-taken g c = record {
   source = c.in_ok-source.source;
   target = c.in_ok-target.target;
   both = both_found (g.F.Files.state c.args.files.now) (g.F.Files.state c.find_source.new.files) (g.F.Files.state c.find_target.new.files)
-      c.in_ok-source.ensures.reads c.in_ok-target.ensures.reads c.args.directory.value c.args.from.name.now c.args.from.slash
+      c.in_ok-source.ensures.only.reads c.in_ok-target.ensures.only.reads c.args.directory.value c.args.from.name.now c.args.from.slash
       (here c.args.chain) c.args.to.name.now c.args.to.slash c.in_ok-source.source c.in_ok-target.target c.in_ok-source.ensures.found
       (subst
       (λ (d : ℕ). FindsTarget (g.F.Files.state c.find_source.new.files) (g.F.Files.state c.find_target.new.files) d c.args.to.name.now
@@ -56,7 +57,7 @@ pub returns-then-stands_in-clause-refused : goal.returns-then-stands_in-clause-r
 returns-then-stands_in-clause-refused g c =
     of_within c.in_ok-source.source c.in_ok-target.target
     (both_found (g.F.Files.state c.args.files.now) (g.F.Files.state c.find_source.new.files) (g.F.Files.state c.find_target.new.files)
-    c.in_ok-source.ensures.reads c.in_ok-target.ensures.reads c.args.directory.value c.args.from.name.now c.args.from.slash
+    c.in_ok-source.ensures.only.reads c.in_ok-target.ensures.only.reads c.args.directory.value c.args.from.name.now c.args.from.slash
     (here c.args.chain) c.args.to.name.now c.args.to.slash c.in_ok-source.source c.in_ok-target.target c.in_ok-source.ensures.found
     (subst (λ (d : ℕ). FindsTarget (g.F.Files.state c.find_source.new.files) (g.F.Files.state c.find_target.new.files) d c.args.to.name.now
     c.args.to.slash c.in_ok-source.source.object.header.kind c.in_ok-target.target) c.directory.ensures.value
@@ -68,7 +69,7 @@ returns-in_err-check_target-clause-refused g c =
     let p = err_from_is_err_and c.from_residual-in_err-check_target.result c.from_residual-in_err-check_target.ensures.1 in rw (p.1, p.2)
     (of_target c.in_ok-source.source c.in_ok-target.target
     (both_found (g.F.Files.state c.args.files.now) (g.F.Files.state c.find_source.new.files) (g.F.Files.state c.find_target.new.files)
-    c.in_ok-source.ensures.reads c.in_ok-target.ensures.reads c.args.directory.value c.args.from.name.now c.args.from.slash
+    c.in_ok-source.ensures.only.reads c.in_ok-target.ensures.only.reads c.args.directory.value c.args.from.name.now c.args.from.slash
     (here c.args.chain) c.args.to.name.now c.args.to.slash c.in_ok-source.source c.in_ok-target.target c.in_ok-source.ensures.found
     (subst (λ (d : ℕ). FindsTarget (g.F.Files.state c.find_source.new.files) (g.F.Files.state c.find_target.new.files) d c.args.to.name.now
     c.args.to.slash c.in_ok-source.source.object.header.kind c.in_ok-target.target) c.directory.ensures.value
@@ -79,7 +80,7 @@ returns-in_err-check_target-clause-refused g c =
 pub returns-clause-taken : goal.returns-clause-taken
 returns-clause-taken g c = record {
   both = both_found (g.F.Files.state c.args.files.now) (g.F.Files.state c.find_source.new.files) (g.F.Files.state c.find_target.new.files)
-      c.in_ok-source.ensures.reads c.in_ok-target.ensures.reads c.args.directory.value c.args.from.name.now c.args.from.slash
+      c.in_ok-source.ensures.only.reads c.in_ok-target.ensures.only.reads c.args.directory.value c.args.from.name.now c.args.from.slash
       (here c.args.chain) c.args.to.name.now c.args.to.slash c.in_ok-source.source c.in_ok-target.target c.in_ok-source.ensures.found
       (subst
       (λ (d : ℕ). FindsTarget (g.F.Files.state c.find_source.new.files) (g.F.Files.state c.find_target.new.files) d c.args.to.name.now

@@ -1,3 +1,4 @@
+use Rattle.std.proofs.lemmas.Result.{err_from_is_err_and}
 use Rattle.std.proofs.Common.{rules, ℕ, inl, inr, refl, sym, subst, add-one, arith}
 use Rattle.lfs_fs.specs.Seen.{seen}
 use Rattle.lfs_put.specs.Changing.{PassesOn}
@@ -9,7 +10,7 @@ loop-init g c = refl
 pub loop-preserved : goal.loop-preserved
 loop-preserved g c =
     subst (λ (n : ℕ). PassesOn g.D.SectorDevice.state n (seen c.args.fs.now) (seen c.clean_once.new.self)) (sym (add-one c.loop.counter))
-    (seen c.loop.fs, c.loop.invariant, c.in-Ok.ensures.serves, c.in-Ok.ensures.once)
+    (seen c.loop.fs, c.loop.invariant, c.in_ok-clean_once.ensures.serves, c.in_ok-clean_once.ensures.once)
 
 pub returns-then-not-is_cleaning_due : goal.returns-then-not-is_cleaning_due
 returns-then-not-is_cleaning_due g c =
@@ -22,16 +23,17 @@ returns-then-not-is_cleaning_due g c =
       ends = (refl, inr (c.is_cleaning_due.ensures.quarter (search rules)));
     }
 
-pub returns-in-Err : goal.returns-in-Err
-returns-in-Err g c =
-    let lt = c.loop-test.true in
+pub returns-in_err-clean_once : goal.returns-in_err-clean_once
+returns-in_err-clean_once g c =
+    let p = err_from_is_err_and c.from_residual.result c.from_residual.ensures.1 in rw (p.1, p.2)
+    (let lt = c.loop-test.true in
     record {
       count = c.loop.counter;
       mid = seen c.loop.fs;
       few = omega (arith, lt);
       passes = c.loop.invariant;
-      ends = (lt, c.in-Err.ensures.serves);
-    }
+      ends = (lt, c.in_err-clean_once.ensures.serves);
+    })
 
 pub returns : goal.returns
 returns g c =

@@ -1,3 +1,4 @@
+use Rattle.std.proofs.lemmas.Result.{err_from_is_err_and}
 use Rattle.std.proofs.Common.{◌≡◌, length, take, arith, rules}
 use Rattle.lfs_fs.specs.Refusals.{refusal_of}
 use Rattle.lfs_put.proofs.PutCalls.{copy_ends, copy_refused, copying_more}
@@ -13,11 +14,12 @@ returns-in_default-checked_add g c =
     copy_ends g.D.SectorDevice.state _ _ c.args.handle (g.I.Read.remaining c.args.input.now) (g.I.Read.remaining c.loop.input)
     (g.I.Read.remaining c.read.new.self) c.loop.offset _ c.loop.invariant.1
 
-pub returns-in-Err : goal.returns-in-Err
-returns-in-Err g c =
-    copy_refused g.D.SectorDevice.state _ _ _ c.args.handle (g.I.Read.remaining c.args.input.now) (g.I.Read.remaining c.loop.input)
+pub returns-in_err-pwrite : goal.returns-in_err-pwrite
+returns-in_err-pwrite g c =
+    let p = err_from_is_err_and c.from_residual.result c.from_residual.ensures.1 in rw (p.1, p.2)
+    (copy_refused g.D.SectorDevice.state _ _ _ c.args.handle (g.I.Read.remaining c.args.input.now) (g.I.Read.remaining c.loop.input)
     (g.I.Read.remaining c.read.new.self) c.loop.offset _
-    (refusal_of c.in-Err.fault) _ c.loop.invariant.1 c.in-Err.ensures
+    (refusal_of c.in_err-pwrite.field-0.0) _ c.loop.invariant.1 c.in_err-pwrite.ensures)
 
 pub loop-preserved : goal.loop-preserved
 loop-preserved g c =
@@ -26,7 +28,7 @@ loop-preserved g c =
       search rules,
       copying_more g.D.SectorDevice.state _ _ _ c.args.handle (g.I.Read.remaining c.args.input.now) (g.I.Read.remaining c.loop.input)
           (g.I.Read.remaining c.read.new.self) c.loop.offset
-          (take c.in-Ok.count c.read.new.buf) _ c.in-Some.end c.loop.invariant.1 c.in-Ok.ensures.bytes.0 c.in-Ok-pwrite.ensures
+          (take c.in-Ok.count c.read.new.buf) _ c.in-Some.end c.loop.invariant.1 c.in-Ok.ensures.bytes.0 c.in_ok-pwrite.ensures
           (omega (arith, some, sum)),
     )
 

@@ -1,19 +1,22 @@
-use Rattle.lfs_put.proofs.PutCalls.{makes_of, not_made, not_renamed, renames_of, replaced}
+use Rattle.std.proofs.lemmas.Result.{err_from_is_err_and}
+use Rattle.lfs_put.proofs.PutCalls.{not_made, not_renamed, replaced}
 use Rattle.lfs_put.proofs.putting.replace.Goals as goal
 
-pub returns-in-Err : goal.returns-in-Err
-returns-in-Err g c =
-    not_made g.D.SectorDevice.state _ _ c.args.unfinished.now c.args.path.now _ _ _
-    (makes_of g.D.SectorDevice.state _ _ c.args.unfinished.now _ _ _ _ c.in-Err.is c.make_file.ensures)
+pub returns-in_err-count : goal.returns-in_err-count
+returns-in_err-count g c =
+    let p = err_from_is_err_and c.from_residual.result c.from_residual.ensures.1 in rw (p.1, p.2)
+    (not_made g.D.SectorDevice.state _ _ c.args.unfinished.now c.args.path.now _ _ _
+    c.in_err-count.ensures)
 
-pub returns-in-Ok-rename_file : goal.returns-in-Ok-rename_file
-returns-in-Ok-rename_file g c =
-    replaced g.D.SectorDevice.state _ _ _ c.args.unfinished.now c.args.path.now _ _ c.in-Ok.count c.in-Ok-rename_file.field-0
-    (makes_of g.D.SectorDevice.state _ _ c.args.unfinished.now _ _ _ _ c.in-Ok.is c.make_file.ensures)
-    (renames_of g.D.SectorDevice.state _ _ c.args.unfinished.now c.args.path.now _ _ c.in-Ok-rename_file.is c.rename_file.ensures)
+pub returns : goal.returns
+returns g c =
+    replaced g.D.SectorDevice.state _ _ _ c.args.unfinished.now c.args.path.now _ _ c.in_ok-count.count tt
+    c.in_ok-count.ensures
+    c.in_ok-rename_file.ensures
 
-pub returns-in-Err-rename_file : goal.returns-in-Err-rename_file
-returns-in-Err-rename_file g c =
-    not_renamed g.D.SectorDevice.state _ _ _ c.args.unfinished.now c.args.path.now _ _ c.in-Ok.count _
-    (makes_of g.D.SectorDevice.state _ _ c.args.unfinished.now _ _ _ _ c.in-Ok.is c.make_file.ensures)
-    (renames_of g.D.SectorDevice.state _ _ c.args.unfinished.now c.args.path.now _ _ c.in-Err-rename_file.is c.rename_file.ensures)
+pub returns-in_err-rename_file : goal.returns-in_err-rename_file
+returns-in_err-rename_file g c =
+    let p = err_from_is_err_and c.from_residual-in_err-rename_file.result c.from_residual-in_err-rename_file.ensures.1 in rw (p.1, p.2)
+    (not_renamed g.D.SectorDevice.state _ _ _ c.args.unfinished.now c.args.path.now _ _ c.in_ok-count.count _
+    c.in_ok-count.ensures
+    c.in_err-rename_file.ensures)

@@ -1,12 +1,13 @@
 use Rattle.lfs_model.specs.Script.{word_byte}
-use Rattle.lfs_script.proofs.Pieces.{on_err}
+use Rattle.lfs_script.proofs.Pieces.{puts_some}
 use Rattle.lfs_script.proofs.PieceTexts.{pieces-more}
 use Rattle.lfs_script.proofs.Spellings.{some_of_word}
 use Rattle.lfs_script.proofs.escape.put_escaped.Goals as goal
 
-pub returns-in_err-put_byte-clause-err : goal.returns-in_err-put_byte-clause-err
-returns-in_err-put_byte-clause-err g c =
-    on_err _ _ (some_of_word _ _ _ c.args.bytes.now c.loop-byte.byte-index c.loop-byte-test.true c.loop-byte.invariant
+pub returns-in_err-put_byte : goal.returns-in_err-put_byte
+returns-in_err-put_byte g c =
+    puts_some _ _ _ _ _ c.from_residual.ensures.1
+    (some_of_word _ _ _ c.args.bytes.now c.loop-byte.byte-index c.loop-byte-test.true c.loop-byte.invariant
     c.in_err-put_byte.ensures.err)
 
 pub loop-byte-preserved : goal.loop-byte-preserved

@@ -1,89 +1,107 @@
-use Rattle.lfs_fs.proofs.new_entries.Refusals.{entry_refused, handle_allowed, handle_refused, no_piece_ends, number_refused}
-use Rattle.lfs_fs.proofs.new_entries.Outcomes.{create_made, create_unmade}
-use Rattle.lfs_fs.proofs.new_entries.Steps.{create_call}
-use Rattle.lfs_fs.proofs.paths.Steps.{create_refused}
-use Rattle.lfs_fs.proofs.paths.Places.{nowhere_serves, ready_after}
-use Rattle.lfs_fs.specs.Seen.{seen}
-use Rattle.lfs_fs.specs.Volume.{segments_of}
-use Rattle.lfs_model.specs.Call.{Create}
-use Rattle.std.proofs.Common.{Some, None, refl}
-use Rattle.std.proofs.Common.{arith}
+use Rattle.std.proofs.Common.{false, refl, sym, ◌∙◌, ap, subst, arith, ◌≤◌}
 use Rattle.std.proofs.lemmas.Result.{err_from_is_err_and}
+use Rattle.std.specs.Ordering.{nat_cmp}
+use Rattle.std.specs.FinMap.{put}
+use Rattle.lfs_model.specs.Call.{Create, Handle}
+use Rattle.lfs_model.specs.Tree.{Handles, least_handle}
+use Rattle.lfs_store.proofs.of_memory.Going.{ok_then}
+use Rattle.lfs_fs.specs.Volume.{segments_of}
+use Rattle.lfs_fs.specs.Seen.{seen}
+use Rattle.lfs_fs.proofs.calls.AnyDevice.{makes_behaves}
+use Rattle.lfs_fs.proofs.calls.Checks.{at_most, not_at_most}
+use Rattle.lfs_fs.proofs.calls.Files.{takes_draft}
+use Rattle.lfs_fs.proofs.paths.Steps.{create_refused}
+use Rattle.lfs_fs.proofs.new_entries.Drafts.{entry_opens, entry_turned}
+use Rattle.lfs_fs.proofs.new_entries.Ends.{bytes_of}
+use Rattle.lfs_fs.proofs.new_entries.Outcomes.{entry_refused, number_refused, own_refused}
+use Rattle.lfs_fs.proofs.new_entries.Rule.{read, unreached}
+use Rattle.lfs_fs.proofs.new_entries.Steps.{checks_new, create_call}
 use Rattle.lfs_fs.proofs.fs.Fs.create.Goals as goal
 
 -- the path is refused, or has no piece
 pub returns-in_err-directory : goal.returns-in_err-directory
 returns-in_err-directory g c =
     let p = err_from_is_err_and c.from_residual.result c.from_residual.ensures.1 in rw (p.1, p.2)
-    (nowhere_serves g.D.SectorDevice.state g.met.D.SectorDevice.lawful c.args.self.now c.begin_at.new.self c.args.path.now
+    (unreached g.D.SectorDevice.state g.met.D.SectorDevice.lawful c.args.self.now c.begin_at.new.self c.args.path.now
     (Create c.args.path.now) refl refl refl
-    (λ k m0 m s keeps is r w. create_refused (segments_of (seen c.args.self.now)) s c.args.path.now r w) _ c.in_err-directory.field-0.0
-    c.in_err-directory.ensures.refused
-    (λ d reached running. no_piece_ends g.D.SectorDevice.state g.met.D.SectorDevice.lawful
-    (seen c.args.self.now) c.begin_at.new.self c.args.path.now d (create_call
-    c.args.self.now.store.log.version (segments_of (seen c.args.self.now)) c.args.path.now d reached.bytes) None reached running refl))
+    (λ k m0 m s keeps is r w. create_refused (segments_of (seen c.args.self.now)) s c.args.path.now r w) false
+    (λ s d walk. checks_new (create_call _ _ _ d (bytes_of c.args.path.now c.type_inv.path)) s refl walk)
+    c.in_err-directory.field-0.0 c.in_err-directory.ensures.refused)
 
-pub returns-in_err-header : goal.returns-in_err-header
-returns-in_err-header g c =
-    let begun = c.in_ok-directory.ensures.begun in
-    let p = err_from_is_err_and c.from_residual-in_err-header.result c.from_residual-in_err-header.ensures.1 in rw (p.1, p.2)
-    (entry_refused g.D.SectorDevice.state g.met.D.SectorDevice.lawful (seen c.args.self.now) c.begin_at.new.self c.args.path.now
-    c.in_ok-directory.directory.value
-    (create_call c.args.self.now.store.log.version (segments_of (seen c.args.self.now)) c.args.path.now c.in_ok-directory.directory.value
-    begun.reached.bytes) (Some c.in_ok-directory.last) begun.reached begun.ready.running
-    c.in_ok-directory.last refl c.check_new_entry.new.self
-    c.in_err-header.ensures.reads c.in_err-header.field-0.0 c.in_err-header.ensures.refused)
+pub returns-in_err-holder : goal.returns-in_err-holder
+returns-in_err-holder g c =
+    let begins = c.in_ok-directory.ensures.begun in
+    let p = err_from_is_err_and c.from_residual-in_err-holder.result c.from_residual-in_err-holder.ensures.1 in rw (p.1, p.2)
+    (entry_refused g.D.SectorDevice.state g.met.D.SectorDevice.lawful begins (create_call _ _ _ _ begins.reached.bytes)
+    c.check_new_entry.new.files c.in_err-holder.field-0.0 c.in_err-holder.ensures)
 
 -- no handle is free
 pub returns-in_default : goal.returns-in_default
 returns-in_default g c =
-    let begun = c.in_ok-directory.ensures.begun in
-    handle_refused g.D.SectorDevice.state g.met.D.SectorDevice.lawful (seen c.args.self.now) c.begin_at.new.self c.args.path.now
-    c.in_ok-directory.directory.value (Some c.in_ok-directory.last) begun.reached
-    begun.ready.running c.in_ok-directory.last refl c.check_new_entry.new.self
-    c.in_ok-header.ensures.reads c.in_ok-header.header c.in_ok-header.ensures.taken c.in_default.ensures.full
+    let begins = c.in_ok-directory.ensures.begun in
+    let rule = c.in_ok-holder.ensures in
+    own_refused g.D.SectorDevice.state g.met.D.SectorDevice.lawful begins (create_call _ _ _ _ begins.reached.bytes)
+    c.check_new_entry.new.files c.in_ok-holder.holder rule tt
+    (λ s handles are.
+    at_most 64 _ (subst (λ (t : Handles). 64 ≤ least_handle t) (sym handles) c.in_default.ensures.full))
 
 -- no number is free
 pub returns-in_default-least_free : goal.returns-in_default-least_free
 returns-in_default-least_free g c =
-    let begun = c.in_ok-directory.ensures.begun in
+    let begins = c.in_ok-directory.ensures.begun in
+    let rule = c.in_ok-holder.ensures in
     let first = c.in-Some.ensures.first in
-    let found = c.in-Some.ensures.within in
-    number_refused g.D.SectorDevice.state g.met.D.SectorDevice.lawful (seen c.args.self.now) c.begin_at.new.self c.args.path.now
-    c.in_ok-directory.directory.value
-    (create_call c.args.self.now.store.log.version (segments_of (seen c.args.self.now)) c.args.path.now c.in_ok-directory.directory.value
-    begun.reached.bytes) (Some c.in_ok-directory.last) begun.reached begun.ready.running
-    c.in_ok-directory.last refl c.check_new_entry.new.self
-    c.in_ok-header.ensures.reads c.in_ok-header.header c.in_ok-header.ensures.taken
-    (handle_allowed g.D.SectorDevice.state g.met.D.SectorDevice.lawful (seen c.args.self.now) c.begin_at.new.self c.args.path.now
-    c.in_ok-directory.directory.value (Some c.in_ok-directory.last) begun.reached
-    begun.ready.running c.in_ok-directory.last refl c.check_new_entry.new.self
-    c.in_ok-header.ensures.reads c.in_ok-header.header c.in_ok-header.ensures.taken (omega (arith, first, found)))
+    let within = c.in-Some.ensures.within in
+    number_refused g.D.SectorDevice.state g.met.D.SectorDevice.lawful begins (create_call _ _ _ _ begins.reached.bytes)
+    c.check_new_entry.new.files c.in_ok-holder.holder rule
+    (λ s handles are. (let is = ap least_handle handles ∙ first in not_at_most 64 _ (omega (arith, is, within))))
     c.in_default-least_free.ensures.none
 
-pub returns-in_err-make_entry : goal.returns-in_err-make_entry
-returns-in_err-make_entry g c =
-    let begun = c.in_ok-directory.ensures.begun in
-    let p = err_from_is_err_and c.from_residual-in_err-make_entry.result c.from_residual-in_err-make_entry.ensures.1 in rw (p.1, p.2)
-    (create_unmade g.D.SectorDevice.state g.met.D.SectorDevice.lawful (seen c.args.self.now) c.begin_at.new.self c.check_new_entry.new.self
-    c.args.path.now
-    c.in_ok-directory.directory.value (Some c.in_ok-directory.last) begun.reached begun.ready.running c.in_ok-directory.last refl
-    c.in_ok-header.ensures.reads c.in_ok-header.header c.in_ok-header.ensures.taken c.in-Some.handle
-    c.in-Some.ensures.within
-    c.in-Some.ensures.first c.in-Some-least_free.file.value c.in-Some-least_free.ensures.some
-    c.make_entry.new.self c.in_err-make_entry.field-0.0 c.in_err-make_entry.ensures.refused)
+pub finish-requires-clause-room : goal.finish-requires-clause-room
+finish-requires-clause-room g c =
+    let begins = c.in_ok-directory.ensures.begun in
+    let draft = c.draft_entry-drafted.ensures in
+    ok_then c.draft_entry-drafted.result _ _
+    (takes_draft g.D.SectorDevice.state g.met.D.SectorDevice.lawful (seen c.args.self.now) _
+    (read g.D.SectorDevice.state g.met.D.SectorDevice.lawful begins c.check_new_entry.new.files c.in_ok-holder.ensures.only.reads)
+    c.draft_entry-drafted.new.files draft.only.redrafts 4 4 (omega arith)) draft.small
+
+pub returns-in_err-finish : goal.returns-in_err-finish
+returns-in_err-finish g c =
+    let state = g.D.SectorDevice.state in
+    let lawful = g.met.D.SectorDevice.lawful in
+    let begins = c.in_ok-directory.ensures.begun in
+    let rule = c.in_ok-holder.ensures in
+    let store = c.check_new_entry.new.files in
+    let draft = c.draft_entry-drafted.ensures in
+    let create = create_call _ _ _ _ begins.reached.bytes in
+    let first = c.in-Some.ensures.first in
+    let within = c.in-Some.ensures.within in
+    let p = err_from_is_err_and c.from_residual-in_err-finish.result c.from_residual-in_err-finish.ensures.1 in rw (p.1, p.2)
+    (entry_turned state lawful begins create store c.in_ok-holder.holder rule (λ on. cc) c.in-Some-least_free.file.value
+    c.in-Some-least_free.ensures.some
+    (λ s handles are. (let is = ap least_handle handles ∙ first in not_at_most 64 _ (omega (arith, is, within))))
+    c.draft_entry-drafted.new.files draft.only.redrafts c.finish.new.self c.in_err-finish.ensures.rest c.draft_entry-drafted.result draft
+    c.in_err-finish.field-0.0 c.in_err-finish.ensures.ends)
 
 pub returns : goal.returns
 returns g c =
-    let begun = c.in_ok-directory.ensures.begun in
-    create_made g.D.SectorDevice.state g.met.D.SectorDevice.lawful (seen c.args.self.now) c.begin_at.new.self c.check_new_entry.new.self
-    c.args.path.now c.in_ok-directory.directory.value
-    (Some c.in_ok-directory.last) begun.reached begun.ready.running c.in_ok-directory.last refl
-    c.in_ok-header.ensures.reads c.in_ok-header.header c.in_ok-header.ensures.taken c.in-Some.handle
-    c.in-Some.ensures.within
-    c.in-Some.ensures.first c.in-Some-least_free.file.value c.in-Some-least_free.ensures.some
-    c.make_entry.new.self c.in_ok-make_entry.ensures.made c.open.new.self c.open.ensures
-
-pub make_entry-requires-clause-ready : goal.make_entry-requires-clause-ready
-make_entry-requires-clause-ready g c =
-    ready_after g.D.SectorDevice.state _ _ c.in_ok-directory.ensures.begun.ready c.in_ok-header.ensures.reads
+    let state = g.D.SectorDevice.state in
+    let lawful = g.met.D.SectorDevice.lawful in
+    let begins = c.in_ok-directory.ensures.begun in
+    let rule = c.in_ok-holder.ensures in
+    let store = c.check_new_entry.new.files in
+    let draft = c.draft_entry-drafted.ensures in
+    let create = create_call _ _ _ _ begins.reached.bytes in
+    let first = c.in-Some.ensures.first in
+    let within = c.in-Some.ensures.within in
+    let rest = c.in_ok-finish.ensures.rest in
+    entry_opens state lawful begins create store c.in_ok-holder.holder rule (λ on. cc) c.in-Some-least_free.file.value
+    c.in-Some-least_free.ensures.some
+    (λ s handles are. (let is = ap least_handle handles ∙ first in not_at_most 64 _ (omega (arith, is, within))))
+    c.draft_entry-drafted.new.files draft.only.redrafts c.finish.new.self rest (Handle c.in-Some.handle) refl c.open.new.self
+    (λ s handles are least.
+    let is = ap least_handle handles ∙ first in
+    (ap Handle is, (λ i. put nat_cmp (is i) (least i) ((handles ∙ sym rest) i)) ∙ sym c.open.ensures))
+    (makes_behaves state _ _ (Create c.args.path.now) (Handle c.in-Some.handle) refl refl refl)
+    c.draft_entry-drafted.result draft tt c.in_ok-finish.ensures.ends

@@ -1,23 +1,28 @@
+use Rattle.std.proofs.lemmas.Result.{err_from_is_err_and}
 use Rattle.lfs_fs.specs.Seen.{seen}
 use Rattle.lfs_fs.proofs.open_files.Closes.{fsync_serves, fsync_unopened}
 use Rattle.lfs_fs.proofs.write.Exits.{begun, halted_begin, still_running}
 use Rattle.lfs_fs.proofs.fs.Fs.fsync.Goals as goal
 
-pub returns-in-Err : goal.returns-in-Err
-returns-in-Err g c =
-    halted_begin g.D.SectorDevice.state g.met.D.SectorDevice.lawful c.args.self.now c.begin.new.self _ c.in-Err.fault c.in-Err.ensures.same
-    c.in-Err.ensures.halted c.in-Err.ensures.fault
+pub returns-in_err-begin : goal.returns-in_err-begin
+returns-in_err-begin g c =
+    let p = err_from_is_err_and c.from_residual.result c.from_residual.ensures.1 in rw (p.1, p.2)
+    (halted_begin g.D.SectorDevice.state g.met.D.SectorDevice.lawful c.args.self.now c.begin.new.self _ c.in_err-begin.field-0.0
+    c.in_err-begin.ensures.same
+    c.in_err-begin.ensures.halted c.in_err-begin.ensures.fault)
 
-pub returns-in-Err-file : goal.returns-in-Err-file
-returns-in-Err-file g c =
-    begun g.D.SectorDevice.state g.met.D.SectorDevice.lawful c.args.self.now c.begin.new.self c.begin.new.self _ _ c.in-Ok.ensures.done
+pub returns-in_err-file : goal.returns-in_err-file
+returns-in_err-file g c =
+    let p = err_from_is_err_and c.from_residual-in_err-file.result c.from_residual-in_err-file.ensures.1 in rw (p.1, p.2)
+    (begun g.D.SectorDevice.state g.met.D.SectorDevice.lawful c.args.self.now c.begin.new.self c.begin.new.self _ _
+    c.in_ok-begin.ensures.done
     (fsync_unopened g.D.SectorDevice.state g.met.D.SectorDevice.lawful (seen c.begin.new.self)
-    (still_running g.D.SectorDevice.state g.met.D.SectorDevice.lawful c.args.self.now c.begin.new.self c.in-Ok.ensures.done)
-    c.args.handle c.in-Err-file.fault c.in-Err-file.ensures.missing)
+    (still_running g.D.SectorDevice.state g.met.D.SectorDevice.lawful c.args.self.now c.begin.new.self c.in_ok-begin.ensures.done)
+    c.args.handle c.in_err-file.field-0.0 c.in_err-file.ensures.missing))
 
 pub returns : goal.returns
 returns g c =
-    begun g.D.SectorDevice.state g.met.D.SectorDevice.lawful c.args.self.now c.begin.new.self c.sync.new.self _ _ c.in-Ok.ensures.done
+    begun g.D.SectorDevice.state g.met.D.SectorDevice.lawful c.args.self.now c.begin.new.self c.sync.new.self _ _ c.in_ok-begin.ensures.done
     (fsync_serves g.D.SectorDevice.state (seen c.begin.new.self) (seen c.sync.new.self)
-    (still_running g.D.SectorDevice.state g.met.D.SectorDevice.lawful c.args.self.now c.begin.new.self c.in-Ok.ensures.done)
-    c.args.handle c.in-Ok-file.field-0.value c.in-Ok-file.ensures.opens _ c.sync.ensures)
+    (still_running g.D.SectorDevice.state g.met.D.SectorDevice.lawful c.args.self.now c.begin.new.self c.in_ok-begin.ensures.done)
+    c.args.handle c.in_ok-file.field-0.value c.in_ok-file.ensures.opens _ c.sync.ensures)

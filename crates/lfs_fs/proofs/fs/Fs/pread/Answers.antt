@@ -1,9 +1,8 @@
 use Rattle.std.proofs.lemmas.Result.{err_from_is_err_and}
-use Rattle.lfs_model.specs.Call.{Pread, Data, Refuse}
-use Rattle.lfs_model.specs.Refusal.{Inval}
-use Rattle.lfs_fs.specs.Refusals.{refusal_of}
-use Rattle.lfs_fs.specs.Seen.{answer_by, seen}
-use Rattle.lfs_fs.proofs.read.Ends.{begun_running, begun_serves, halted_serves, pread_ends, pread_too_much, pread_without}
+use Rattle.std.proofs.Common.{ap, Err}
+use Rattle.lfs_model.specs.Call.{Pread}
+use Rattle.lfs_fs.proofs.read.Calls.{pread_fails, pread_gives, pread_too_much, pread_without}
+use Rattle.lfs_fs.proofs.read.Ends.{halted_serves}
 use Rattle.lfs_fs.proofs.fs.Fs.pread.Goals as goal
 
 pub returns-in_err-begin : goal.returns-in_err-begin
@@ -17,30 +16,24 @@ returns-in_err-begin g c =
 pub returns-in_err-number : goal.returns-in_err-number
 returns-in_err-number g c =
     let p = err_from_is_err_and c.from_residual-in_err-number.result c.from_residual-in_err-number.ensures.1 in rw (p.1, p.2)
-    (let begun = c.in_ok-begin.ensures.done in
-    begun_serves g.D.SectorDevice.state c.args.self.now c.begin.new.self (seen c.begin.new.self)
-    (Pread c.args.handle c.args.offset c.args.len) (Refuse (refusal_of c.in_err-number.field-0.0)) begun
-    (pread_without g.D.SectorDevice.state c.begin.new.self (g.met.D.SectorDevice.lawful c.begin.new.self.store.log.device)
-    (begun_running g.D.SectorDevice.state c.args.self.now c.begin.new.self begun) c.args.handle c.args.offset
-    c.args.len c.in_err-number.field-0.0 c.in_err-number.ensures.missing))
+    (pread_without g.met.D.SectorDevice.lawful c.in_ok-begin.ensures.done c.in_err-number.field-0.0 c.in_err-number.ensures.missing)
 
 pub returns-then-len-gt-LONGEST_TRANSFER : goal.returns-then-len-gt-LONGEST_TRANSFER
 returns-then-len-gt-LONGEST_TRANSFER g c =
-    let begun = c.in_ok-begin.ensures.done in
-    begun_serves g.D.SectorDevice.state c.args.self.now c.begin.new.self (seen c.begin.new.self)
-    (Pread c.args.handle c.args.offset c.args.len) (Refuse Inval) begun
-    (pread_too_much g.D.SectorDevice.state c.begin.new.self (g.met.D.SectorDevice.lawful c.begin.new.self.store.log.device)
-    (begun_running g.D.SectorDevice.state c.args.self.now c.begin.new.self begun) c.args.handle
-    c.args.offset c.args.len c.in_ok-number.number.value c.in_ok-number.ensures.opens c.if-len-gt-LONGEST_TRANSFER.true)
+    pread_too_much g.met.D.SectorDevice.lawful c.in_ok-begin.ensures.done c.args.handle c.in_ok-number.ensures.opens
+    c.if-len-gt-LONGEST_TRANSFER.true
+
+pub returns-in_err-bytes : goal.returns-in_err-bytes
+returns-in_err-bytes g c =
+    let p = err_from_is_err_and c.from_residual-in_err-bytes.result c.from_residual-in_err-bytes.ensures.1 in rw (p.1, p.2)
+    (let read = c.in_err-bytes.ensures in
+    pread_fails g.met.D.SectorDevice.lawful c.in_ok-begin.ensures.done c.args.handle c.in_ok-number.ensures.opens c.read_object.new.files
+    read.only.reads
+    c.in_err-bytes.field-0.0 (λ e. read.only.halted (ap Err e)) (λ e. read.only.other (ap Err e)) read.failed)
 
 pub returns : goal.returns
 returns g c =
-    let begun = c.in_ok-begin.ensures.done in
-    begun_serves g.D.SectorDevice.state c.args.self.now c.begin.new.self (seen c.read_file.new.self)
-    (Pread c.args.handle c.args.offset c.args.len) (answer_by (λ bytes. Data bytes.items) c.read_file.result) begun
-    (pread_ends g.D.SectorDevice.state c.begin.new.self (g.met.D.SectorDevice.lawful c.begin.new.self.store.log.device)
-    (begun_running g.D.SectorDevice.state c.args.self.now c.begin.new.self begun) c.args.handle
-    c.args.offset c.args.len c.in_ok-number.number.value c.in_ok-number.ensures.opens c.read_file.new.self
-    c.if-len-gt-LONGEST_TRANSFER.false
-    begun.empty c.read_file.ensures.reads c.read_file.result c.read_file.ensures.answer
-    c.read_file.ensures.missing)
+    let read = c.in_ok-bytes.ensures in
+    pread_gives g.met.D.SectorDevice.lawful c.in_ok-begin.ensures.done c.args.handle c.in_ok-number.ensures.opens c.read_object.new.files
+    read.only.reads
+    c.if-len-gt-LONGEST_TRANSFER.false c.in_ok-bytes.bytes.items read.answer

@@ -1,55 +1,47 @@
 use Rattle.std.proofs.lemmas.Result.{err_from_is_err_and}
-use Rattle.std.proofs.Common.{true, ap, refl, Err, map}
-use Rattle.lfs_model.specs.Call.{Entries, Readdir, Refuse}
-use Rattle.lfs_path.specs.Reaching.{EndsResolve}
-use Rattle.lfs_fs.specs.declared.fs.Fs.{Fs}
-use Rattle.lfs_fs.specs.Answers.{entry_of}
-use Rattle.lfs_fs.specs.Refusals.{refusal_of}
-use Rattle.lfs_fs.specs.Seen.{answer_by, seen}
-use Rattle.lfs_fs.proofs.paths.Ends.{path_without, readdir_ends, store_reads}
+use Rattle.std.proofs.Common.{ap, refl, Err}
+use Rattle.lfs_model.specs.Call.{Readdir}
+use Rattle.lfs_fs.proofs.calls.Answers.{looked, unlooked}
 use Rattle.lfs_fs.proofs.paths.Steps.{readdir_refused}
-use Rattle.lfs_fs.proofs.read.Ends.{begun_running, begun_serves, halted_serves}
-use Rattle.lfs_fs.proofs.calls.StoreCalls.{each_drafted, ends_refused, log_reads, same_drafted, same_totals}
+use Rattle.lfs_fs.proofs.read.Calls.{no_directory, readdir_fails, readdir_gives, readdir_quiet}
 use Rattle.lfs_fs.proofs.fs.Fs.readdir.Goals as goal
-
-pub returns-in_err-begin : goal.returns-in_err-begin
-returns-in_err-begin g c =
-    let p = err_from_is_err_and c.from_residual.result c.from_residual.ensures.1 in rw (p.1, p.2)
-    (halted_serves g.D.SectorDevice.state c.args.self.now c.begin.new.self (Readdir c.args.path.now) c.in_err-begin.field-0.0
-    (g.met.D.SectorDevice.lawful c.args.self.now.store.log.device) c.in_err-begin.ensures.same c.in_err-begin.ensures.halted
-    c.in_err-begin.ensures.fault)
-
-pub returns : goal.returns
-returns g c =
-    let state = g.D.SectorDevice.state in
-    let begun = c.in_ok-begin.ensures.done in
-    let walk = c.in_ok-number.ensures in
-    let mid : Fs g.row.D.Denot =
-    record { alloc = c.begin.new.self.alloc; store = c.resolve.new.files; handles = c.begin.new.self.handles } in
-    let first = store_reads state c.begin.new.self mid (log_reads state c.begin.new.self.store c.resolve.new.files walk.reads)
-    walk.reads.draft walk.reads.saved (same_totals state c.begin.new.self.store c.resolve.new.files walk.reads)
-    (same_drafted state c.begin.new.self.store c.resolve.new.files walk.reads) refl in
-    begun_serves state c.args.self.now c.begin.new.self (seen c.entries_at.new.self) (Readdir c.args.path.now)
-    (answer_by (λ entries. Entries (map entry_of entries.items)) c.entries_at.result) begun
-    (readdir_ends state c.begin.new.self mid (g.met.D.SectorDevice.lawful c.begin.new.self.store.log.device)
-    (begun_running state c.args.self.now c.begin.new.self begun) begun.empty first c.args.path.now
-    c.in_ok-number.number.value (each_drafted state c.begin.new.self.store c.resolve.new.files _ walk.answer) c.entries_at.new.self
-    c.entries_at.ensures.reads c.entries_at.result c.entries_at.ensures.answer c.entries_at.ensures.missing)
 
 pub returns-in_err-number : goal.returns-in_err-number
 returns-in_err-number g c =
-    let p = err_from_is_err_and c.from_residual-in_err-number.result c.from_residual-in_err-number.ensures.1 in rw (p.1)
-    (let state = g.D.SectorDevice.state in
-    let begun = c.in_ok-begin.ensures.done in
-    let walk = c.in_err-number.ensures in
-    let mid : Fs g.row.D.Denot =
-    record { alloc = c.begin.new.self.alloc; store = c.resolve.new.files; handles = c.begin.new.self.handles } in
-    let first = store_reads state c.begin.new.self mid (log_reads state c.begin.new.self.store c.resolve.new.files walk.reads)
-    walk.reads.draft walk.reads.saved (same_totals state c.begin.new.self.store c.resolve.new.files walk.reads)
-    (same_drafted state c.begin.new.self.store c.resolve.new.files walk.reads) refl in
-    begun_serves state c.args.self.now c.begin.new.self (seen mid) (Readdir c.args.path.now) (Refuse (refusal_of p.0)) begun
-    (path_without state c.begin.new.self mid (g.met.D.SectorDevice.lawful c.begin.new.self.store.log.device)
-    (begun_running state c.args.self.now c.begin.new.self begun) begun.empty first
-    (EndsResolve c.args.path.now true) (Readdir c.args.path.now) refl refl refl (λ N s r w. readdir_refused N s c.args.path.now r w)
-    c.in_err-number.field-0.0 p.0 p.2 (ends_refused state c.begin.new.self.store c.resolve.new.files
-    (EndsResolve c.args.path.now true) c.in_err-number.field-0.0 walk.refused) (λ e. walk.halted (ap Err e)) (λ e. walk.other (ap Err e))))
+    let p = err_from_is_err_and c.from_residual.result c.from_residual.ensures.1 in rw (p.1, p.2)
+    (c.in_err-number.ensures.refused (Readdir c.args.path.now) refl refl refl (λ N s r w. readdir_refused N s c.args.path.now r w))
+
+pub returns-in_err-header : goal.returns-in_err-header
+returns-in_err-header g c =
+    let p = err_from_is_err_and c.from_residual-in_err-header.result c.from_residual-in_err-header.ensures.1 in rw (p.1, p.2)
+    (let read = c.in_err-header.ensures in
+    unlooked g.met.D.SectorDevice.lawful c.in_ok-number.ensures.found c.header_of.new.files read.reads
+    (readdir_quiet c.args.path.now) c.in_err-header.field-0.0
+    (λ e. read.halted (ap Err e)) (λ e. read.other (ap Err e)) read.failed)
+
+pub returns-in_err-check_directory : goal.returns-in_err-check_directory
+returns-in_err-check_directory g c =
+    let p = err_from_is_err_and c.from_residual-in_err-check_directory.result c.from_residual-in_err-check_directory.ensures.1 in
+    rw (p.1, p.2, c.in_err-check_directory.ensures.fault)
+    (no_directory g.met.D.SectorDevice.lawful
+    (looked g.met.D.SectorDevice.lawful c.in_ok-number.ensures.found c.header_of.new.files c.in_ok-header.ensures.reads
+    c.in_ok-header.header c.in_ok-header.ensures.answer)
+    c.in_err-check_directory.ensures.refused)
+
+pub returns-in_err-entries : goal.returns-in_err-entries
+returns-in_err-entries g c =
+    let p = err_from_is_err_and c.from_residual-in_err-entries.result c.from_residual-in_err-entries.ensures.1 in rw (p.1, p.2)
+    (let list = c.in_err-entries.ensures in
+    readdir_fails g.met.D.SectorDevice.lawful
+    (looked g.met.D.SectorDevice.lawful c.in_ok-number.ensures.found c.header_of.new.files c.in_ok-header.ensures.reads
+    c.in_ok-header.header c.in_ok-header.ensures.answer)
+    c.in_ok-check_directory.ensures.done c.list_entries.new.files list.only.reads
+    c.in_err-entries.field-0.0 (λ e. list.only.halted (ap Err e)) (λ e. list.only.other (ap Err e)) list.failed)
+
+pub returns : goal.returns
+returns g c =
+    let list = c.in_ok-entries.ensures in
+    readdir_gives g.met.D.SectorDevice.lawful
+    (looked g.met.D.SectorDevice.lawful c.in_ok-number.ensures.found c.header_of.new.files c.in_ok-header.ensures.reads
+    c.in_ok-header.header c.in_ok-header.ensures.answer)
+    c.in_ok-check_directory.ensures.done c.list_entries.new.files list.only.reads c.in_ok-entries.entries.items list.answer

@@ -1,54 +1,24 @@
 use Rattle.std.proofs.lemmas.Result.{err_from_is_err_and}
-use Rattle.std.proofs.Common.{false, ap, refl, Err}
-use Rattle.lfs_model.specs.Call.{Readlink, Text, Refuse}
-use Rattle.lfs_path.specs.Reaching.{EndsResolve}
-use Rattle.lfs_fs.specs.declared.fs.Fs.{Fs}
-use Rattle.lfs_fs.specs.Refusals.{refusal_of}
-use Rattle.lfs_fs.specs.Seen.{answer_by, seen}
-use Rattle.lfs_fs.proofs.paths.Ends.{path_without, readlink_ends, store_reads}
+use Rattle.std.proofs.Common.{ap, refl, Err}
+use Rattle.lfs_model.specs.Call.{Readlink}
 use Rattle.lfs_fs.proofs.paths.Steps.{readlink_refused}
-use Rattle.lfs_fs.proofs.read.Ends.{begun_running, begun_serves, halted_serves}
-use Rattle.lfs_fs.proofs.calls.StoreCalls.{each_drafted, ends_refused, log_reads, same_drafted, same_totals}
+use Rattle.lfs_fs.proofs.read.Calls.{readlink_fails, readlink_gives}
 use Rattle.lfs_fs.proofs.fs.Fs.readlink.Goals as goal
-
-pub returns-in_err-begin : goal.returns-in_err-begin
-returns-in_err-begin g c =
-    let p = err_from_is_err_and c.from_residual.result c.from_residual.ensures.1 in rw (p.1, p.2)
-    (halted_serves g.D.SectorDevice.state c.args.self.now c.begin.new.self (Readlink c.args.path.now) c.in_err-begin.field-0.0
-    (g.met.D.SectorDevice.lawful c.args.self.now.store.log.device) c.in_err-begin.ensures.same c.in_err-begin.ensures.halted
-    c.in_err-begin.ensures.fault)
-
-pub returns : goal.returns
-returns g c =
-    let state = g.D.SectorDevice.state in
-    let begun = c.in_ok-begin.ensures.done in
-    let walk = c.in_ok-number.ensures in
-    let mid : Fs g.row.D.Denot =
-    record { alloc = c.begin.new.self.alloc; store = c.resolve.new.files; handles = c.begin.new.self.handles } in
-    let first = store_reads state c.begin.new.self mid (log_reads state c.begin.new.self.store c.resolve.new.files walk.reads)
-    walk.reads.draft walk.reads.saved (same_totals state c.begin.new.self.store c.resolve.new.files walk.reads)
-    (same_drafted state c.begin.new.self.store c.resolve.new.files walk.reads) refl in
-    begun_serves state c.args.self.now c.begin.new.self (seen c.text_of.new.self) (Readlink c.args.path.now)
-    (answer_by (λ text. Text text.items) c.text_of.result) begun
-    (readlink_ends state c.begin.new.self mid (g.met.D.SectorDevice.lawful c.begin.new.self.store.log.device)
-    (begun_running state c.args.self.now c.begin.new.self begun) begun.empty first c.args.path.now
-    c.in_ok-number.number.value (each_drafted state c.begin.new.self.store c.resolve.new.files _ walk.answer) c.text_of.new.self
-    c.text_of.ensures.reads c.text_of.result c.text_of.ensures.answer c.text_of.ensures.missing)
 
 pub returns-in_err-number : goal.returns-in_err-number
 returns-in_err-number g c =
-    let p = err_from_is_err_and c.from_residual-in_err-number.result c.from_residual-in_err-number.ensures.1 in rw (p.1)
-    (let state = g.D.SectorDevice.state in
-    let begun = c.in_ok-begin.ensures.done in
-    let walk = c.in_err-number.ensures in
-    let mid : Fs g.row.D.Denot =
-    record { alloc = c.begin.new.self.alloc; store = c.resolve.new.files; handles = c.begin.new.self.handles } in
-    let first = store_reads state c.begin.new.self mid (log_reads state c.begin.new.self.store c.resolve.new.files walk.reads)
-    walk.reads.draft walk.reads.saved (same_totals state c.begin.new.self.store c.resolve.new.files walk.reads)
-    (same_drafted state c.begin.new.self.store c.resolve.new.files walk.reads) refl in
-    begun_serves state c.args.self.now c.begin.new.self (seen mid) (Readlink c.args.path.now) (Refuse (refusal_of p.0)) begun
-    (path_without state c.begin.new.self mid (g.met.D.SectorDevice.lawful c.begin.new.self.store.log.device)
-    (begun_running state c.args.self.now c.begin.new.self begun) begun.empty first
-    (EndsResolve c.args.path.now false) (Readlink c.args.path.now) refl refl refl (λ N s r w. readlink_refused N s c.args.path.now r w)
-    c.in_err-number.field-0.0 p.0 p.2 (ends_refused state c.begin.new.self.store c.resolve.new.files
-    (EndsResolve c.args.path.now false) c.in_err-number.field-0.0 walk.refused) (λ e. walk.halted (ap Err e)) (λ e. walk.other (ap Err e))))
+    let p = err_from_is_err_and c.from_residual.result c.from_residual.ensures.1 in rw (p.1, p.2)
+    (c.in_err-number.ensures.refused (Readlink c.args.path.now) refl refl refl (λ N s r w. readlink_refused N s c.args.path.now r w))
+
+pub returns-in_err-text : goal.returns-in_err-text
+returns-in_err-text g c =
+    let p = err_from_is_err_and c.from_residual-in_err-text.result c.from_residual-in_err-text.ensures.1 in rw (p.1, p.2)
+    (let read = c.in_err-text.ensures in
+    readlink_fails g.met.D.SectorDevice.lawful c.in_ok-number.ensures.found c.read_link.new.files read.only.reads c.in_err-text.field-0.0
+    (λ e. read.only.halted (ap Err e)) (λ e. read.only.other (ap Err e)) read.refused)
+
+pub returns : goal.returns
+returns g c =
+    let read = c.in_ok-text.ensures in
+    readlink_gives g.met.D.SectorDevice.lawful c.in_ok-number.ensures.found c.read_link.new.files read.only.reads c.in_ok-text.text.items
+    read.answer

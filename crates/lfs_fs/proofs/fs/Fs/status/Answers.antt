@@ -1,60 +1,29 @@
 use Rattle.std.proofs.lemmas.Result.{err_from_is_err_and}
-use Rattle.std.proofs.Common.{ap, refl, Err}
-use Rattle.lfs_model.specs.Call.{Status, Refuse}
-use Rattle.lfs_path.specs.Reaching.{EndsResolve}
-use Rattle.lfs_fs.specs.declared.fs.Fs.{Fs}
-use Rattle.lfs_fs.specs.Answers.{status_of}
+use Rattle.std.proofs.Common.{ap, Err}
 use Rattle.lfs_fs.specs.Reading.{stat_call}
-use Rattle.lfs_fs.specs.Refusals.{refusal_of}
-use Rattle.lfs_fs.specs.Seen.{answer_by, seen}
-use Rattle.lfs_fs.proofs.paths.Ends.{path_without, stat_ends, store_reads}
+use Rattle.lfs_fs.proofs.calls.Answers.{looked, unlooked}
 use Rattle.lfs_fs.proofs.paths.Steps.{stat_cleans, stat_may_fail, stat_memory, stat_refused}
-use Rattle.lfs_fs.proofs.read.Ends.{begun_running, begun_serves, halted_serves}
-use Rattle.lfs_fs.proofs.calls.StoreCalls.{each_drafted, ends_refused, log_reads, same_drafted, same_totals}
+use Rattle.lfs_fs.proofs.read.Calls.{stat_gives, stat_quiet}
 use Rattle.lfs_fs.proofs.fs.Fs.status.Goals as goal
-
-pub returns-in_err-begin : goal.returns-in_err-begin
-returns-in_err-begin g c =
-    let p = err_from_is_err_and c.from_residual.result c.from_residual.ensures.1 in rw (p.1, p.2)
-    (halted_serves g.D.SectorDevice.state c.args.self.now c.begin.new.self
-    (stat_call c.args.follow c.args.path.now) c.in_err-begin.field-0.0
-    (g.met.D.SectorDevice.lawful c.args.self.now.store.log.device) c.in_err-begin.ensures.same c.in_err-begin.ensures.halted
-    c.in_err-begin.ensures.fault)
-
-pub returns : goal.returns
-returns g c =
-    let state = g.D.SectorDevice.state in
-    let begun = c.in_ok-begin.ensures.done in
-    let walk = c.in_ok-number.ensures in
-    let mid : Fs g.row.D.Denot =
-    record { alloc = c.begin.new.self.alloc; store = c.resolve.new.files; handles = c.begin.new.self.handles } in
-    let first = store_reads state c.begin.new.self mid (log_reads state c.begin.new.self.store c.resolve.new.files walk.reads)
-    walk.reads.draft walk.reads.saved (same_totals state c.begin.new.self.store c.resolve.new.files walk.reads)
-    (same_drafted state c.begin.new.self.store c.resolve.new.files walk.reads) refl in
-    begun_serves state c.args.self.now c.begin.new.self (seen c.stat_of.new.self) (stat_call c.args.follow c.args.path.now)
-    (answer_by (λ stat. Status (status_of stat)) c.stat_of.result) begun
-    (stat_ends state c.begin.new.self mid (g.met.D.SectorDevice.lawful c.begin.new.self.store.log.device)
-    (begun_running state c.args.self.now c.begin.new.self begun) begun.empty first c.args.path.now c.args.follow
-    c.in_ok-number.number.value (each_drafted state c.begin.new.self.store c.resolve.new.files _ walk.answer) c.stat_of.new.self
-    c.stat_of.ensures.reads c.stat_of.result c.stat_of.ensures.answer c.stat_of.ensures.missing)
 
 pub returns-in_err-number : goal.returns-in_err-number
 returns-in_err-number g c =
-    let p = err_from_is_err_and c.from_residual-in_err-number.result c.from_residual-in_err-number.ensures.1 in rw (p.1)
-    (let state = g.D.SectorDevice.state in
-    let begun = c.in_ok-begin.ensures.done in
-    let walk = c.in_err-number.ensures in
-    let mid : Fs g.row.D.Denot =
-    record { alloc = c.begin.new.self.alloc; store = c.resolve.new.files; handles = c.begin.new.self.handles } in
-    let first = store_reads state c.begin.new.self mid (log_reads state c.begin.new.self.store c.resolve.new.files walk.reads)
-    walk.reads.draft walk.reads.saved (same_totals state c.begin.new.self.store c.resolve.new.files walk.reads)
-    (same_drafted state c.begin.new.self.store c.resolve.new.files walk.reads) refl in
-    begun_serves state c.args.self.now c.begin.new.self (seen mid) (stat_call c.args.follow c.args.path.now)
-    (Refuse (refusal_of p.0)) begun
-    (path_without state c.begin.new.self mid (g.met.D.SectorDevice.lawful c.begin.new.self.store.log.device)
-    (begun_running state c.args.self.now c.begin.new.self begun) begun.empty first
-    (EndsResolve c.args.path.now c.args.follow) (stat_call c.args.follow c.args.path.now) (stat_may_fail c.args.follow c.args.path.now)
-    (stat_cleans c.args.follow c.args.path.now)
-    (stat_memory c.args.follow c.args.path.now) (λ N s r w. stat_refused N s c.args.path.now c.args.follow r w)
-    c.in_err-number.field-0.0 p.0 p.2 (ends_refused state c.begin.new.self.store c.resolve.new.files (EndsResolve
-    c.args.path.now c.args.follow) c.in_err-number.field-0.0 walk.refused) (λ e. walk.halted (ap Err e)) (λ e. walk.other (ap Err e))))
+    let p = err_from_is_err_and c.from_residual.result c.from_residual.ensures.1 in rw (p.1, p.2)
+    (c.in_err-number.ensures.refused (stat_call c.args.follow c.args.path.now) (stat_may_fail c.args.follow c.args.path.now)
+    (stat_cleans c.args.follow c.args.path.now) (stat_memory c.args.follow c.args.path.now)
+    (λ N s r w. stat_refused N s c.args.path.now c.args.follow r w))
+
+pub returns-in_err-header : goal.returns-in_err-header
+returns-in_err-header g c =
+    let p = err_from_is_err_and c.from_residual-in_err-header.result c.from_residual-in_err-header.ensures.1 in rw (p.1, p.2)
+    (let read = c.in_err-header.ensures in
+    unlooked g.met.D.SectorDevice.lawful c.in_ok-number.ensures.found c.header_of.new.files read.reads
+    (stat_quiet c.args.follow c.args.path.now) c.in_err-header.field-0.0
+    (λ e. read.halted (ap Err e)) (λ e. read.other (ap Err e)) read.failed)
+
+pub returns : goal.returns
+returns g c =
+    rw (c.from.ensures, c.from-2.ensures)
+    (stat_gives g.met.D.SectorDevice.lawful
+    (looked g.met.D.SectorDevice.lawful c.in_ok-number.ensures.found c.header_of.new.files c.in_ok-header.ensures.reads
+    c.in_ok-header.header c.in_ok-header.ensures.answer))

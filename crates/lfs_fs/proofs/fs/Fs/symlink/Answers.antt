@@ -1,15 +1,18 @@
+use Rattle.std.proofs.Common.{false, refl, arith}
 use Rattle.std.proofs.lemmas.Result.{err_from_is_err_and}
-use Rattle.std.proofs.Common.{None, Some, refl}
 use Rattle.lfs_model.specs.Call.{Refuse, Symlink}
+use Rattle.lfs_store.proofs.of_memory.Going.{ok_then}
 use Rattle.lfs_fs.specs.Refusals.{refusal_of}
 use Rattle.lfs_fs.specs.Seen.{seen}
 use Rattle.lfs_fs.specs.Volume.{segments_of}
+use Rattle.lfs_fs.proofs.calls.Files.{takes_draft}
+use Rattle.lfs_fs.proofs.new_entries.Drafts.{entry_ends}
 use Rattle.lfs_fs.proofs.new_entries.Ends.{bytes_of, text_ends}
-use Rattle.lfs_fs.proofs.new_entries.Refusals.{entry_refused, no_piece_ends, number_refused}
-use Rattle.lfs_fs.proofs.new_entries.Outcomes.{symlink_ends}
-use Rattle.lfs_fs.proofs.new_entries.Steps.{symlink_call}
+use Rattle.lfs_fs.proofs.new_entries.Outcomes.{entry_refused, number_refused}
+use Rattle.lfs_fs.proofs.new_entries.Rule.{read, unreached}
+use Rattle.lfs_fs.proofs.new_entries.Steps.{checks_new, symlink_call}
 use Rattle.lfs_fs.proofs.paths.Steps.{symlink_refused}
-use Rattle.lfs_fs.proofs.paths.Places.{nowhere_serves, place_lacks, place_reached, place_ready, ready_after}
+use Rattle.lfs_fs.proofs.paths.Places.{place_begins, place_lacks}
 use Rattle.lfs_fs.proofs.read.Ends.{begun_serves, halted_serves}
 use Rattle.lfs_fs.proofs.fs.Fs.symlink.Goals as goal
 
@@ -35,85 +38,64 @@ returns-in_err-check_link_text g c =
 -- the path is refused, or has no piece
 pub returns-in_err-directory : goal.returns-in_err-directory
 returns-in_err-directory g c =
-    let bytes = bytes_of c.args.path.now c.type_inv.path in
+    let good = c.in_ok-check_link_text.ensures.good in
     let p = err_from_is_err_and c.from_residual-in_err-directory.result c.from_residual-in_err-directory.ensures.1 in rw (p.1, p.2)
-    (nowhere_serves g.D.SectorDevice.state g.met.D.SectorDevice.lawful c.args.self.now c.reach.new.self c.args.path.now
+    (unreached g.D.SectorDevice.state g.met.D.SectorDevice.lawful c.args.self.now c.reach.new.self c.args.path.now
     (Symlink c.args.text.now c.args.path.now) refl refl refl
-    (λ k m0 m s keeps is r w.
-    symlink_refused (segments_of (seen c.args.self.now)) s c.args.path.now c.args.text.now c.in_ok-check_link_text.ensures.good r w)
-    _ c.in_err-directory.field-0.0
+    (λ k m0 m s keeps is r w. symlink_refused (segments_of (seen c.args.self.now)) s c.args.path.now c.args.text.now good r w) false
+    (λ s d walk. checks_new (symlink_call _ _ _ d (bytes_of c.args.path.now c.type_inv.path) c.args.text.now
+    (bytes_of c.args.text.now c.type_inv.text) good) s refl walk)
+    c.in_err-directory.field-0.0
     (place_lacks g.D.SectorDevice.state g.met.D.SectorDevice.lawful c.args.self.now c.reach.new.self c.args.path.now c.begin.new.self
-    c.in_ok-begin.ensures.done
-    c.in_err-directory.ensures.reads bytes _ c.in_err-directory.field-0.0 c.in_err-directory.ensures.refused)
-    (λ d reached running.
-    no_piece_ends g.D.SectorDevice.state g.met.D.SectorDevice.lawful (seen c.args.self.now) c.reach.new.self c.args.path.now d
-    (symlink_call c.args.self.now.store.log.version (segments_of (seen c.args.self.now)) c.args.path.now d bytes
-    c.args.text.now (bytes_of c.args.text.now c.type_inv.text) c.in_ok-check_link_text.ensures.good) None reached running refl))
+    c.in_ok-begin.ensures.done c.in_err-directory.ensures.reads (bytes_of c.args.path.now c.type_inv.path) _
+    c.in_err-directory.field-0.0 c.in_err-directory.ensures.refused))
 
-pub returns-in_err-header : goal.returns-in_err-header
-returns-in_err-header g c =
-    let bytes = bytes_of c.args.path.now c.type_inv.path in
-    let reads = c.in_ok-directory.ensures.reads in
-    let reached =
-    place_reached g.D.SectorDevice.state g.met.D.SectorDevice.lawful c.args.self.now c.reach.new.self c.args.path.now c.begin.new.self
-    c.in_ok-begin.ensures.done reads bytes c.in_ok-directory.directory.value (Some c.in_ok-directory.last)
-    c.in_ok-directory.ensures.found in
-    let ready =
-    place_ready g.D.SectorDevice.state g.met.D.SectorDevice.lawful c.args.self.now c.reach.new.self c.args.path.now c.begin.new.self
-    c.in_ok-begin.ensures.done reads in
-    let p = err_from_is_err_and c.from_residual-in_err-header.result c.from_residual-in_err-header.ensures.1 in rw (p.1, p.2)
-    (entry_refused g.D.SectorDevice.state g.met.D.SectorDevice.lawful (seen c.args.self.now) c.reach.new.self c.args.path.now
-    c.in_ok-directory.directory.value
-    (symlink_call c.args.self.now.store.log.version (segments_of (seen c.args.self.now)) c.args.path.now c.in_ok-directory.directory.value
-    bytes
-    c.args.text.now (bytes_of c.args.text.now c.type_inv.text) c.in_ok-check_link_text.ensures.good)
-    (Some c.in_ok-directory.last) reached ready.running c.in_ok-directory.last refl c.check_new_entry.new.self
-    c.in_err-header.ensures.reads c.in_err-header.field-0.0 c.in_err-header.ensures.refused)
+pub returns-in_err-holder : goal.returns-in_err-holder
+returns-in_err-holder g c =
+    let state = g.D.SectorDevice.state in
+    let lawful = g.met.D.SectorDevice.lawful in
+    let found = c.in_ok-directory.ensures in
+    let begins = place_begins state lawful c.in_ok-begin.ensures.done found.reads (bytes_of c.args.path.now c.type_inv.path) found.found in
+    let p = err_from_is_err_and c.from_residual-in_err-holder.result c.from_residual-in_err-holder.ensures.1 in rw (p.1, p.2)
+    (entry_refused state lawful begins (symlink_call _ _ _ _ begins.reached.bytes c.args.text.now
+    (bytes_of c.args.text.now c.type_inv.text) c.in_ok-check_link_text.ensures.good)
+    c.check_new_entry.new.files c.in_err-holder.field-0.0 c.in_err-holder.ensures)
 
 -- no number is free
 pub returns-in_default : goal.returns-in_default
 returns-in_default g c =
-    let bytes = bytes_of c.args.path.now c.type_inv.path in
-    let reads = c.in_ok-directory.ensures.reads in
-    let reached =
-    place_reached g.D.SectorDevice.state g.met.D.SectorDevice.lawful c.args.self.now c.reach.new.self c.args.path.now c.begin.new.self
-    c.in_ok-begin.ensures.done reads bytes c.in_ok-directory.directory.value (Some c.in_ok-directory.last)
-    c.in_ok-directory.ensures.found in
-    let ready =
-    place_ready g.D.SectorDevice.state g.met.D.SectorDevice.lawful c.args.self.now c.reach.new.self c.args.path.now c.begin.new.self
-    c.in_ok-begin.ensures.done reads in
-    number_refused g.D.SectorDevice.state g.met.D.SectorDevice.lawful (seen c.args.self.now) c.reach.new.self c.args.path.now
-    c.in_ok-directory.directory.value
-    (symlink_call c.args.self.now.store.log.version (segments_of (seen c.args.self.now)) c.args.path.now c.in_ok-directory.directory.value
-    bytes
-    c.args.text.now (bytes_of c.args.text.now c.type_inv.text) c.in_ok-check_link_text.ensures.good)
-    (Some c.in_ok-directory.last) reached ready.running c.in_ok-directory.last refl c.check_new_entry.new.self
-    c.in_ok-header.ensures.reads c.in_ok-header.header c.in_ok-header.ensures.taken
-    (λ k m0 m s keeps is walk. refl) c.in_default.ensures.none
+    let state = g.D.SectorDevice.state in
+    let lawful = g.met.D.SectorDevice.lawful in
+    let found = c.in_ok-directory.ensures in
+    let begins = place_begins state lawful c.in_ok-begin.ensures.done found.reads (bytes_of c.args.path.now c.type_inv.path) found.found in
+    let rule = c.in_ok-holder.ensures in
+    number_refused state lawful begins (symlink_call _ _ _ _ begins.reached.bytes c.args.text.now
+    (bytes_of c.args.text.now c.type_inv.text) c.in_ok-check_link_text.ensures.good)
+    c.check_new_entry.new.files c.in_ok-holder.holder rule (λ s handles are. refl) c.in_default.ensures.none
+
+pub finish-requires-clause-room : goal.finish-requires-clause-room
+finish-requires-clause-room g c =
+    let state = g.D.SectorDevice.state in
+    let lawful = g.met.D.SectorDevice.lawful in
+    let found = c.in_ok-directory.ensures in
+    let begins = place_begins state lawful c.in_ok-begin.ensures.done found.reads (bytes_of c.args.path.now c.type_inv.path) found.found in
+    let draft = c.draft_entry-drafted.ensures in
+    ok_then c.draft_entry-drafted.result _ _
+    (takes_draft state lawful (seen c.args.self.now) _
+    (read state lawful begins c.check_new_entry.new.files c.in_ok-holder.ensures.only.reads)
+    c.draft_entry-drafted.new.files draft.only.redrafts 4 4 (omega arith)) draft.small
 
 pub returns : goal.returns
 returns g c =
-    let bytes = bytes_of c.args.path.now c.type_inv.path in
-    let reads = c.in_ok-directory.ensures.reads in
-    let reached =
-    place_reached g.D.SectorDevice.state g.met.D.SectorDevice.lawful c.args.self.now c.reach.new.self c.args.path.now c.begin.new.self
-    c.in_ok-begin.ensures.done reads bytes c.in_ok-directory.directory.value (Some c.in_ok-directory.last)
-    c.in_ok-directory.ensures.found in
-    let ready =
-    place_ready g.D.SectorDevice.state g.met.D.SectorDevice.lawful c.args.self.now c.reach.new.self c.args.path.now c.begin.new.self
-    c.in_ok-begin.ensures.done reads in
-    symlink_ends g.D.SectorDevice.state g.met.D.SectorDevice.lawful (seen c.args.self.now) c.reach.new.self c.check_new_entry.new.self
-    c.args.path.now
-    c.in_ok-directory.directory.value (Some c.in_ok-directory.last) reached ready.running c.in_ok-directory.last refl
-    c.in_ok-header.ensures.reads c.in_ok-header.header c.in_ok-header.ensures.taken c.args.text.now
-    (bytes_of c.args.text.now c.type_inv.text) c.in_ok-check_link_text.ensures.good
-    c.in-Some.number.value c.in-Some.ensures.some c.make_entry.new.self
-    c.make_entry.result c.make_entry.ensures.made c.make_entry.ensures.refused
-
-pub make_entry-requires-clause-ready : goal.make_entry-requires-clause-ready
-make_entry-requires-clause-ready g c =
-    ready_after g.D.SectorDevice.state c.reach.new.self c.check_new_entry.new.self
-    (place_ready g.D.SectorDevice.state g.met.D.SectorDevice.lawful c.args.self.now c.reach.new.self c.args.path.now c.begin.new.self
-    c.in_ok-begin.ensures.done
-    c.in_ok-directory.ensures.reads)
-    c.in_ok-header.ensures.reads
+    let state = g.D.SectorDevice.state in
+    let lawful = g.met.D.SectorDevice.lawful in
+    let found = c.in_ok-directory.ensures in
+    let begins = place_begins state lawful c.in_ok-begin.ensures.done found.reads (bytes_of c.args.path.now c.type_inv.path) found.found in
+    let rule = c.in_ok-holder.ensures in
+    let store = c.check_new_entry.new.files in
+    let draft = c.draft_entry-drafted.ensures in
+    let symlink = symlink_call _ _ _ _ begins.reached.bytes c.args.text.now (bytes_of c.args.text.now c.type_inv.text)
+    c.in_ok-check_link_text.ensures.good in
+    entry_ends state lawful begins symlink store c.in_ok-holder.holder rule (λ on. absurd (cc)) c.in-Some.number.value
+    c.in-Some.ensures.some (λ s handles are. refl) c.draft_entry-drafted.new.files draft.only.redrafts c.finish.new.self
+    c.finish.ensures.rest (λ s handles are. (refl, refl)) c.draft_entry-drafted.result draft c.finish.result c.finish.ensures.ends

@@ -10,21 +10,22 @@ returns-in_err-begin g c =
     (halted_begin g.D.SectorDevice.state g.met.D.SectorDevice.lawful c.args.self.now c.begin.new.self _ c.in_err-begin.field-0.0
     c.in_err-begin.ensures.same c.in_err-begin.ensures.halted c.in_err-begin.ensures.fault)
 
-pub returns-in-Ok : goal.returns-in-Ok
-returns-in-Ok g c =
+pub returns : goal.returns
+returns g c =
     begun g.D.SectorDevice.state g.met.D.SectorDevice.lawful c.args.self.now c.begin.new.self
     record { alloc = c.begin.new.self.alloc; store = c.commit.new.self; handles = c.begin.new.self.handles } _ _ c.in_ok-begin.ensures.done
     (sync_done_serves g.D.SectorDevice.state g.met.D.SectorDevice.lawful c.begin.new.self c.commit.new.self
     (still_running g.D.SectorDevice.state g.met.D.SectorDevice.lawful c.args.self.now c.begin.new.self c.in_ok-begin.ensures.done)
-    c.in-Ok.ensures.keeps.totals c.in-Ok.ensures.told c.in-Ok.ensures.done c.in-Ok.ensures.saved)
+    c.in_ok-commit.ensures.keeps.totals c.in_ok-commit.ensures.told c.in_ok-commit.ensures.done c.in_ok-commit.ensures.saved)
 
-pub returns-in-Err : goal.returns-in-Err
-returns-in-Err g c =
-    let running =
+pub returns-in_err-commit : goal.returns-in_err-commit
+returns-in_err-commit g c =
+    let p = err_from_is_err_and c.from_residual-in_err-commit.result c.from_residual-in_err-commit.ensures.1 in rw (p.1)
+    (let running =
     still_running g.D.SectorDevice.state g.met.D.SectorDevice.lawful c.args.self.now c.begin.new.self c.in_ok-begin.ensures.done in
     begun g.D.SectorDevice.state g.met.D.SectorDevice.lawful c.args.self.now c.begin.new.self
     record { alloc = c.begin.new.self.alloc; store = c.commit.new.self; handles = c.begin.new.self.handles } _ _ c.in_ok-begin.ensures.done
     (sync_fails g.D.SectorDevice.state g.met.D.SectorDevice.lawful c.begin.new.self c.commit.new.self running
-    c.in-Err.ensures.keeps.totals c.in-Err.ensures.told c.in-Err.ensures.same c.in-Err.fault c.from.result
-    c.from.ensures (λ e. c.in-Err.ensures.full (ap Err e)) (λ e. c.in-Err.ensures.unsaved (ap Err e))
-    (λ e. c.in-Err.ensures.halted (ap Err e) (not_halted c.begin.new.self running)) (λ e. c.in-Err.ensures.other (ap Err e)))
+    c.in_err-commit.ensures.keeps.totals c.in_err-commit.ensures.told c.in_err-commit.ensures.same c.in_err-commit.field-0.0 p.0 p.2
+    (λ e. c.in_err-commit.ensures.full (ap Err e)) (λ e. c.in_err-commit.ensures.unsaved (ap Err e))
+    (λ e. c.in_err-commit.ensures.halted (ap Err e) (not_halted c.begin.new.self running)) (λ e. c.in_err-commit.ensures.other (ap Err e))))

@@ -1,10 +1,8 @@
 use Rattle.std.proofs.lemmas.Result.{err_from_is_err_and}
-use Rattle.std.proofs.Common.{map}
-use Rattle.lfs_model.specs.Call.{ListTree, Rows}
-use Rattle.lfs_fs.specs.Answers.{row_of}
-use Rattle.lfs_fs.specs.Seen.{answer_by, seen}
-use Rattle.lfs_fs.proofs.read.Ends.{begun_running, begun_serves, halted_serves}
-use Rattle.lfs_fs.proofs.list.Trees.{tree_ends}
+use Rattle.std.proofs.Common.{ap, arith, Err}
+use Rattle.lfs_model.specs.Call.{ListTree}
+use Rattle.lfs_fs.proofs.read.Ends.{halted_serves}
+use Rattle.lfs_fs.proofs.list.Trees.{tree_fails, tree_full, tree_gives, tree_more, tree_none}
 use Rattle.lfs_fs.proofs.fs.Fs.tree.Goals as goal
 
 pub returns-in_err-begin : goal.returns-in_err-begin
@@ -14,12 +12,34 @@ returns-in_err-begin g c =
     (g.met.D.SectorDevice.lawful c.args.self.now.store.log.device) c.in_err-begin.ensures.same c.in_err-begin.ensures.halted
     c.in_err-begin.ensures.fault)
 
+pub loop-number-init : goal.loop-number-init
+loop-number-init g c = tree_none g.D.SectorDevice.state c.args.self.now c.begin.new.self c.in_ok-begin.ensures.done
+    c.new-rows.result.items c.new-rows.ensures.items
+
+pub loop-number-preserved : goal.loop-number-preserved
+loop-number-preserved g c =
+    let at = c.loop-number in
+    tree_more g.met.D.SectorDevice.lawful at.invariant
+    c.rows_at.new.files c.in_ok-more.ensures.only.reads c.loop-number-test.true c.in_ok-more.more.items c.append.new.self.items
+    c.in-Ok.ensures.items c.in_ok-more.ensures.answer
+
+pub returns-in_err-more : goal.returns-in_err-more
+returns-in_err-more g c =
+    let p = err_from_is_err_and c.from_residual-in_err-more.result c.from_residual-in_err-more.ensures.1 in rw (p.1, p.2)
+    (let at = c.loop-number in
+    let list = c.in_err-more.ensures in
+    tree_fails g.met.D.SectorDevice.lawful at.invariant
+    c.rows_at.new.files list.only.reads c.in_err-more.field-0.0 (λ e. list.only.halted (ap Err e))
+    (λ e. list.only.other (ap Err e)) list.failed)
+
 pub returns : goal.returns
 returns g c =
-    let state = g.D.SectorDevice.state in
-    let begun = c.in_ok-begin.ensures.done in
-    begun_serves state c.args.self.now c.begin.new.self (seen c.rows.new.self) ListTree
-    (answer_by (λ rows. Rows (map row_of rows.items)) c.rows.result) begun
-    (tree_ends state c.begin.new.self c.rows.new.self (g.met.D.SectorDevice.lawful c.begin.new.self.store.log.device)
-    (begun_running state c.args.self.now c.begin.new.self begun) begun.empty c.rows.ensures.reads
-    c.rows.result c.rows.ensures.answer c.rows.ensures.missing)
+    let at = c.loop-number in
+    let high = at.auto.number-end (omega arith) in
+    let ended = c.loop-number-test.false in
+    tree_gives g.met.D.SectorDevice.lawful at.invariant
+    (omega (arith, high, ended))
+
+pub returns-in_default : goal.returns-in_default
+returns-in_default g c =
+    tree_full g.met.D.SectorDevice.lawful c.loop-number.invariant c.rows_at.new.files c.in_ok-more.ensures.only.reads

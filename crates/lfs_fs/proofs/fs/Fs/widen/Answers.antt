@@ -1,61 +1,17 @@
 use Rattle.std.proofs.lemmas.Result.{err_from_is_err_and}
-use Rattle.std.proofs.Common.{true, ap, refl, Err, subst, sym, ◌∙◌}
-use Rattle.lfs_model.specs.Call.{Done, Refuse, Widen}
-use Rattle.lfs_path.specs.Reaching.{EndsResolve}
-use Rattle.lfs_fs.specs.declared.fs.Fs.{Fs}
-use Rattle.lfs_store.specs.declared.draft.Draft.{Draft}
-use Rattle.lfs_store.specs.memory.Batch.{IsNoChange}
-use Rattle.lfs_fs.specs.Refusals.{refusal_of}
-use Rattle.lfs_fs.specs.Seen.{answer_by, seen}
-use Rattle.lfs_fs.proofs.paths.Ends.{path_without, store_reads, walks_in}
-use Rattle.lfs_fs.proofs.read.Ends.{begun_running, begun_serves, halted_serves}
-use Rattle.lfs_fs.proofs.calls.StoreCalls.{each_drafted, ends_refused, log_reads, same_drafted, same_totals}
+use Rattle.std.proofs.Common.{refl}
+use Rattle.lfs_model.specs.Call.{Widen}
+use Rattle.lfs_fs.specs.Seen.{seen}
 use Rattle.lfs_fs.proofs.widen.Steps.{widen_refused}
 use Rattle.lfs_fs.proofs.fs.Fs.widen.Goals as goal
 
-pub returns-in_err-begin : goal.returns-in_err-begin
-returns-in_err-begin g c =
+pub returns-in_err-number : goal.returns-in_err-number
+returns-in_err-number g c =
     let p = err_from_is_err_and c.from_residual.result c.from_residual.ensures.1 in rw (p.1, p.2)
-    (halted_serves g.D.SectorDevice.state c.args.self.now c.begin.new.self (Widen c.args.path.now) c.in_err-begin.field-0.0
-    (g.met.D.SectorDevice.lawful c.args.self.now.store.log.device) c.in_err-begin.ensures.same c.in_err-begin.ensures.halted
-    c.in_err-begin.ensures.fault)
+    (c.in_err-number.ensures.refused (Widen c.args.path.now) refl refl refl (λ N s r w. widen_refused N s c.args.path.now r w))
 
 pub returns : goal.returns
 returns g c =
-    let state = g.D.SectorDevice.state in
-    let begun = c.in_ok-begin.ensures.done in
-    let walk = c.in_ok-number.ensures in
-    let mid : Fs g.row.D.Denot =
-    record { alloc = c.begin.new.self.alloc; store = c.resolve.new.files; handles = c.begin.new.self.handles } in
-    let first = store_reads state c.begin.new.self mid (log_reads state c.begin.new.self.store c.resolve.new.files walk.reads)
-    walk.reads.draft walk.reads.saved (same_totals state c.begin.new.self.store c.resolve.new.files walk.reads)
-    (same_drafted state c.begin.new.self.store c.resolve.new.files walk.reads) refl in
-    begun_serves state c.args.self.now c.begin.new.self (seen c.widen_at.new.self) (Widen c.args.path.now)
-    (answer_by (λ _. Done) c.widen_at.result) begun
-    (c.widen_at.ensures (seen c.begin.new.self) c.args.path.now record {
-      still = first.still;
-      empty = subst (λ (d : Draft). IsNoChange d.changes) (sym first.draft) begun.empty;
-      drafted = first.drafted ∙ begun.drafted ∙ sym first.still.reads.totals;
-      walk = λ k m0 m s keeps is. walks_in state c.begin.new.self mid (g.met.D.SectorDevice.lawful c.begin.new.self.store.log.device)
-          (begun_running state c.args.self.now c.begin.new.self begun) begun.empty first
-          c.args.path.now true c.in_ok-number.number.value (each_drafted state c.begin.new.self.store c.resolve.new.files _ walk.answer) k
-          m0 m s keeps is;
-    })
-
-pub returns-in_err-number : goal.returns-in_err-number
-returns-in_err-number g c =
-    let p = err_from_is_err_and c.from_residual-in_err-number.result c.from_residual-in_err-number.ensures.1 in rw (p.1)
-    (let state = g.D.SectorDevice.state in
-    let begun = c.in_ok-begin.ensures.done in
-    let walk = c.in_err-number.ensures in
-    let mid : Fs g.row.D.Denot =
-    record { alloc = c.begin.new.self.alloc; store = c.resolve.new.files; handles = c.begin.new.self.handles } in
-    let first = store_reads state c.begin.new.self mid (log_reads state c.begin.new.self.store c.resolve.new.files walk.reads)
-    walk.reads.draft walk.reads.saved (same_totals state c.begin.new.self.store c.resolve.new.files walk.reads)
-    (same_drafted state c.begin.new.self.store c.resolve.new.files walk.reads) refl in
-    begun_serves state c.args.self.now c.begin.new.self (seen mid) (Widen c.args.path.now) (Refuse (refusal_of p.0)) begun
-    (path_without state c.begin.new.self mid (g.met.D.SectorDevice.lawful c.begin.new.self.store.log.device)
-    (begun_running state c.args.self.now c.begin.new.self begun) begun.empty first
-    (EndsResolve c.args.path.now true) (Widen c.args.path.now) refl refl refl (λ N s r w. widen_refused N s c.args.path.now r w)
-    c.in_err-number.field-0.0 p.0 p.2 (ends_refused state c.begin.new.self.store c.resolve.new.files
-    (EndsResolve c.args.path.now true) c.in_err-number.field-0.0 walk.refused) (λ e. walk.halted (ap Err e)) (λ e. walk.other (ap Err e))))
+    let reached = c.in_ok-number.ensures.found in
+    c.widen_at.ensures (seen c.args.self.now) c.args.path.now
+    record { still = reached.still; empty = reached.ready.empty; drafted = reached.drafted; walk = reached.walk }

@@ -1,0 +1,181 @@
+-- Calls that change nothing, over files: what is told of each log map answers them, and a fault refuses them. How a call comes to the
+-- object of a path.
+use Rattle.std.proofs.Common.{◌≡◌, ℕ, Bool, true, false, List, sym, subst}
+use Rattle.lfs_model.specs.Call.{Answer, Call, Refuse, changes, cleans, commits, never_for_device, takes_no_memory}
+use Rattle.lfs_model.specs.Checkpoint.{CheckpointValue}
+use Rattle.lfs_model.specs.Device.{DeviceState, IsLawful}
+use Rattle.lfs_model.specs.Refusal.{NoMemory}
+use Rattle.lfs_model.specs.Stands.{LogMap}
+use Rattle.lfs_model.specs.Step.{Step}
+use Rattle.lfs_model.specs.Tree.{State, Tree}
+use Rattle.lfs_model.specs.Walk.{At, Resolve}
+use Rattle.lfs_files.specs.declared.fault.LogFault.{LogFault}
+use Rattle.lfs_files.specs.declared.fault.LogFault.TheVariants as log
+use Rattle.lfs_files.specs.declared.header.Header.{Header}
+use Rattle.lfs_files.specs.Files as files
+use Rattle.lfs_store.specs.declared.store.Store.{Store}
+use Rattle.lfs_path.specs.declared.walk_fault.WalkFault.{WalkFault}
+use Rattle.lfs_path.specs.declared.walk_fault.WalkFault.TheVariants as walk
+use Rattle.lfs_path.specs.Reaching.{EndsResolve, ResolvesTo}
+use Rattle.lfs_path.specs.Seeing.{HasHeader, HasObject}
+use Rattle.lfs_path.specs.Telling.{Tells, TellsFault, TellsRefusal}
+use Rattle.lfs_path.specs.Trees.{HasTree}
+use Rattle.lfs_entries.specs.declared.fault.EntryFault.{EntryFault}
+use Rattle.lfs_entries.specs.declared.fault.EntryFault.TheVariants as fault
+use Rattle.lfs_entries.specs.Telling as telling
+use Rattle.lfs_entries.specs.Telling.{FailsWhere}
+use Rattle.lfs_fs.specs.declared.error.FsError.{FsError}
+use Rattle.lfs_fs.specs.declared.fs.Fs.{Fs}
+use Rattle.lfs_fs.specs.Drafted.{files_of}
+use Rattle.lfs_fs.specs.Faults.{error_of_entry, error_of_log, error_of_walk}
+use Rattle.lfs_fs.specs.Reading.{FindsObject, ReachesObject, RefusesPath}
+use Rattle.lfs_fs.specs.Refusals.{refusal_of}
+use Rattle.lfs_fs.specs.Seen.{Begins, seen}
+use Rattle.lfs_fs.specs.Volume.{IsIn, Mounted, Serves, segments_of}
+use Rattle.lfs_fs.proofs.calls.AnyDevice.{IsOrdinary}
+use Rattle.lfs_fs.proofs.calls.Files.{Explains, IsBegun, Rose, begun_after, fault_serves, only, rose_where, told, was, with_store}
+use Rattle.lfs_fs.proofs.calls.Reads.{memory_serves}
+use Rattle.lfs_fs.proofs.calls.StoreCalls.{ends_refused}
+use Rattle.lfs_fs.proofs.paths.Later.{later_refused}
+use Rattle.lfs_fs.proofs.paths.Places.{begun_ready, begun_still}
+use Rattle.lfs_fs.proofs.paths.Walks.{tree_of_volume}
+use Rattle.lfs_fs.proofs.read.Ends.{step_serves}
+use Rattle.lfs_fs.proofs.volume.Nodes.{no_header_none, resolved_there}
+
+-- A call that changes nothing.
+pub record IsQuiet (call : Call) : Type 0 where
+  pub free : never_for_device call ≡ false
+  pub memory : takes_no_memory call ≡ false
+  pub leaves : changes call ≡ false
+  pub unclean : cleans call ≡ false
+  pub kept : commits call ≡ false
+
+module _ {D : Type 0} (state : D → DeviceState) where
+  -- What holds of each state that the volume may be in, where the device keeps the model until then.
+  abbrev pub In : Mounted D → Fs D → (LogMap → State → Type 0) → Type 0
+  In v f P = (k : CheckpointValue) (m0 m : LogMap) (s : State) → (state f.store.log.device).keeps_model → IsIn state v k m0 m s → P m s
+
+  -- a volume's files are read
+  abbrev pub ReadsTo : Fs D → Store D → Type 0
+  ReadsTo f store = files.Reads (files_of state f.store) (files_of state store)
+
+  -- a fault of what reads them, for such a reason, refuses the call
+  abbrev pub Fails : Mounted D → Fs D → Store D → Call → (EntryFault → Type 0) → Type 0
+  Fails v f store call Why = (e : EntryFault) → (e ≡ fault.Log log.Halted → (files_of state f.store).halted ≡ true)
+      → (e ≡ fault.Log log.Full → ⊥) → Why e → Serves state v (seen (with_store f store)) call (Refuse (refusal_of (error_of_entry e)))
+
+  -- ---- a call has begun, or it walked a path too
+  pub begun_by : (old f : Fs D) → Begins old f → IsBegun state (seen old) f
+  begun_by old f begins =
+      record { still = begun_still state old f begins; ready = begun_ready state old f begins; drafted = begins.drafted }
+
+  pub begun_with : {v : Mounted D} {f : Fs D} {path : List ℕ} {follow : Bool} {n : ℕ} → ReachesObject state v f path follow n
+      → IsBegun state v f
+  begun_with reached = record { still = reached.still; ready = reached.ready; drafted = reached.drafted }
+
+module _ {D : Type 0} {state : D → DeviceState} (lawful : (d : D) → IsLawful (state d)) {v : Mounted D} {f : Fs D}
+    (begun : IsBegun state v f) where
+  -- ---- a volume that was only read since its call began
+  module _ {call : Call} (quiet : IsQuiet call) where
+    pub answers : (a : Answer) → IsOrdinary a → In state v f (λ m s. Step (segments_of v) s call a s) → Serves state v (seen f) call a
+    answers a ordinary = step_serves state v (seen f) call (lawful v.log.device) begun.still (was state lawful v f begun) a ordinary
+        quiet.leaves quiet.unclean quiet.kept
+
+    pub lacks_memory : Serves state v (seen f) call (Refuse NoMemory)
+    lacks_memory = memory_serves state v (seen f) call (lawful v.log.device) begun.still (was state lawful v f begun) quiet.memory
+
+  -- ---- its files are read
+  module _ (store : Store D) (reads : ReadsTo state f store) where
+    abbrev new : Fs D
+    new = with_store f store
+
+    pub now : IsBegun state v new
+    now = begun_after state lawful v f begun store reads
+
+    pub later : (P : LogMap → State → Type 0) → In state v f P → In state v new P
+    later P each k m0 m s keeps = each k m0 m s (reads.looks.carries.kept_before keeps)
+
+    pub known : {P : LogMap → Type 0} → telling.InEach (files_of state f.store) (files_of state store) P → In state v new (λ m s. P m)
+    known {P = P} = told state lawful v f begun store P
+
+    module _ {call : Call} (quiet : IsQuiet call) where
+      abbrev pub IsWhy : EntryFault → Type 0
+      IsWhy e = In state v new (λ m s. Explains call (segments_of v) s (Rose state lawful v f begun store) e)
+
+      pub fails : {Why : EntryFault → Type 0} → ((e : EntryFault) → Why e → IsWhy e) → Fails state v f store call Why
+      fails explains e halted other why = fault_serves state lawful v f begun store (only state lawful v f begun store reads).still call
+          quiet.free quiet.unclean quiet.memory e halted other (explains e why)
+
+      -- a call of the device failed where something is so that is so in each state
+      pub rises : {P : LogMap → Type 0} → In state v f (λ m s. P m) → (x : LogFault)
+          → TellsFault (files_of state f.store) (files_of state store) P → IsWhy (fault.Log x)
+      rises {P = P} each x why k m0 m s keeps is =
+          rose_where state lawful v f begun store (only state lawful v f begun store reads).still P why k m0 m s keeps is
+          (later (λ m s. P m) each k m0 m s keeps is)
+
+      pub fails_where : {P : LogMap → Type 0} → In state v f (λ m s. P m)
+          → Fails state v f store call (FailsWhere (files_of state f.store) (files_of state store) P)
+      fails_where {P = P} each = fails by
+        where
+          by : (e : EntryFault) → FailsWhere (files_of state f.store) (files_of state store) P e → IsWhy e
+          by fault.NoMemory any k m0 m s keeps is = tt
+          by (fault.Log x) failed k m0 m s keeps is = rises {P = P} each x failed k m0 m s keeps is
+          by other never k m0 m s keeps is = absurd never
+
+-- ---- a path is walked to its object
+module _ {D : Type 0} {state : D → DeviceState} (lawful : (d : D) → IsLawful (state d)) {old f : Fs D} (begins : Begins old f)
+    (store : Store D) (reads : ReadsTo state f store) where
+  begun : IsBegun state (seen old) f
+  begun = begun_by state old f begins
+
+  pub finds_object : {path : List ℕ} {follow : Bool} {n : ℕ}
+      → Tells (files_of state f.store) (files_of state store) HasTree (ResolvesTo path follow n)
+      → FindsObject state old (with_store f store) path follow n
+  finds_object {path = path} {follow = follow} {n = n} tells = let after = now lawful begun store reads in record {
+    still = after.still;
+    ready = after.ready;
+    drafted = after.drafted;
+    walk = λ k m0 m s keeps is. subst (λ (t : Tree). Resolve t path follow (At n)) (sym is.log.is)
+        (known lawful begun store reads tells k m0 m s keeps is (tree_of_volume state (seen old) k m0 m s is));
+  }
+
+  pub refuses_path : (path : List ℕ) (follow : Bool) {fault : FsError} (e : WalkFault) → fault ≡ error_of_walk e
+      → TellsRefusal (files_of state f.store) (files_of state store) HasTree (EndsResolve path follow) e
+      → (e ≡ walk.Log log.Halted → (files_of state f.store).halted ≡ true) → (e ≡ walk.Log log.Full → ⊥)
+      → RefusesPath state old (with_store f store) path follow fault
+  refuses_path path follow {fault = fault} e is ends halted other call free unclean memory steps =
+      later_refused state lawful (seen old) f (with_store f store) begun.still begins.running begins.empty
+      (only state lawful (seen old) f begun store reads) (EndsResolve path follow) call free unclean memory
+      (λ k m0 m s keeps is. steps (segments_of (seen old)) s) e fault is
+      (ends_refused state f.store store (EndsResolve path follow) e ends) halted other
+
+-- ---- the object is looked at
+
+-- The call came to object n, which has this header.
+pub record IsLooked {D : Type 0} (state : D → DeviceState) (v : Mounted D) (f : Fs D) (path : List ℕ) (follow : Bool) (n : ℕ)
+    (head : Header) : Type 0 where
+  pub begun : IsBegun state v f
+  pub walk : In state v f (λ m s. Resolve s.tree path follow (At n))
+  pub header : In state v f (λ m s. HasHeader n head m)
+
+module _ {D : Type 0} {state : D → DeviceState} (lawful : (d : D) → IsLawful (state d)) {v : Mounted D} {f : Fs D} {path : List ℕ}
+    {follow : Bool} {n : ℕ} (reached : ReachesObject state v f path follow n) where
+  -- it is there
+  pub object_there : In state v f (λ m s. HasObject n m)
+  object_there k m0 m s keeps is none = resolved_there (segments_of v) s is.log.sound path follow n (reached.walk k m0 m s keeps is)
+      (no_header_none (segments_of v) m s is.log n none)
+
+  module _ (store : Store D) (reads : ReadsTo state f store) where
+    pub looked : (head : Header) → Tells (files_of state f.store) (files_of state store) (λ m. Unit {0}) (HasHeader n head)
+        → IsLooked state v (with_store f store) path follow n head
+    looked head header = let begun = begun_with state reached in record {
+      begun = now lawful begun store reads;
+      walk = later lawful begun store reads (λ m s. Resolve s.tree path follow (At n)) reached.walk;
+      header = known lawful begun store reads (λ m m' keeps has. header m m' keeps has tt);
+    }
+
+    pub unlooked : {call : Call} → IsQuiet call → (e : LogFault) → (e ≡ log.Halted → (files_of state f.store).halted ≡ true)
+        → (e ≡ log.Full → ⊥) → TellsFault (files_of state f.store) (files_of state store) (HasObject n)
+        → Serves state v (seen (with_store f store)) call (Refuse (refusal_of (error_of_log e)))
+    unlooked quiet e halted other = fails_where lawful (begun_with state reached) store reads quiet object_there (fault.Log e)
+        (λ same. halted (let is : e ≡ log.Halted = cc in is)) (λ same. other (let is : e ≡ log.Full = cc in is))

@@ -1,0 +1,104 @@
+-- The ends of a call that finishes a draft, by what is told of it.
+use Rattle.std.proofs.Common.{◌≡◌, ℕ, true, false, Result, Ok, Err, refl, ap}
+use Rattle.std.specs.Prelude.{IfErr, OnOk}
+use Rattle.lfs_model.specs.Call.{Answer, Call, Done, Refuse, changes, cleans, is_ok, never_for_device, takes_no_memory}
+use Rattle.lfs_model.specs.Device.{DeviceState, IsLawful}
+use Rattle.lfs_model.specs.Tree.{Handles}
+use Rattle.lfs_files.specs.Files as files
+use Rattle.lfs_files.specs.Files.{FilesState}
+use Rattle.lfs_store.specs.declared.draft.Draft.{Draft}
+use Rattle.lfs_store.specs.declared.store.Store.{Store}
+use Rattle.lfs_store.specs.Seen.{StagedLog}
+use Rattle.lfs_path.specs.dirs.Growing.{GrowsDirectory}
+use Rattle.lfs_entries.specs.declared.fault.EntryFault.{EntryFault}
+use Rattle.lfs_entries.specs.declared.fault.EntryFault.TheVariants as fault
+use Rattle.lfs_entries.specs.Telling.{DraftsOnly, FailsAt}
+use Rattle.lfs_fs.specs.declared.error.FsError.{FsError}
+use Rattle.lfs_fs.specs.declared.fs.Fs.{Fs}
+use Rattle.lfs_fs.specs.Drafted.{files_of}
+use Rattle.lfs_fs.specs.Faults.{error_of_entry}
+use Rattle.lfs_fs.specs.Finishing.{Finishes}
+use Rattle.lfs_fs.specs.Refusals.{refusal_of}
+use Rattle.lfs_fs.specs.Seen.{answer_by, seen}
+use Rattle.lfs_fs.specs.Volume.{Behaves, Mounted, Serves, segments_of}
+use Rattle.lfs_fs.proofs.calls.AnyDevice.{IsBounded}
+use Rattle.lfs_fs.proofs.calls.Files.{EndsWith, Explains, InEach, IsBegun, Makes, Rose, finish_ends, finish_opens, finish_turned, gives_up}
+use Rattle.lfs_fs.proofs.calls.Files.{rose_where, still_ready, with_store}
+
+-- a volume with these open files
+abbrev pub with_open : {D : Type 0} → Fs D → Handles → Mounted D
+with_open f table = record {
+  log = f.store.log;
+  saved = f.store.log.saved;
+  blocks = f.store.log.totals.data_blocks;
+  others = f.store.log.totals.meta_blocks;
+  table = table;
+}
+
+module _ {D : Type 0} (state : D → DeviceState) (lawful : (d : D) → IsLawful (state d)) (v : Mounted D) (f : Fs D)
+    (begun : IsBegun state v f) (store : Store D) where
+  abbrev s : FilesState StagedLog Draft
+  s = files_of state f.store
+
+  abbrev s' : FilesState StagedLog Draft
+  s' = files_of state store
+
+  -- what is told of a draft that has P and Q where it is whole, and grows by so many headers and blocks at most
+  abbrev pub DraftTold : ℕ → ℕ → Type 0 → Type 0 → Result (Unit {0}) EntryFault → Type 0
+  DraftTold headers blocks P Q draft = record {
+    only : DraftsOnly s s' draft;
+    done : OnOk draft P;
+    small : OnOk draft (GrowsDirectory s s' headers blocks);
+    counted : OnOk draft Q;
+    failed : IfErr draft (FailsAt s s');
+  }
+
+  module _ (redrafts : files.Redrafts s s') (call : Call) (change : changes call ≡ true) (free : never_for_device call ≡ false)
+      (memory : takes_no_memory call ≡ false) (unclean : cleans call ≡ false) (headers blocks : ℕ) {P Q : Type 0}
+      (makes : P → Q → InEach state lawful v f begun store (Makes state lawful v f begun store redrafts call change free memory unclean))
+      (new : Fs D) (rest : new.handles ≡ f.handles) where
+    -- the draft isn't whole
+    failed : (why : EntryFault) → DraftTold headers blocks P Q (Err why) → (result : Result (Unit {0}) FsError)
+        → Finishes state (with_store f store) new (Err why) result → Serves state v (seen new) call (answer_by (λ _. Done) result)
+    failed why draft result finishes =
+        gives_up state lawful v f begun store (still_ready state lawful v f begun store redrafts) call free unclean memory new why result
+        finishes (λ e. draft.only.halted (ap Err e)) (λ e. draft.only.other (ap Err e)) (explains why draft.failed) Done
+      where
+        explains : (why : EntryFault) → FailsAt s s' why → InEach state lawful v f begun store
+            (λ m s. Explains call (segments_of v) s (Rose state lawful v f begun store) why)
+        explains fault.NoMemory fails k m0 m st keeps is = tt
+        explains (fault.Log why) fails k m0 m st keeps is =
+            rose_where state lawful v f begun store (still_ready state lawful v f begun store redrafts) (λ m. Unit {0})
+            (λ m m' keeps has u. fails m m' keeps has) k m0 m st keeps is tt
+        explains other fails k m0 m st keeps is = absurd fails
+
+    abbrev pub EndsSo : Answer → Handles → Type 0
+    EndsSo a table = (p : P) (q : Q)
+        → EndsWith state lawful v f begun store redrafts call change free memory unclean (makes p q) new rest a a table
+
+    -- the open files stay
+    pub told_ends : EndsSo Done v.table → (draft : Result (Unit {0}) EntryFault) → DraftTold headers blocks P Q draft
+        → (result : Result (Unit {0}) FsError) → Finishes state (with_store f store) new draft result
+        → Serves state v (seen new) call (answer_by (λ _. Done) result)
+    told_ends ends (Ok u) draft result finishes = finish_ends state lawful v f begun store redrafts call change free memory unclean
+        (makes draft.done draft.counted) new rest Done refl (ends draft.done draft.counted) result finishes
+    told_ends ends (Err why) draft result finishes = failed why draft result finishes
+
+    -- or the call was to open the file: it is refused,
+    pub told_turned : (draft : Result (Unit {0}) EntryFault) → DraftTold headers blocks P Q draft → (e : FsError)
+        → Finishes state (with_store f store) new draft (Err e) → Serves state v (seen new) call (Refuse (refusal_of e))
+    told_turned (Ok u) draft e finishes = finish_turned state lawful v f begun store redrafts call change free memory unclean
+        (makes draft.done draft.counted) new rest Done e finishes.refused
+    told_turned (Err why) draft e finishes = failed why draft (Err e) finishes
+
+    -- or these files are open then
+    pub told_opens : (a : Answer) → is_ok a ≡ true → (table : Handles) → EndsSo a table
+        → (IsBounded state v (with_open new table) call → Behaves state v (with_open new table) call a)
+        → (draft : Result (Unit {0}) EntryFault)
+        → DraftTold headers blocks P Q draft → (u : Unit {0}) → Finishes state (with_store f store) new draft (Ok u)
+        → Serves state v (with_open new table) call a
+    told_opens a ok table ends behaves (Ok done) draft u finishes =
+        finish_opens state lawful v f begun store redrafts call change free memory unclean (makes draft.done draft.counted) new rest a ok
+        table (ends draft.done draft.counted) behaves finishes.done
+    told_opens a ok table ends behaves (Err why) draft u finishes =
+        absurd (let no : ◌≡◌ {A = Result (Unit {0}) FsError} (Ok u) (Err (error_of_entry why)) = finishes.is in cc)

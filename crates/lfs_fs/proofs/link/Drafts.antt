@@ -1,0 +1,83 @@
+-- A further name that a call drafted, as a step of the model.
+use Rattle.std.proofs.Common.{◌≡◌, ◌≤◌, ◌*◌, ℕ, List, Result, refl, sym, ◌∙◌, ap, arith}
+use Rattle.lfs_model.specs.Call.{Done, LinkTo}
+use Rattle.lfs_model.specs.Device.{DeviceState, IsLawful}
+use Rattle.lfs_model.specs.Need.{need}
+use Rattle.lfs_model.specs.Step.{with_tree}
+use Rattle.lfs_model.proofs.Keeps.{link_keeps}
+use Rattle.lfs_files.specs.declared.header.Header.{Header}
+use Rattle.lfs_files.specs.Files as files
+use Rattle.lfs_files.specs.Files.{FilesState}
+use Rattle.lfs_store.specs.declared.draft.Draft.{Draft}
+use Rattle.lfs_store.specs.declared.store.Store.{Store}
+use Rattle.lfs_store.specs.Seen.{StagedLog}
+use Rattle.lfs_store.proofs.TreeTotals.{totals_of_tree}
+use Rattle.lfs_path.specs.declared.last.Last.{Last}
+use Rattle.lfs_entries.specs.declared.fault.EntryFault.{EntryFault}
+use Rattle.lfs_entries.specs.NewNames.{CountsName, DraftsName, HasFurther}
+use Rattle.lfs_fs.specs.declared.error.FsError.{FsError}
+use Rattle.lfs_fs.specs.declared.fs.Fs.{Fs}
+use Rattle.lfs_fs.specs.Accepting.{need_of}
+use Rattle.lfs_fs.specs.Drafted.{files_of}
+use Rattle.lfs_fs.specs.Finishing.{Finishes}
+use Rattle.lfs_fs.specs.Seen.{answer_by, seen}
+use Rattle.lfs_fs.specs.Volume.{Mounted, Serves, segments_of}
+use Rattle.lfs_fs.proofs.calls.Files.{InEach, IsBegun, Makes, apart_now, counted_now, fits_now, has_now, with_store}
+use Rattle.lfs_fs.proofs.link.Maps.{IsLink, few_links, linked_map, linked_shape, linked_tree, takes}
+use Rattle.lfs_fs.proofs.link.Steps.{link_done, link_no_space, linked}
+use Rattle.lfs_fs.proofs.calls.Told.{DraftTold, told_ends}
+use Rattle.lfs_fs.proofs.volume.Nodes.{need_shaped}
+
+module _ {D : Type 0} (state : D → DeviceState) (lawful : (d : D) → IsLawful (state d)) (v : Mounted D) (f : Fs D)
+    (begun : IsBegun state v f) (store : Store D) (redrafts : files.Redrafts (files_of state f.store) (files_of state store))
+    (a b : List ℕ) (da d : ℕ) (l : Last) (head : Header) (n : ℕ) (object : Header)
+    (may : InEach state lawful v f begun store (λ m s. IsLink (segments_of v) m s a b da d l head n object)) where
+  abbrev N : ℕ
+  N = segments_of v
+
+  abbrev s : FilesState StagedLog Draft
+  s = files_of state f.store
+
+  abbrev s' : FilesState StagedLog Draft
+  s' = files_of state store
+
+  abbrev after : Fs D
+  after = with_store f store
+
+  makes : DraftsName s s' d head n object l.name.now → CountsName s s' n object
+      → InEach state lawful v f begun store (Makes state lawful v f begun store redrafts (LinkTo a b) refl refl refl refl)
+  makes drafts counts k m0 m st keeps is =
+      let g = may k m0 m st keeps is in
+      let at = g.enters.at in
+      let here : s.has m m = has_now state lawful v f begun k m0 m st is in
+      let made : HasFurther s' m m d head n object l.name.now = drafts.has m m keeps here in
+      let shape = linked_shape g made.links made.names in
+      let counted = counts m m made.map keeps here made.has at.map.map g.names.there shape.map
+      (counted_now state lawful v f begun k m0 m st is) in
+      let needs : need (linked N st a b n d) ≡ need_of after
+      = ap need (sym (linked_tree g made.links made.names))
+      ∙ (need_shaped totals_of_tree made.map shape store.drafted.data_blocks store.drafted.meta_blocks counted).0 in
+      let done = λ (room : need_of after ≤ 47 * N).
+      link_done N b g.names d at.walk g.enters.taken (few_links g) (omega (arith, needs, room)) in
+      record {
+        next = with_tree st (linked N st a b n d);
+        answer = Done;
+        ok = refl;
+        map = made.map;
+        has = made.has;
+        fits = drafts.fits m m here (fits_now state lawful v f begun m)
+            (takes g s (apart_now state lawful v f begun) made.names.file.bytes.size);
+        counted = counted;
+        is = λ room. linked_map g made.links made.names
+            (link_keeps N st (with_tree st (linked N st a b n d)) a b Done at.map.log.sound (g.bytes, at.bytes) (done room));
+        done = done;
+        lacks = λ more. link_no_space N b g.names d at.walk g.enters.taken (few_links g) (omega (arith, needs, more));
+      }
+
+  pub link_ends : (new : Fs D) → new.handles ≡ f.handles → (draft : Result (Unit {0}) EntryFault)
+      → DraftTold state lawful v f begun store 2 2 (DraftsName s s' d head n object l.name.now) (CountsName s s' n object) draft
+      → (result : Result (Unit {0}) FsError) → Finishes state after new draft result
+      → Serves state v (seen new) (LinkTo a b) (answer_by (λ _. Done) result)
+  unfolding makes
+  link_ends new rest = told_ends state lawful v f begun store redrafts (LinkTo a b) refl refl refl refl 2 2 makes new rest
+      (λ drafts counts k m0 m st keeps is. (refl, is.handles))

@@ -1,0 +1,152 @@
+-- The call link, where its first path names an object: the second path, the rule of a new entry, and what is drafted.
+use Rattle.std.proofs.Common.{◌≡◌, ◌<◌, ◌≤◌, ◌||◌, ℕ, Bool, false, List, Option, Some, None, Result, Ok, Err, refl, sym, ◌∙◌, ap, subst}
+use Rattle.std.proofs.Common.{⊎_elim, arith}
+use Rattle.lfs_model.specs.Bytes.{AreBytes}
+use Rattle.lfs_model.specs.Call.{LinkTo, Refuse}
+use Rattle.lfs_model.specs.Checkpoint.{CheckpointValue}
+use Rattle.lfs_model.specs.Device.{DeviceState, IsLawful}
+use Rattle.lfs_model.specs.Refusal as refusals
+use Rattle.lfs_model.specs.Stands.{LogMap}
+use Rattle.lfs_model.specs.Step.{last_dots}
+use Rattle.lfs_model.specs.Tree.{State, Tree, links}
+use Rattle.lfs_files.specs.declared.header.Header.{Header}
+use Rattle.lfs_files.specs.Files as files
+use Rattle.lfs_files.specs.Headers.{as_header}
+use Rattle.lfs_store.specs.declared.store.Store.{Store}
+use Rattle.lfs_path.specs.declared.last.Last.{Last}
+use Rattle.lfs_path.specs.Reaching.{EndsParent}
+use Rattle.lfs_path.proofs.LastPieces.{last_says}
+use Rattle.lfs_entries.specs.declared.entry.Entry.{Entry}
+use Rattle.lfs_entries.specs.declared.fault.EntryFault.{EntryFault}
+use Rattle.lfs_entries.specs.Looking.{LooksAt}
+use Rattle.lfs_entries.specs.OldEntries.{HasEntry}
+use Rattle.lfs_fs.specs.declared.error.FsError.{FsError}
+use Rattle.lfs_fs.specs.declared.error.FsError.TheVariants as error
+use Rattle.lfs_fs.specs.declared.fs.Fs.{Fs}
+use Rattle.lfs_fs.specs.Drafted.{files_of}
+use Rattle.lfs_fs.specs.Faults.{error_of_entry}
+use Rattle.lfs_fs.specs.Naming.{BeginsAt, FindsPlace, LacksPlace, Reaches}
+use Rattle.lfs_fs.specs.Refusals.{refusal_of}
+use Rattle.lfs_fs.specs.Seen.{IsReady, OnlyReads, seen}
+use Rattle.lfs_fs.specs.Volume.{IsIn, Serves, segments_of}
+use Rattle.lfs_fs.proofs.calls.Files as calls
+use Rattle.lfs_fs.proofs.calls.Files.{IsBegun, begun_at, refused_after, was, with_store}
+use Rattle.lfs_fs.proofs.link.Maps.{IsLink}
+use Rattle.lfs_fs.proofs.link.Steps.{NamesObject, link_asks, link_many, second_refused}
+use Rattle.lfs_fs.proofs.new_entries.Maps.{Enters}
+use Rattle.lfs_fs.proofs.new_entries.Rule.{InEach, RuleTold, at, begun, enters, read, rule_refused, see, still}
+use Rattle.lfs_fs.proofs.new_entries.RuleSteps.{ChecksNew, new_dots}
+use Rattle.lfs_fs.proofs.old_entries.Explained.{plain_so}
+use Rattle.lfs_fs.proofs.paths.Later.{later_reaches, later_refused}
+use Rattle.lfs_fs.proofs.paths.Named.{dots_is, entry_is, kind_is, short_is, slash_is}
+use Rattle.lfs_fs.proofs.paths.Places.{ready_after}
+use Rattle.lfs_fs.proofs.read.Ends.{still_none}
+
+-- ---- the first path names an object
+module _ {D : Type 0} (state : D → DeviceState) (lawful : (d : D) → IsLawful (state d)) {old f : Fs D} {a : List ℕ} {da : ℕ} {la : Last}
+    (begins : BeginsAt state old f a da la) (store : Store D) (reads : files.Reads (files_of state f.store) (files_of state store))
+    (e : Entry) (has : HasEntry (files_of state f.store) (files_of state store) da la.name.now la.slash e) where
+  pub names_object : InEach state lawful begins store reads (λ m s. NamesObject m s a da e.object.number.value e.object.header)
+  names_object k m0 m s keeps is =
+      let g = at state lawful begins store reads k m0 m s keeps is in
+      let object = e.object.header in
+      let looks : LooksAt m da la.name.now e.holder (Some e.object)
+      = see state lawful begins store reads k m0 m s keeps is (λ x. LooksAt x da la.name.now e.holder (Some e.object)) has.finds.looks in
+      record {
+        walk = g.walk;
+        named = dots_is g ∙ has.finds.named;
+        short = short_is g e.holder looks.looks.header has.finds.short;
+        found = entry_is g e.holder (Some e.object.number.value) looks.looks;
+        ends = slash_is g ∙ has.plain;
+        plain = kind_is g e.holder looks.looks.header la.name.now e.object.number.value (sym looks.looks.gives) object looks.there
+            ∙ plain_so object.kind has.other;
+        there = looks.there;
+      }
+
+-- what holds in each state that the volume may be in, where its device keeps the model up to here
+abbrev Each : {D : Type 0} → (D → DeviceState) → Fs D → Fs D → (LogMap → State → Type 0) → Type 0
+Each state old f P = (k : CheckpointValue) (m0 m : LogMap) (s : State) → (state f.store.log.device).keeps_model
+    → IsIn state (seen old) k m0 m s → P m s
+
+-- ---- then the second path is walked
+module _ {D : Type 0} (state : D → DeviceState) (lawful : (d : D) → IsLawful (state d)) (old : Fs D) {f : Fs D}
+    (begun : IsBegun state (seen old) f)
+    {next : Fs D} (later : OnlyReads state f next) (b : List ℕ) (bytes : AreBytes b) where
+  reaches : (d : ℕ) (piece : Option Last) → FindsPlace state f next b d piece → Reaches state (seen old) next b d piece
+  reaches d piece finds = later_reaches state lawful (seen old) f next begun.still (was state lawful (seen old) f begun) begun.ready.empty
+      later begun.drafted b bytes d piece finds.last finds.walks
+
+  ready : IsReady next
+  ready = ready_after state f next begun.ready later
+
+  pub second_begins : {d : ℕ} {l : Last} → FindsPlace state f next b d (Some l) → BeginsAt state old next b d l
+  second_begins {d} {l} finds = record { reached = reaches d (Some l) finds; ready = ready }
+
+  -- it isn't walked to its end, or has no piece
+  module _ (a : List ℕ) (da n : ℕ) (object : Header) (names : Each state old f (λ m s. NamesObject m s a da n object)) where
+    names_now : Each state old next (λ m s. NamesObject m s a da n object)
+    names_now k m0 m s keeps is = names k m0 m s (later.still.reads.looks.carries.kept_before keeps) is
+
+    unnamed : (d : ℕ) → FindsPlace state f next b d None → Serves state (seen old) (seen next) (LinkTo a b) (Refuse refusals.Exist)
+    unnamed d finds =
+        let reached = reaches d None finds in
+        refused_after state lawful (seen old) next (begun_at state (seen old) next b d None reached ready) next.store
+        (still_none state (seen next)) (LinkTo a b) refl refl refl refusals.Exist tt (λ k m0 m s keeps is.
+        new_dots (link_asks (segments_of (seen old)) b (names_now k m0 m s keeps is) d (reached.walk k m0 m s keeps is))
+        (ap (λ (x : Bool). x || last_dots b) (last_says b None reached.last)))
+
+    pub second_lacks : (why : FsError) → LacksPlace state f next b error.Exist why
+        → Serves state (seen old) (seen next) (LinkTo a b) (Refuse (refusal_of why))
+    second_lacks why = ⊎_elim
+        (λ fails.
+        later_refused state lawful (seen old) f next begun.still (was state lawful (seen old) f begun) begun.ready.empty later
+        (EndsParent b) (LinkTo a b) refl refl refl
+        (λ k m0 m s keeps is r w. second_refused (segments_of (seen old)) b (names_now k m0 m s keeps is) r w) fails.cause why fails.is
+        fails.ends fails.halted fails.other)
+        (λ lacks. subst (λ (x : FsError). Serves state (seen old) (seen next) (LinkTo a b) (Refuse (refusal_of x))) (sym lacks.0)
+        (unnamed lacks.1.0 lacks.1.1))
+
+-- ---- and the rule of a new entry is asked
+module _ {D : Type 0} (state : D → DeviceState) (lawful : (d : D) → IsLawful (state d)) {old f next : Fs D} (later : OnlyReads state f next)
+    {b : List ℕ} {d : ℕ} {l : Last} (second : BeginsAt state old next b d l) {a : List ℕ} (a_bytes : AreBytes a) (da n : ℕ)
+    (object : Header) (names : Each state old f (λ m s. NamesObject m s a da n object)) (store : Store D) where
+  abbrev N : ℕ
+  N = segments_of (seen old)
+
+  module _ {result : Result Header EntryFault} (rule : RuleTold (files_of state next.store) (files_of state store) d l false result) where
+    abbrev reads : files.Reads (files_of state next.store) (files_of state store)
+    reads = rule.only.reads
+
+    names_then : InEach state lawful second store reads (λ m s. NamesObject m s a da n object)
+    names_then k m0 m s keeps is = names k m0 m s (later.still.reads.looks.carries.kept_before (reads.looks.carries.kept_before keeps)) is
+
+    asks : InEach state lawful second store reads (λ m s. ChecksNew N s b d (LinkTo a b) false)
+    asks k m0 m s keeps is = link_asks N b (names_then k m0 m s keeps is) d (at state lawful second store reads k m0 m s keeps is).walk
+
+  pub name_refused : (why : EntryFault) → RuleTold (files_of state next.store) (files_of state store) d l false (Err why)
+      → Serves state (seen old) (seen (with_store next store)) (LinkTo a b) (Refuse (refusal_of (error_of_entry why)))
+  name_refused why rule = rule_refused state lawful second store rule.only.reads (LinkTo a b) refl refl refl false (asks rule) why rule
+
+  module _ (head : Header) (rule : RuleTold (files_of state next.store) (files_of state store) d l false (Ok head)) where
+    entering : InEach state lawful second store rule.only.reads (λ m s. Enters N m s b d l false head)
+    entering = enters state lawful second store rule.only.reads false head rule
+
+    -- the object has all the links that it may have
+    pub many_refused : 1000 ≤ object.links
+        → Serves state (seen old) (seen (with_store next store)) (LinkTo a b) (Refuse refusals.TooManyLinks)
+    many_refused many =
+        refused_after state lawful (seen old) next (begun state lawful second store rule.only.reads) store
+        (still state lawful second store rule.only.reads) (LinkTo a b) refl refl refl refusals.TooManyLinks tt (λ k m0 m s keeps is.
+        let here = names_then rule k m0 m s keeps is in
+        let g = entering k m0 m s keeps is in
+        let same : object.links ≡ links s.tree n
+        = is.log.links n (as_header object) here.there ∙ ap (λ (t : Tree). links t n) (sym is.log.is) in
+        link_many N b here d g.at.walk g.taken (omega (arith, same, many)))
+
+    -- it gets the name
+    pub may_link : object.links < 1000 → (drafted : Store D) → files.Redrafts (files_of state store) (files_of state drafted)
+        → calls.InEach state lawful (seen old) (with_store next store) (read state lawful second store rule.only.reads) drafted
+        (λ m s. IsLink N m s a b da d l head n object)
+    may_link few drafted redrafts k m0 m s after is =
+        let keeps = redrafts.looks.carries.kept_before after in
+        record { enters = entering k m0 m s keeps is; names = names_then rule k m0 m s keeps is; few = few; bytes = a_bytes }

@@ -1,0 +1,81 @@
+-- What the rule of a new entry takes, and why it takes none, as the model sees it in one state.
+use Rattle.std.proofs.Common.{not, ◌&&◌, ◌≡◌, ℕ, Bool, false, List, length, Option, Some, None, ◌∙◌, ap, subst, ⊎_elim, arith}
+use Rattle.lfs_model.specs.Call.{Call}
+use Rattle.lfs_model.specs.Slot.{IsName}
+use Rattle.lfs_model.specs.Stands.{LogMap}
+use Rattle.lfs_model.specs.Step.{is_long}
+use Rattle.lfs_model.specs.PathText.{slash}
+use Rattle.lfs_model.specs.Tree.{State, name_len}
+use Rattle.lfs_files.specs.declared.header.Header.{Header}
+use Rattle.lfs_files.specs.Files.{FilesState}
+use Rattle.lfs_path.specs.declared.last.Last.{Last}
+use Rattle.lfs_path.specs.Pieces.{is_dots}
+use Rattle.lfs_path.specs.Seeing.{HasHeader}
+use Rattle.lfs_path.specs.Telling.{TellsFault}
+use Rattle.lfs_entries.specs.declared.fault.EntryFault.{EntryFault}
+use Rattle.lfs_entries.specs.declared.fault.EntryFault.TheVariants as fault
+use Rattle.lfs_entries.specs.Looking.{IsHolder, LooksUp}
+use Rattle.lfs_entries.specs.NewEntries.{Gives, RefusesEntry, TakesEntry}
+use Rattle.lfs_entries.specs.Telling.{InEach}
+use Rattle.lfs_fs.proofs.calls.Files.{Explains}
+use Rattle.lfs_fs.proofs.new_entries.RuleSteps.{ChecksNew, IsTaken, new_dots, new_full, new_long, new_slash, new_there}
+use Rattle.lfs_fs.proofs.paths.LastNames.{last_is_name}
+use Rattle.lfs_fs.proofs.paths.Named.{IsReached, dir, dots_is, free_is, full_is, long_is, piece_is, short_is, slash_is, there_is}
+use Rattle.lfs_fs.proofs.volume.Directories.{limit_in_directory}
+
+module _ {S D : Type 0} (a b : FilesState S D) {N : ℕ} {m : LogMap} {s : State} {p : List ℕ} {d : ℕ} {l : Last}
+    (g : IsReached N m s p d l) (see : (P : LogMap → Type 0) → InEach a b P → P m) (is_mkdir : Bool) where
+  -- a slash behind the name, where none may be
+  slashed : (slash p && not is_mkdir) ≡ (l.slash && not is_mkdir)
+  slashed = ap (λ (x : Bool). x && not is_mkdir) (slash_is g)
+
+  -- ---- it takes an entry
+  module _ (head : Header) (takes : TakesEntry a b d l.name.now l.slash is_mkdir head) where
+    new_looks : LooksUp m d l.name.now head None
+    new_looks = see (λ x. LooksUp x d l.name.now head None) takes.looks
+
+    pub is_taken : IsTaken s p d is_mkdir
+    is_taken = record {
+      named = dots_is g ∙ takes.named;
+      short = short_is g head new_looks.header takes.is_name.short;
+      new = there_is g head None new_looks;
+      plain = slashed ∙ takes.plain;
+      free = free_is g head new_looks.header takes.room;
+    }
+
+  -- ---- it takes none
+  looks_at : (found : Option ℕ) (gives : Gives a b d l.name.now found) → LooksUp m d l.name.now gives.head found
+  looks_at found gives = see (λ x. LooksUp x d l.name.now gives.head found) gives.looks
+
+  not_long : (found : Option ℕ) → Gives a b d l.name.now found → is_long s.tree d p ≡ false
+  not_long found gives = short_is g gives.head (looks_at found gives).header gives.short
+
+  -- the pieces of a path are names, but for dots
+  is_named : is_dots l.name.now ≡ false → (found : Option ℕ) (gives : Gives a b d l.name.now found)
+      → IsName (name_len gives.head.form) l.name.now
+  is_named named found gives =
+      subst (IsName (name_len gives.head.form)) (piece_is g)
+      (last_is_name N s g.map.log.sound p d (name_len gives.head.form)
+      (limit_in_directory N m s g.map d (dir g) gives.head (looks_at found gives).header) g.bytes g.walk (dots_is g ∙ named)
+      (let same = ap length (piece_is g) in let short = gives.short in omega (arith, same, short)))
+
+  pub new_explained : (rose : Type 0) → (TellsFault a b (IsHolder d) → rose) → {call : Call} → ChecksNew N s p d call is_mkdir
+      → (why : EntryFault) → RefusesEntry a b d l.name.now l.slash is_mkdir why → Explains call N s rose why
+  new_explained rose rises checks fault.Exist why = ⊎_elim
+      (λ dots. new_dots checks (dots_is g ∙ dots))
+      (λ some.
+      let gives = some.1.gives in
+      let found = Some some.1.number in
+      new_there checks (dots_is g ∙ some.0) (not_long found gives) (there_is g gives.head found (looks_at found gives)))
+      why
+  new_explained rose rises checks fault.NameTooLong why =
+      new_long checks (dots_is g ∙ why.0) (long_is g why.1.head (see (HasHeader d why.1.head) why.1.header) why.1.long)
+  new_explained rose rises checks fault.Inval why = absurd (why.1.none (is_named why.0 why.1.found why.1.gives))
+  new_explained rose rises checks fault.NoEntry why =
+      new_slash checks (dots_is g ∙ why.0) (not_long None why.2) (there_is g why.2.head None (looks_at None why.2)) (slashed ∙ why.1)
+  new_explained rose rises checks fault.DirFull why =
+      let gives = why.2.gives in
+      new_full checks (dots_is g ∙ why.0) (not_long None gives) (there_is g gives.head None (looks_at None gives)) (slashed ∙ why.1)
+      (full_is g gives.head (looks_at None gives).header why.2.full)
+  new_explained rose rises checks (fault.Log f) why = rises why
+  new_explained rose rises checks other why = absurd why

@@ -1,0 +1,56 @@
+-- Why the rule of an old entry takes none, as the model sees it in one state.
+use Rattle.std.proofs.Common.{◌≡◌, ◌∙◌, ◌≢◌, ℕ, List, false, Some, None, refl, ap, ⊎_elim}
+use Rattle.lfs_model.specs.declared.Kind.{Kind}
+use Rattle.lfs_model.specs.declared.Kind.TheVariants as kind
+use Rattle.lfs_model.specs.Call.{Call}
+use Rattle.lfs_model.specs.Stands.{LogMap}
+use Rattle.lfs_model.specs.Tree.{State}
+use Rattle.lfs_files.specs.Files.{FilesState}
+use Rattle.lfs_path.specs.declared.last.Last.{Last}
+use Rattle.lfs_path.specs.Seeing.{HasHeader}
+use Rattle.lfs_path.specs.Telling.{TellsFault}
+use Rattle.lfs_entries.specs.declared.fault.EntryFault.{EntryFault}
+use Rattle.lfs_entries.specs.declared.fault.EntryFault.TheVariants as fault
+use Rattle.lfs_entries.specs.Entries.{is_directory}
+use Rattle.lfs_entries.specs.Looking.{IsHolder, LooksAt, LooksUp}
+use Rattle.lfs_entries.specs.OldEntries.{RefusesOld}
+use Rattle.lfs_entries.specs.Telling.{InEach}
+use Rattle.lfs_fs.proofs.calls.Files.{Explains}
+use Rattle.lfs_fs.proofs.old_entries.Steps.{ChecksOld, old_directory, old_dots, old_long, old_missing, old_slash}
+use Rattle.lfs_fs.proofs.paths.Named.{IsReached, dots_is, gives_is, long_is, short_is, slash_is, there_is}
+
+pub plain_so : (k : Kind) → k ≢ kind.Directory → is_directory k ≡ false
+plain_so kind.File other = refl
+plain_so kind.Directory other = absurd (other refl)
+plain_so kind.Link other = refl
+
+module _ {S D : Type 0} (a b : FilesState S D) {N : ℕ} {m : LogMap} {s : State} {p : List ℕ} {d : ℕ} {l : Last}
+    (g : IsReached N m s p d l) (see : (P : LogMap → Type 0) → InEach a b P → P m) (rose : Type 0)
+    (rises : TellsFault a b (IsHolder d) → rose) (call : Call) (checks : ChecksOld N s p d call) where
+  pub old_explained : (why : EntryFault) → RefusesOld a b d l.name.now l.slash why → Explains call N s rose why
+  old_explained fault.Perm why = ⊎_elim
+      (λ dots. old_dots N s p d call checks (dots_is g ∙ dots))
+      (λ some.
+      let gives = some.1 in
+      let at : LooksAt m d l.name.now gives.entry.holder (Some gives.entry.object) =
+      see (λ x. LooksAt x d l.name.now gives.entry.holder (Some gives.entry.object)) gives.looks in
+      old_directory N s p d call checks (dots_is g ∙ some.0) (short_is g gives.entry.holder at.looks.header gives.short)
+      (there_is g gives.entry.holder _ at.looks)
+      (gives_is g gives.entry.holder gives.entry.object.number.value at.looks gives.entry.object.header at.there
+      ∙ ap is_directory gives.is))
+      why
+  old_explained fault.NameTooLong why =
+      old_long N s p d call checks (dots_is g ∙ why.0) (long_is g why.1.head (see (HasHeader d why.1.head) why.1.header) why.1.long)
+  old_explained fault.NoEntry why =
+      let at : LooksUp m d l.name.now why.1.head None = see (λ x. LooksUp x d l.name.now why.1.head None) why.1.looks in
+      old_missing N s p d call checks (dots_is g ∙ why.0) (short_is g why.1.head at.header why.1.short) (there_is g why.1.head None at)
+  old_explained fault.NotDir why =
+      let gives = why.2 in
+      let at : LooksAt m d l.name.now gives.entry.holder (Some gives.entry.object) =
+      see (λ x. LooksAt x d l.name.now gives.entry.holder (Some gives.entry.object)) gives.looks in
+      old_slash N s p d call checks (dots_is g ∙ why.0) (short_is g gives.entry.holder at.looks.header gives.short)
+      (there_is g gives.entry.holder _ at.looks) (slash_is g ∙ why.1)
+      (gives_is g gives.entry.holder gives.entry.object.number.value at.looks gives.entry.object.header at.there
+      ∙ plain_so gives.entry.object.header.kind gives.is)
+  old_explained (fault.Log f) why = rises why
+  old_explained other why = absurd why

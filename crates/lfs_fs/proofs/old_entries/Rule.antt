@@ -1,0 +1,52 @@
+-- The refusals of a call that takes an old entry: a path without a piece, and those of the rule.
+use Rattle.std.proofs.Common.{◌≡◌, ◌||◌, ℕ, Bool, true, false, List, Some, None, ap}
+use Rattle.lfs_model.specs.Call.{Call, Refuse, takes_no_memory}
+use Rattle.lfs_model.specs.Device.{DeviceState, IsLawful}
+use Rattle.lfs_model.specs.Refusal as refusals
+use Rattle.lfs_model.specs.Step.{last_dots}
+use Rattle.lfs_files.specs.declared.fault.LogFault.TheVariants as log
+use Rattle.lfs_files.specs.Files as files
+use Rattle.lfs_store.specs.declared.store.Store.{Store}
+use Rattle.lfs_path.specs.declared.last.Last.{Last}
+use Rattle.lfs_entries.specs.declared.fault.EntryFault.{EntryFault}
+use Rattle.lfs_entries.specs.declared.fault.EntryFault.TheVariants as fault
+use Rattle.lfs_entries.specs.Looking.{IsHolder}
+use Rattle.lfs_entries.specs.OldEntries.{RefusesOld}
+use Rattle.lfs_fs.specs.declared.fs.Fs.{Fs}
+use Rattle.lfs_fs.specs.Drafted.{files_of}
+use Rattle.lfs_fs.specs.Faults.{error_of_entry}
+use Rattle.lfs_fs.specs.Naming.{Reaches}
+use Rattle.lfs_fs.specs.Refusals.{refusal_of}
+use Rattle.lfs_fs.specs.Seen.{IsReady, seen}
+use Rattle.lfs_fs.specs.Volume.{Mounted, Serves, segments_of}
+use Rattle.lfs_fs.proofs.calls.Files.{IsBegun, Rose, begun_at, fault_serves, nameless, only, reached_in, rose_where, told, with_store}
+use Rattle.lfs_fs.proofs.old_entries.Explained.{old_explained}
+use Rattle.lfs_fs.proofs.old_entries.Steps.{OldCall, old_dots}
+use Rattle.lfs_fs.proofs.paths.Named.{holder}
+
+module _ {D : Type 0} (state : D → DeviceState) (lawful : (d : D) → IsLawful (state d)) (v : Mounted D) (f : Fs D) (path : List ℕ) (d : ℕ)
+    (call : Call) (of : OldCall (segments_of v) path d call) (memory : takes_no_memory call ≡ false) where
+  -- a path without a piece
+  pub no_piece_perm : Reaches state v f path d None → f.store.log.halted ≡ false → Serves state v (seen f) call (Refuse refusals.Perm)
+  no_piece_perm reached running = nameless state lawful v f path d reached running call of.unclean refusals.Perm tt
+      (λ s sound walk says. old_dots (segments_of v) s path d call (of.checks s sound walk)
+      (ap (λ (b : Bool). b || last_dots path) says))
+
+  -- the rule takes no entry
+  module _ (l : Last) (reached : Reaches state v f path d (Some l)) (ready : IsReady f) (store : Store D)
+      (reads : files.Reads (files_of state f.store) (files_of state store)) where
+    begun : IsBegun state v f
+    begun = begun_at state v f path d (Some l) reached ready
+
+    pub entry_refused : (why : EntryFault) → (why ≡ fault.Log log.Halted → (files_of state f.store).halted ≡ true)
+        → (why ≡ fault.Log log.Full → ⊥) → RefusesOld (files_of state f.store) (files_of state store) d l.name.now l.slash why
+        → Serves state v (seen (with_store f store)) call (Refuse (refusal_of (error_of_entry why)))
+    entry_refused why halted other refuses =
+        fault_serves state lawful v f begun store (only state lawful v f begun store reads).still call of.uncommitted of.unclean memory why
+        halted other (λ k m0 m s keeps is. (
+        let g = reached_in state lawful v f begun path d l reached (reads.looks.carries.kept_before keeps) k m0 m s is in
+        old_explained (files_of state f.store) (files_of state store) g (λ P all. told state lawful v f begun store P all k m0 m s keeps is)
+        (Rose state lawful v f begun store)
+        (λ fails. rose_where state lawful v f begun store (only state lawful v f begun store reads).still (IsHolder d) fails k m0 m s keeps
+        is (holder g))
+        call (of.checks s is.log.sound g.walk) why refuses))
