@@ -38,13 +38,6 @@ pub record OnlyReads {D : Type 0} (state : D → DeviceState) (old new : Fs D) :
   pub draft : new.store.draft ≡ old.store.draft
   pub drafted : new.store.drafted ≡ old.store.drafted
 
--- A volume of whose draft only the changes are others.
-pub record OnlyDrafts {D : Type 0} (old new : Fs D) : Type 0 where
-  pub log : new.store.log ≡ old.store.log
-  pub saved : new.store.log.saved ≡ old.store.log.saved
-  pub drafted : new.store.drafted ≡ old.store.drafted
-  pub handles : new.handles ≡ old.handles
-
 -- A call may draft: the volume isn't halted, and nothing is drafted.
 pub record IsReady {D : Type 0} (f : Fs D) : Type 0 where
   pub running : f.store.log.halted ≡ false

@@ -1,38 +1,29 @@
 -- Calls on files are calls on a store.
-use Rattle.std.proofs.Common.{◌≡◌, ◌<◌, ℕ, List, None, refl, sym, ◌∙◌, ap, subst}
-use Rattle.std.specs.FinMap.{find}
+use Rattle.std.proofs.Common.{◌≡◌, ◌<◌, ℕ, List, refl, sym, ◌∙◌, ap, subst}
 use Rattle.lfs_model.specs.Device.{DeviceState}
-use Rattle.lfs_model.specs.Objects.{IsDirectory}
 use Rattle.lfs_model.specs.Refusal as model
 use Rattle.lfs_model.specs.Refusal.{Refusal}
 use Rattle.lfs_model.specs.Stands.{LogMap}
-use Rattle.lfs_model.specs.Tree.{Handles, Tree, byte_cmp}
+use Rattle.lfs_model.specs.Tree.{Tree}
 use Rattle.lfs_model.specs.TreeOf.{tree_in}
 use Rattle.lfs_model.specs.Walk.{At, End, Refused}
-use Rattle.lfs_files.specs.declared.header.Header.{Header}
 use Rattle.lfs_files.specs.Files as files
 use Rattle.lfs_files.specs.Files.{Counted, WritesFile}
-use Rattle.lfs_files.specs.Headers.{as_header}
 use Rattle.lfs_store.specs.declared.store.Store.{Store}
 use Rattle.lfs_store.specs.log.verify.declared.totals.BlockTotals.{BlockTotals}
-use Rattle.lfs_store.specs.log.Held.{Held, IsReadFault, Reads}
+use Rattle.lfs_store.specs.log.Held.{Held, Reads}
 use Rattle.lfs_store.specs.memory.Batch.{staged}
-use Rattle.lfs_store.specs.memory.declared.changes.Changes.{Changes}
-use Rattle.lfs_store.specs.Recounting.{Counts}
 use Rattle.lfs_store.specs.Seen.{StagedLog}
-use Rattle.lfs_store.proofs.LogReads.{held_still, reads_none}
+use Rattle.lfs_store.proofs.LogReads.{reads_none}
 use Rattle.lfs_path.specs.declared.walk_fault.WalkFault.{WalkFault}
 use Rattle.lfs_path.specs.declared.walk_fault.WalkFault.TheVariants as walk
 use Rattle.lfs_path.specs.Reaching.{EndsParent, IsParent}
 use Rattle.lfs_path.specs.Telling.{TellsRefusal, Tells}
 use Rattle.lfs_path.specs.Trees.{HasTree, here}
-use Rattle.lfs_path.specs.dirs.Adding as adding
-use Rattle.lfs_path.specs.dirs.Adding.{AddsName, grown, slot_for}
-use Rattle.lfs_path.specs.dirs.Directory.{names_at}
 use Rattle.lfs_fs.specs.declared.fs.Fs.{Fs}
 use Rattle.lfs_fs.specs.Seen.{seen}
 use Rattle.lfs_fs.specs.Volume.{IsStill}
-use Rattle.lfs_fs.specs.Drafted.{Adds, EachDrafted, EndsRefused, WalksTo, files_of}
+use Rattle.lfs_fs.specs.Drafted.{EachDrafted, EndsRefused, WalksTo, files_of}
 
 -- two numbers as totals
 abbrev totals_of : Counted → BlockTotals
@@ -44,10 +35,6 @@ module _ {D : Type 0} (state : D → DeviceState) (a b : Store D) where
       → EachDrafted state a.log b.log a.draft.changes P
   each_drafted P all k m0 m keeps holds =
       all m (staged a.draft.changes m) keeps record { checkpoint = k; acknowledged = m0; holds = holds; draft = refl }
-
-  pub store_failed : files.IsFault (files_of state a) (files_of state b) → IsReadFault state a.log b.log
-  store_failed failed k m0 m keeps holds =
-      failed m (staged a.draft.changes m) keeps record { checkpoint = k; acknowledged = m0; holds = holds; draft = refl }
 
   -- ---- calls that only read
   module _ (reads : files.Reads (files_of state a) (files_of state b)) where
@@ -108,33 +95,6 @@ module _ {D : Type 0} (state : D → DeviceState) (a b : Store D) where
       totals = ap totals_of redrafts.totals;
     }
 
-    pub log_counts : files.Counts (files_of state a) (files_of state b)
-        → Counts state a.log b.log a.draft.changes b.draft.changes a.drafted b.drafted
-    log_counts counts k m0 m keeps holds =
-        counts m (staged a.draft.changes m) (staged b.draft.changes m) keeps
-        record { checkpoint = k; acknowledged = m0; holds = holds; draft = refl }
-        record { checkpoint = k; acknowledged = m0; holds = held_still state a.log b.log k m0 m log_redrafts holds; draft = refl }
-
-  pub log_adds : (d : ℕ) (head : Header) (n : ℕ) (name : List ℕ) → adding.Adds (files_of state a) (files_of state b) d head n name
-      → Adds state a.log b.log a.draft.changes b.draft.changes d head n name
-  log_adds d head n name adds = record {
-    fits = λ k m0 m holds fits takes. adds.writes.fits m
-        (staged a.draft.changes m) record { checkpoint = k; acknowledged = m0; holds = holds; draft = refl } fits record {
-          there = takes.there;
-          apart = record { inode = takes.apart.inode; above = takes.apart.above };
-          within = takes.within;
-          header = takes.header;
-        };
-    file = λ k m0 m keeps holds.
-        let f = adds.has m (staged a.draft.changes m) keeps record { checkpoint = k; acknowledged = m0; holds = holds; draft = refl } in
-        subst (λ (x : LogMap). WritesFile (staged a.draft.changes m) x d head (grown head) head.size (slot_for head.form n name))
-        f.has.draft f.file;
-    more = λ k m0 m keeps holds.
-        let f = adds.has m (staged a.draft.changes m) keeps record { checkpoint = k; acknowledged = m0; holds = holds; draft = refl } in
-        subst (λ (x : LogMap). IsDirectory (staged a.draft.changes m) d (as_header head) → find byte_cmp name
-        (names_at (staged a.draft.changes m) d head) ≡ None → AddsName (staged a.draft.changes m) x d head n name) f.has.draft f.more;
-  }
-
 -- a volume whose store was changed no more than its draft, from where it has the same log and totals
 pub still_drafted : {D : Type 0} (state : D → DeviceState) (old : Fs D) (a b : Store D) → a.log ≡ old.store.log
     → a.log.saved ≡ old.store.log.saved
@@ -148,13 +108,6 @@ still_drafted {D} state old a b log saved redrafts = record {
   table = refl;
 }
 
--- the same of a volume whose handles are those before
-pub still_with : {D : Type 0} (state : D → DeviceState) (old mid : Fs D) (b : Store D) → mid.handles ≡ old.handles
-    → IsStill state (seen old) (seen record { alloc = old.alloc; store = b; handles = old.handles })
-    → IsStill state (seen old) (seen record { alloc = mid.alloc; store = b; handles = mid.handles })
-still_with state old mid b handles still =
-    subst (λ (h : Handles). IsStill state (seen old) (seen record { alloc = old.alloc; store = b; handles = h })) (sym handles) still
-
 -- a volume whose log is as it was
 pub still_logged : {D : Type 0} (state : D → DeviceState) (old new : Fs D) → new.store.log ≡ old.store.log
     → new.store.log.saved ≡ old.store.log.saved → new.handles ≡ old.handles → IsStill state (seen old) (seen new)
@@ -165,17 +118,3 @@ still_logged {D} state old new log saved handles = record {
   others = ap (λ (h : Held D). h.totals.meta_blocks) log;
   table = handles;
 }
-
--- ---- what is told from a log that was read before
-
-module _ {D : Type 0} (state : D → DeviceState) (h h' h'' : Held D) (reads : Reads state h h') where
-  pub adds_after : (c c' : Changes) (d : ℕ) (head : Header) (n : ℕ) (name : List ℕ) → Adds state h' h'' c c' d head n name
-      → Adds state h h'' c c' d head n name
-  adds_after c c' d head n name adds = record {
-    fits = λ k m0 m holds. adds.fits k m0 m (held_still state h h' k m0 m reads holds);
-    file = λ k m0 m keeps holds. adds.file k m0 m keeps (held_still state h h' k m0 m reads holds);
-    more = λ k m0 m keeps holds. adds.more k m0 m keeps (held_still state h h' k m0 m reads holds);
-  }
-
-  pub counts_after : (c c' : Changes) (t t' : BlockTotals) → Counts state h' h'' c c' t t' → Counts state h h'' c c' t t'
-  counts_after c c' t t' counts k m0 m keeps holds = counts k m0 m keeps (held_still state h h' k m0 m reads holds)

@@ -1,18 +1,15 @@
 -- The ends of the call that opens a file.
-use Rattle.std.proofs.Common.{◌≡◌, ◌≢◌, ◌<◌, ◌≤◌, ℕ, true, false, List, Some, inl, refl, sym, ◌∙◌, ap, subst}
+use Rattle.std.proofs.Common.{◌≡◌, ◌≢◌, ◌<◌, ◌≤◌, ℕ, true, false, List, inl, refl, sym, ◌∙◌, ap, subst}
 use Rattle.std.specs.Ordering.{nat_cmp}
 use Rattle.std.specs.FinMap.{put}
-use Rattle.lfs_model.specs.declared.Kind.{Kind}
 use Rattle.lfs_model.specs.declared.Kind.TheVariants as kind
 use Rattle.lfs_model.specs.Call.{Handle, Open, Refuse}
 use Rattle.lfs_model.specs.Checkpoint.{CheckpointValue}
 use Rattle.lfs_model.specs.Device.{DeviceState, IsLawful}
-use Rattle.lfs_model.specs.Entry as entry
 use Rattle.lfs_model.specs.Refusal.{IsDir, TooManyOpen}
 use Rattle.lfs_model.specs.Stands.{LogMap}
 use Rattle.lfs_model.specs.Step.{Step}
 use Rattle.lfs_model.specs.Tree.{Handles, State, is_dir, least_handle, node}
-use Rattle.lfs_model.specs.TreeOf.{node_by}
 use Rattle.lfs_model.specs.Walk.{At, Resolve}
 use Rattle.lfs_files.specs.declared.header.Header.{Header}
 use Rattle.lfs_store.specs.log.Held.{Reads}
@@ -26,11 +23,6 @@ use Rattle.lfs_fs.proofs.open_files.TableEnds.{table_serves}
 use Rattle.lfs_fs.proofs.paths.Steps.{open_directory, open_file, open_too_many, with_handle}
 use Rattle.lfs_fs.proofs.read.Shown.{directory, other_directory}
 use Rattle.lfs_fs.proofs.volume.Map.{headers_of_volume, map_of_volume, opened_map}
-
-pub no_dir_by : (m : LogMap) (k : Kind) (n : ℕ) (h : entry.Header) → k ≢ kind.Directory → is_dir (Some (node_by m k n h)) ≡ false
-no_dir_by m kind.File n h other = refl
-no_dir_by m kind.Directory n h other = absurd (other refl)
-no_dir_by m kind.Link n h other = refl
 
 pub open_quiet : (path : List ℕ) → IsQuiet (Open path)
 open_quiet path = record { free = refl; memory = refl; leaves = refl; unclean = refl; kept = refl }

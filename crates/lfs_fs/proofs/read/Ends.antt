@@ -1,8 +1,8 @@
 -- What a call that begins makes of its end, and ends after which nothing has changed.
 use Rattle.std.proofs.Common.{◌≡◌, ◌<◌, ◌+◌, ◌*◌, ℕ, Bool, true, false, ◌&&◌, length, Some}
-use Rattle.std.proofs.Common.{refl, sym, ◌∙◌, ap, subst, inl, inr, ⊎_elim, arith, ◌⊎◌}
+use Rattle.std.proofs.Common.{refl, sym, ◌∙◌, ap, subst, inl, inr, arith}
 use Rattle.lfs_model.specs.Call.{Answer, Call, FormatVersion, Refuse, Room, Space, Version, changes, cleans, commits, is_ok}
-use Rattle.lfs_model.specs.Call.{takes_no_memory, never_for_device}
+use Rattle.lfs_model.specs.Call.{never_for_device}
 use Rattle.lfs_model.specs.Checkpoint.{CheckpointValue}
 use Rattle.lfs_model.specs.Device.{DeviceState, IsLawful}
 use Rattle.lfs_model.specs.Refusal.{Device, Halted}
@@ -11,7 +11,6 @@ use Rattle.lfs_model.specs.Step.{Step}
 use Rattle.lfs_model.specs.Tree.{State}
 use Rattle.lfs_files.specs.declared.header.Header.{Header}
 use Rattle.lfs_store.specs.memory.Present.{as_header}
-use Rattle.lfs_store.specs.log.Held.{IsReadFault}
 use Rattle.lfs_store.proofs.LogReads.{reads_none}
 use Rattle.lfs_store.proofs.TreeTotals.{totals_of_tree}
 use Rattle.lfs_fs.specs.declared.error.FsError.{FsError}
@@ -30,7 +29,7 @@ use Rattle.lfs_fs.proofs.calls.Drafts.{not_acknowledged}
 use Rattle.lfs_fs.proofs.volume.Map.{version_of_volume}
 use Rattle.lfs_fs.proofs.paths.Steps.{version_done}
 use Rattle.lfs_fs.proofs.calls.Exits.{served_halted, served_still}
-use Rattle.lfs_fs.proofs.calls.Reads.{memory_serves, space_serves, told_serves}
+use Rattle.lfs_fs.proofs.calls.Reads.{space_serves, told_serves}
 
 module _ {D : Type 0} (state : D → DeviceState) where
   -- a volume is still where nothing is read
@@ -112,24 +111,6 @@ module _ {D : Type 0} (state : D → DeviceState) (old new : Mounted D) (call : 
       let rose = rises k m0 m p.state keeps is in
       inr (Device, refl, (free, (let f = here.failures in omega (arith, f, rose))), refl)))
       (not_acknowledged call Device)
-
-  -- memory was refused, or a call of the device failed
-  pub fails_serves : never_for_device call ≡ false → takes_no_memory call ≡ false → (fault : FsError)
-      → (fault ≡ error.NoMemory) ⊎ ((fault ≡ error.Device) × AfterEach
-      (λ m s. (state old.log.device).failures < (state new.log.device).failures))
-      → Serves state old new call (Refuse (refusal_of fault))
-  fails_serves free takes fault why = ⊎_elim
-      (λ memory. subst (λ (e : FsError). Serves state old new call (Refuse (refusal_of e)))
-      (sym memory) (memory_serves state old new call lawful still was takes))
-      (λ failed. subst (λ (e : FsError). Serves state old new call (Refuse (refusal_of e)))
-      (sym failed.0) (failed_serves free failed.1))
-      why
-
-  pub none_serves : never_for_device call ≡ false → takes_no_memory call ≡ false → (fault : FsError)
-      → (fault ≡ error.NoMemory) ⊎ ((fault ≡ error.Device) × IsReadFault state old.log new.log)
-      → Serves state old new call (Refuse (refusal_of fault))
-  none_serves free takes fault why = fails_serves free takes fault (⊎_elim inl
-      (λ failed. inr (failed.0, λ k m0 m s keeps is. failed.1 k m0 m keeps is.stores.holds)) why)
 
 -- ---- where an object is there
 

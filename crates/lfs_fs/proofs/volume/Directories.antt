@@ -1,7 +1,7 @@
 -- A directory of a volume: its names as the model sees them, and the least number that is free.
 use Rattle.std.proofs.Common.{refl, ◌≡◌, ◌≢◌, ◌<◌, ◌≤◌, ◌*◌, ℕ, true, false, List, [], length}
-use Rattle.std.proofs.Common.{Option, Some, None, sym, ◌∙◌, ap, ⊎_elim, arith, nat_lt, ◌∷◌}
-use Rattle.std.specs.Prelude.{is_some, unwrap_or}
+use Rattle.std.proofs.Common.{Option, Some, None, sym, ◌∙◌, ap, ⊎_elim, arith, ◌∷◌}
+use Rattle.std.specs.Prelude.{unwrap_or}
 use Rattle.std.proofs.lemmas.Bool.{cases_lt}
 use Rattle.std.specs.FinMap.{find}
 use Rattle.lfs_model.specs.declared.Kind.{Kind}
@@ -10,7 +10,7 @@ use Rattle.lfs_model.specs.Encodes.{HasInode}
 use Rattle.lfs_model.specs.Entry as entry
 use Rattle.lfs_model.specs.Objects.{IsDirectory, IsHeaderOf}
 use Rattle.lfs_model.specs.Stands.{LogMap}
-use Rattle.lfs_model.specs.Step.{is_full, is_long, is_there, name}
+use Rattle.lfs_model.specs.Step.{is_full}
 use Rattle.lfs_model.specs.Tree.{Dir, File, Names, Node, State, byte_cmp, entry as entry_in, form_of, is_dir, least, name_limit, name_len}
 use Rattle.lfs_model.specs.Tree.{names_in, names_of, node, slot_len}
 use Rattle.lfs_model.specs.TreeOf.{map_of, node_by, slots}
@@ -19,7 +19,7 @@ use Rattle.lfs_model.proofs.Makes.{starts_one}
 use Rattle.lfs_model.proofs.Standing.{slots_length}
 use Rattle.lfs_files.specs.declared.header.Header.{Header}
 use Rattle.lfs_store.specs.memory.Present.{as_header}
-use Rattle.lfs_fs.proofs.calls.Checks.{below, not_below, at_most, not_at_most}
+use Rattle.lfs_fs.proofs.calls.Checks.{below, at_most, not_at_most}
 use Rattle.lfs_fs.proofs.volume.Slots.{all_slots, free_slots, slots_whole, some_slot}
 use Rattle.lfs_fs.proofs.volume.Nodes.{IsMapOf, dir_there, no_header_none, node_by_header}
 
@@ -75,18 +75,6 @@ module _ (N : ℕ) (m : LogMap) (s : State) (is : IsMapOf N m s) (d : ℕ) (dir 
       let some = some_names names_there nm n found in
       let same = ap length names_in_directory in
       some_slot head.form (length (names_in s.tree d)) head.size size (omega (arith, some, same))
-
-  -- ---- what create asks of it
-  module _ (p : List ℕ) where
-    pub short_in_directory : length (name p) ≤ name_len head.form → is_long s.tree d p ≡ false
-    short_in_directory short = ap (λ (k : ℕ). nat_lt k (length (name p))) limit_in_directory
-        ∙ not_below (name_len head.form) (length (name p)) short
-
-    pub there_in_directory : (n : ℕ) → find byte_cmp (name p) names_there ≡ Some n → is_there s.tree d p ≡ true
-    there_in_directory n found = ap is_some (entry_in_directory (name p) ∙ found)
-
-    pub new_in_directory : find byte_cmp (name p) names_there ≡ None → is_there s.tree d p ≡ false
-    new_in_directory none = ap is_some (entry_in_directory (name p) ∙ none)
 
   pub full_directory : IsHeaderOf d (as_header head) → 1023 * slot_len head.form < head.size → is_full s.tree d ≡ true
   full_directory fits full =

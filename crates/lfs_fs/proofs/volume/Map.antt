@@ -1,7 +1,7 @@
 -- What a mounted volume's log map is, how a volume that runs on is put together again after a call, and what an open leaves.
 use Rattle.std.proofs.Common.{◌≡◌, ◌⊎◌, ◌≤◌, ◌<◌, ◌+◌, ◌/◌, ◌^◌, ℕ, true, false, List, Some, sym, ◌∙◌, subst, ⊎_elim}
 use Rattle.lfs_model.specs.Call.{Handle}
-use Rattle.lfs_model.specs.Checkpoint.{CheckpointValue, IsVersion}
+use Rattle.lfs_model.specs.Checkpoint.{CheckpointValue}
 use Rattle.lfs_model.specs.Device.{DeviceState}
 use Rattle.lfs_model.specs.Entry.{Header}
 use Rattle.lfs_model.specs.Objects.{IsHeaderOf}
@@ -33,9 +33,6 @@ module _ {D : Type 0} (state : D → DeviceState) (v : Mounted D) (k : Checkpoin
   -- the version that the log has
   pub version_of_volume : s.version ≡ v.log.version
   version_of_volume = is.log.version ∙ is.stores.holds.version
-
-  pub known_version : IsVersion v.log.version
-  known_version = subst IsVersion version_of_volume is.log.sound.version
 
   -- its headers are those of inodes
   pub headers_of_volume : (n : ℕ) (h : Header) → m.header n ≡ Some h → IsHeaderOf n h

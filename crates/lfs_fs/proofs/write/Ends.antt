@@ -37,7 +37,7 @@ use Rattle.lfs_fs.specs.declared.fs.Fs.{Fs}
 use Rattle.lfs_fs.specs.Accepting.{IsDeclined, StagesDraft, TellsFew, TurnsDown, limit_of, need_of}
 use Rattle.lfs_fs.specs.Faults.{error_of_store}
 use Rattle.lfs_fs.specs.Refusals.{refusal_of}
-use Rattle.lfs_fs.specs.Seen.{LacksHeader, answer_by, seen, OnlyReads}
+use Rattle.lfs_fs.specs.Seen.{LacksHeader, answer_by, seen}
 use Rattle.lfs_fs.specs.Volume.{Behaves, CommitsFew, IsIn, IsStill, Mounted, Serves, TellsAtMost, segments_of}
 use Rattle.lfs_fs.proofs.calls.AnyDevice.{IsBounded, IsOrdinary, change_bounded, change_writes, commits_none, not_both, not_halted}
 use Rattle.lfs_fs.proofs.calls.AnyDevice.{ok_refuses_none, still_behaves, write_behaves}
@@ -52,7 +52,6 @@ use Rattle.lfs_model.specs.Totals.{IsCounted}
 use Rattle.lfs_model.specs.Step.{Step}
 use Rattle.lfs_model.specs.Run.{acknowledges}
 use Rattle.lfs_fs.proofs.calls.Steps.{not_worn, refused_not_worn, worn}
-use Rattle.lfs_store.specs.Recounting.{AreTotals}
 
 -- why a draft isn't staged, by the fault of the store
 pub turned_down : {D : Type 0} (state : D → DeviceState) (old new : Fs D) (fault : StoreFault) (e : FsError) → e ≡ error_of_store fault
@@ -232,17 +231,6 @@ module _ {D : Type 0} (state : D → DeviceState) (lawful : (d : D) → IsLawful
     module _ (h n : ℕ) (opens : find nat_cmp h old.table ≡ Some n) where
       pub opened_in : (k : CheckpointValue) (m0 m : LogMap) (s : State) → IsIn state old k m0 m s → IsFileOf m s.tree n
       opened_in k m0 m s is = opened_file (segments_of old) m s is.log h n (ap (find nat_cmp h) is.handles ∙ opens)
-
-  -- the totals of a log map, as they stand before a draft
-  pub totals_read : (v : Mounted D) (old mid : Fs D) → IsStill state v (seen old)
-      → old.store.drafted ≡ old.store.log.totals → OnlyReads state old mid → (m : LogMap)
-      → IsCounted m v.blocks v.others → AreTotals m mid.store.drafted
-  totals_read v old mid still drafted only m counted =
-      let before : AreTotals m old.store.log.totals = record {
-        stored = still.blocks ∙ counted.stored;
-        above = still.others ∙ counted.above;
-      } in
-      subst (λ (t : BlockTotals). AreTotals m t) (sym (only.drafted ∙ drafted)) before
 
   -- no draft is made: memory was refused, or a call of the device failed
   pub undrafted_serves : (old new : Mounted D) (call : Call) → old.log.halted ≡ false → IsStill state old new
