@@ -25,7 +25,6 @@ module _ {D : Type 0} (state : D → DeviceState) (a b : Store D) where
 
 -- ---- bytes of files
 module _ {D : Type 0} (state : D → DeviceState) (h h' : Held D) where
-
   -- another length
   pub cut_fits : (c : Changes) (n : ℕ) (head : Header) (len : ℕ) → SetsLen state h h' c n head len → room_for c ≤ 456
   cut_fits c n head len is = let room = room_few c 1 1 is.headers is.blocks in omega (arith, room)
