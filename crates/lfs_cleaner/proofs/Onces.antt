@@ -4,7 +4,7 @@ use Rattle.std.proofs.Math.Nat.{mul-le-mul_right, one-mul}
 use Rattle.lfs_model.specs.Checkpoint.{IsSegmentCount}
 use Rattle.lfs_model.specs.Device.{DeviceState, IsLawful}
 use Rattle.lfs_log.specs.memory.segments.Table.{clean_in}
-use Rattle.lfs_log.specs.Held.{AreAllSaved, Held, Reads}
+use Rattle.lfs_log.specs.LogState.{AreAllSaved, LogState, Reads}
 use Rattle.lfs_log.specs.Saving.{commit_orders, pass_orders}
 use Rattle.lfs_cleaner.specs.Passing.{FailsPass, IsUnfit, RefusesPass}
 use Rattle.lfs_cleaner.specs.Room.{CleansOnce, CommitsUnsaved, FailsPasses, KeepsMap, LacksPasses, MayNotMakeRoom, PassesInNeed}
@@ -26,8 +26,8 @@ once_within n count = let least = count.least in more (n / 8) (8 * n + 4) (omega
 
 module _ {D : Type 0} (state : D → DeviceState) where
   -- a pass may be made where room can be
-  unfit_lacks : (h now : Held D) → IsLawful (state h.device) → h.halted ≡ false → h.saved ≡ true → AreAllSaved h
-      → 4 * clean_in h.memory.usage.segments < length h.memory.usage.segments
+  unfit_lacks : (h now : LogState D) → IsLawful (state h.device) → h.halted ≡ false → h.saved ≡ true → AreAllSaved h
+      → 4 * h.clean < h.segments
       → Reads state h now → IsUnfit state h now → MayNotMakeRoom state h now
   unfit_lacks h now lawful running all nothing few reads unfit k m0 m keeps may =
       let least = (segment_count state h k m0 m lawful may.holds).least in
@@ -36,29 +36,29 @@ module _ {D : Type 0} (state : D → DeviceState) where
       (omega (arith, least)) in
       unfit next.0 next.1 m keeps next.2
 
-  pub keeps_due : (h now : Held D) → IsLawful (state h.device) → h.halted ≡ false → PassesWhereDue state h now → now.totals ≡ h.totals
+  pub keeps_due : (h now : LogState D) → IsLawful (state h.device) → h.halted ≡ false → PassesWhereDue state h now → now.totals ≡ h.totals
       → KeepsMap state h now 1
   keeps_due h now lawful running due totals =
       ⊎_elim
       (λ (need : PassesInNeed state h now). (repeats_passes state h now need totals).keeps)
-      (λ none. subst (λ (x : Held D). KeepsMap state h x 1) (sym none.1)
+      (λ none. subst (λ (x : LogState D). KeepsMap state h x 1) (sym none.1)
       (keeps_weaker state h h 0 1 (keeps_none state h lawful running) (omega arith)))
       due
 
   -- ---- a pass that isn't made
-  pub lacks_pass : (h now : Held D) → IsLawful (state h.device) → h.halted ≡ false → h.saved ≡ true → AreAllSaved h
-      → 4 * clean_in h.memory.usage.segments < length h.memory.usage.segments → RefusesPass state h now → LacksPasses state h now 0
+  pub lacks_pass : (h now : LogState D) → IsLawful (state h.device) → h.halted ≡ false → h.saved ≡ true → AreAllSaved h
+      → 4 * h.clean < h.segments → RefusesPass state h now → LacksPasses state h now 0
   lacks_pass h now lawful running all nothing few refuses = record {
     keeps = keeps_reads state h now lawful running refuses.reads;
     never = unfit_lacks h now lawful running all nothing few refuses.reads refuses.unfit;
   }
 
-  pub fails_pass : (h now : Held D) → IsLawful (state h.device) → h.halted ≡ false → FailsPass state h now → FailsPasses state h now 0
+  pub fails_pass : (h now : LogState D) → IsLawful (state h.device) → h.halted ≡ false → FailsPass state h now → FailsPasses state h now 0
   fails_pass h now lawful running fails = record {
     keeps = keeps_reads state h now lawful running fails.reads;
     fault = read_fault state h now fails.fault;
   }
 
   -- a pass behind a commit
-  pub once_behind : (a b c : Held D) → CommitsUnsaved state a b → PassesWhereDue state b c → CleansOnce state a c
+  pub once_behind : (a b c : LogState D) → CommitsUnsaved state a b → PassesWhereDue state b c → CleansOnce state a c
   once_behind a b c commits passes = inl (record { between = b; commits = commits; passes = passes })

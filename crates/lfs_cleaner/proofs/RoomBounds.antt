@@ -9,11 +9,11 @@ use Rattle.lfs_model.specs.Device.{DeviceState, IsLawful}
 use Rattle.lfs_model.specs.Stands.{LogMap}
 use Rattle.lfs_model.specs.Totals.{IsCounted}
 use Rattle.lfs_model.specs.TreeOf.{dropped}
-use Rattle.lfs_model.proofs.Newest.{newest_fits}
+use Rattle.lfs_log.proofs.LogReads.{segment_count}
 use Rattle.lfs_log.specs.memory.segments.Table.{clean_in}
 use Rattle.lfs_log.specs.verify.declared.totals.BlockTotals.{BlockTotals}
 use Rattle.lfs_log.specs.segments.Early.{AreUntaken}
-use Rattle.lfs_log.specs.Held.{AreAllSaved, Held, Halts, Holds, IsFull, Saves, commits_due}
+use Rattle.lfs_log.specs.LogState.{AreAllSaved, LogState, Halts, Holds, IsFull, Saves, commits_due}
 use Rattle.lfs_log.specs.memory.files.declared.fault.LogFault.{LogFault}
 use Rattle.lfs_log.specs.memory.files.declared.fault.LogFault.TheVariants as log
 use Rattle.lfs_cleaner.specs.Passing.{CanPass}
@@ -41,10 +41,10 @@ full_else (Err log.Device) P full device halted = absurd (device refl)
 full_else (Err log.Halted) P full device halted = absurd (halted refl)
 
 -- how many commits are due
-due_one : {D : Type 0} (h : Held D) → h.saved ≡ false → commits_due h ≡ 1
+due_one : {D : Type 0} (h : LogState D) → h.saved ≡ false → commits_due h ≡ 1
 due_one h is = ap (λ (all : Bool). cond {A = ℕ} all 0 1) is
 
-due_none : {D : Type 0} (h : Held D) → h.saved ≡ true → commits_due h ≡ 0
+due_none : {D : Type 0} (h : LogState D) → h.saved ≡ true → commits_due h ≡ 0
 due_none h is = ap (λ (all : Bool). cond {A = ℕ} all 0 1) is
 
 -- ---- orders
@@ -85,14 +85,7 @@ passes_told told0 told1 t2 n n' same first second =
     subst (λ (l : List Order). t2 ≤ length l + passes_orders n) first (subst (λ (x : ℕ). t2 ≤ length told1 + passes_orders x) same second)
 
 module _ {D : Type 0} (state : D → DeviceState) where
-  -- a log that holds a map has as many segments as a volume may have
-  pub segment_count : (h : Held D) (k : CheckpointValue) (m0 m : LogMap) → IsLawful (state h.device) → Holds state h k m0 m
-      → IsSegmentCount (length h.memory.usage.segments)
-  segment_count h k m0 m lawful is =
-      let fits = ((newest_fits (state h.device).content lawful.now).0 k).0 is.log.running.settled.newest in
-      subst IsSegmentCount (sym is.log.segments) fits.held.fits.segments
-
-  pub passes_none : (h : Held D) → IsLawful (state h.device) → h.halted ≡ false → PassesDone state h h 0
+  pub passes_none : (h : LogState D) → IsLawful (state h.device) → h.halted ≡ false → PassesDone state h h 0
   passes_none h lawful running = record {
     repeats = repeats_none state h lawful running;
     gains = omega arith;
@@ -100,19 +93,19 @@ module _ {D : Type 0} (state : D → DeviceState) where
   }
 
   -- a pass more
-  pub passes_more : (h now next : Held D) (count : ℕ) → PassesDone state h now count → PassesInNeed state now next
+  pub passes_more : (h now next : LogState D) (count : ℕ) → PassesDone state h now count → PassesInNeed state now next
       → next.totals ≡ now.totals
-      → length (state next.device).told ≤ length (state now.device).told + pass_orders (length now.memory.usage.segments)
+      → length (state next.device).told ≤ length (state now.device).told + pass_orders now.segments
       → PassesDone state h next (count + 1)
   passes_more h now next count done need totals more = record {
     repeats = repeats_then state h now next count 1 done.repeats (repeats_passes state now next need totals);
     gains = (let g = done.gains in let g' = need.passes.cleans.gains in omega (arith, g, g'));
     told = pass_more (length (state h.device).told) (length (state now.device).told) (length (state next.device).told) count
-        (length h.memory.usage.segments) (length now.memory.usage.segments)
+        h.segments now.segments
         done.repeats.keeps.segments done.told more;
   }
 
-  pub same_need : (h now : Held D) → now.totals ≡ h.totals → length now.memory.usage.segments ≡ length h.memory.usage.segments → IsWithin h
+  pub same_need : (h now : LogState D) → now.totals ≡ h.totals → now.segments ≡ h.segments → IsWithin h
       → IsWithin now
   same_need h now totals size need =
       let stored = ap (λ (t : BlockTotals). t.data_blocks) totals in
@@ -120,15 +113,15 @@ module _ {D : Type 0} (state : D → DeviceState) where
       omega (arith, stored, above, size, need)
 
   -- nothing is unsaved between two passes
-  pub nothing_between : (h now : Held D) (count : ℕ) → AreAllSaved h → PassesDone state h now count → AreAllSaved now
+  pub nothing_between : (h now : LogState D) (count : ℕ) → AreAllSaved h → PassesDone state h now count → AreAllSaved now
   nothing_between h now count nothing done =
-      ⊎_elim (λ (same : now ≡ h). subst (λ (x : Held D). AreAllSaved x) (sym same) nothing) (λ all. all.rest.nothing) done.repeats.saved
+      ⊎_elim (λ (same : now ≡ h). subst (λ (x : LogState D). AreAllSaved x) (sym same) nothing) (λ all. all.rest.nothing) done.repeats.saved
 
-  module _ (h now : Held D) (count : ℕ) (on : h.saved ≡ true) (nothing : AreAllSaved h) (done : PassesDone state h now count)
-      (few : 4 * clean_in now.memory.usage.segments < length now.memory.usage.segments)
+  module _ (h now : LogState D) (count : ℕ) (on : h.saved ≡ true) (nothing : AreAllSaved h) (done : PassesDone state h now count)
+      (few : 4 * now.clean < now.segments)
       (k : CheckpointValue) (m0 m : LogMap) (keeps : (state now.device).keeps_model) (may : MayMakeRoom state h k m0 m) where
     -- the next pass may begin
-    pub may_pass : count < length h.memory.usage.segments / 8 → (next : CheckpointValue) × (m1 : LogMap) × CanPass state now next m1 m
+    pub may_pass : count < h.segments / 8 → (next : CheckpointValue) × (m1 : LogMap) × CanPass state now next m1 m
     may_pass lt =
         let over = done.repeats.keeps.holds k m0 m keeps may.holds may.shown in
         let above = ap (λ (t : BlockTotals). t.meta_blocks) done.repeats.keeps.totals in
@@ -145,9 +138,9 @@ module _ {D : Type 0} (state : D → DeviceState) where
           record {
             holds = over.holds;
             map = may.map;
-            nothing = ⊎_elim (λ (same : now ≡ h). subst (λ (x : Held D). AreAllSaved x) (sym same) nothing)
+            nothing = ⊎_elim (λ (same : now ≡ h). subst (λ (x : LogState D). AreAllSaved x) (sym same) nothing)
                 (λ all. all.rest.nothing) done.repeats.saved;
-            untaken = ⊎_elim (λ (same : now ≡ h). subst (λ (x : Held D). AreUntaken x.memory.usage) (sym same) (may.holds.rest on).untaken)
+            untaken = ⊎_elim (λ (same : now ≡ h). subst (λ (x : LogState D). AreUntaken x.usage) (sym same) (may.holds.rest on).untaken)
                 (λ all. all.rest.untaken) done.repeats.saved;
             few = few;
             many = omega (arith, size, gains, many);
@@ -158,16 +151,16 @@ module _ {D : Type 0} (state : D → DeviceState) where
         )
 
     -- an eighth of the segments of them suffice
-    pub passes_suffice : IsLawful (state h.device) → count ≡ length h.memory.usage.segments / 8 → ⊥
+    pub passes_suffice : IsLawful (state h.device) → count ≡ h.segments / 8 → ⊥
     passes_suffice lawful all =
         let size = done.repeats.keeps.segments in
         let gains = done.gains in
         let many = (may.holds.rest on).many in
-        let eighths = (segment_count h k m0 m lawful may.holds).eighths in
+        let eighths = (segment_count state h k m0 m lawful may.holds).eighths in
         omega (arith, all, size, gains, many, few, eighths)
 
   -- what is unsaved is saved, and room can be made still
-  room_saved : (h now : Held D) (k : CheckpointValue) (m0 m : LogMap) → h.saved ≡ false → Saves state h now → now.totals ≡ h.totals
+  room_saved : (h now : LogState D) (k : CheckpointValue) (m0 m : LogMap) → h.saved ≡ false → Saves state h now → now.totals ≡ h.totals
       → (state now.device).keeps_model → MayMakeRoom state h k m0 m → (next : CheckpointValue) × MayMakeRoom state now next (dropped m) m
   room_saved h now k m0 m some s totals keeps may =
       let next = s.holds k m0 m keeps may.holds may.shown in
@@ -189,20 +182,20 @@ module _ {D : Type 0} (state : D → DeviceState) where
       )
 
   -- where room can be made a commit finds enough clean segments
-  pub commit_fits : (h : Held D) (k : CheckpointValue) (m0 m : LogMap) → IsLawful (state h.device) → h.saved ≡ false → IsFull h
+  pub commit_fits : (h : LogState D) (k : CheckpointValue) (m0 m : LogMap) → IsLawful (state h.device) → h.saved ≡ false → IsFull h
       → MayMakeRoom state h k m0 m → ⊥
   commit_fits h k m0 m lawful some full may =
       let enough = may.enough some in
       let most = may.number in
       let due = due_one h some in
-      let eighths = (segment_count h k m0 m lawful may.holds).eighths in
+      let eighths = (segment_count state h k m0 m lawful may.holds).eighths in
       ⊎_elim
-      (λ (few : 8 * clean_in h.memory.usage.segments < length h.memory.usage.segments + 64). omega (arith, enough, eighths, few))
+      (λ (few : 8 * h.clean < h.segments + 64). omega (arith, enough, eighths, few))
       (λ (last : 2 ^ 64 - 1 ≤ h.number). omega (arith, due, most, last))
       full
 
   -- ---- what is unsaved is saved first
-  pub readied_none : (h : Held D) → IsLawful (state h.device) → h.halted ≡ false → h.saved ≡ true → AreAllSaved h → IsReadied state h h
+  pub readied_none : (h : LogState D) → IsLawful (state h.device) → h.halted ≡ false → h.saved ≡ true → AreAllSaved h → IsReadied state h h
   readied_none h lawful running all nothing = record {
     saved = all;
     commits = inr (all, nothing, refl);
@@ -212,7 +205,7 @@ module _ {D : Type 0} (state : D → DeviceState) where
     room = λ k m0 m keeps may. (k, m0, may);
   }
 
-  pub readied_saves : (h now : Held D) → h.saved ≡ false → Saves state h now → now.totals ≡ h.totals → IsReadied state h now
+  pub readied_saves : (h now : LogState D) → h.saved ≡ false → Saves state h now → now.totals ≡ h.totals → IsReadied state h now
   readied_saves h now some s totals = record {
     saved = s.saved;
     commits = inl (some, s);
@@ -223,7 +216,7 @@ module _ {D : Type 0} (state : D → DeviceState) where
   }
 
   -- ---- nothing is done
-  pub makes_none : (h : Held D) → IsLawful (state h.device) → h.halted ≡ false → MakesRoom state h h
+  pub makes_none : (h : LogState D) → IsLawful (state h.device) → h.halted ≡ false → MakesRoom state h h
   makes_none h lawful running = record {
     keeps = keeps_weaker state h h 0 _ (keeps_none state h lawful running) (omega arith);
     unsaved = λ e. (e, record { number = refl; fewer = omega arith; capacity = refl; clean = λ enough. enough });
@@ -231,24 +224,24 @@ module _ {D : Type 0} (state : D → DeviceState) where
     rest = λ e was. was e;
   }
 
-  pub quarter_none : (h : Held D) → IsLawful (state h.device) → h.halted ≡ false → HasQuarter h → CleansQuarter state h h
+  pub quarter_none : (h : LogState D) → IsLawful (state h.device) → h.halted ≡ false → HasQuarter h → CleansQuarter state h h
   quarter_none h lawful running enough =
       record { makes = makes_none h lawful running; works = inr refl; no_failure = refl; quarter = enough }
 
   -- a commit finds too few clean segments
-  pub lacks_commit : (h now : Held D) → IsLawful (state h.device) → h.halted ≡ false → now ≡ h → IsFull h → h.saved ≡ false
+  pub lacks_commit : (h now : LogState D) → IsLawful (state h.device) → h.halted ≡ false → now ≡ h → IsFull h → h.saved ≡ false
       → LacksRoom state h now
   lacks_commit h now lawful running same full some = record {
-    makes = subst (λ (x : Held D). MakesRoom state h x) (sym same) (makes_none h lawful running);
+    makes = subst (λ (x : LogState D). MakesRoom state h x) (sym same) (makes_none h lawful running);
     never = λ k m0 m keeps may. commit_fits h k m0 m lawful some full may;
   }
 
   -- a failed commit
-  pub halts_first : (a b : Held D) → Halts state a b → HaltsLater state a b (most_checkpoints a)
+  pub halts_first : (a b : LogState D) → Halts state a b → HaltsLater state a b (most_checkpoints a)
   halts_first a b halts = halts_weaker state a b 0 _ (halts_at_once state a b halts) (omega arith)
 
   -- ---- passes behind a commit
-  module _ (a b c : Held D) (ready : IsReadied state a b) (x : ℕ) (few : x ≤ length a.memory.usage.segments / 8) where
+  module _ (a b c : LogState D) (ready : IsReadied state a b) (x : ℕ) (few : x ≤ a.segments / 8) where
     keeps_after : KeepsMap state b c x → KeepsMap state a c (most_checkpoints a)
     keeps_after passes = keeps_weaker state a c _ _ (keeps_then state a b c _ ready.keeps x passes) (omega (arith, few))
 
@@ -286,7 +279,7 @@ module _ {D : Type 0} (state : D → DeviceState) where
         commits = ready.commits;
         passes = (let p = done.passes in let most = p.1 in (p.0, omega (arith, most, few), p.2));
         saves = ⊎_elim
-            (λ first. ⊎_elim (λ (same : c ≡ b). inl (subst (λ (h : Held D). SavesAll state a h) (sym same) (saves_all state a b first.1)))
+            (λ first. ⊎_elim (λ (same : c ≡ b). inl (subst (λ (h : LogState D). SavesAll state a h) (sym same) (saves_all state a b first.1)))
             (λ (more : SavesAll state b c). inl (saved_then state a b c _ ready.keeps done.keeps.carries more)) done.saved)
             (λ none. ⊎_elim (λ (same : c ≡ b). inr (same ∙ none.2))
             (λ (more : SavesAll state b c). inl (saved_then state a b c _ ready.keeps done.keeps.carries more)) done.saved)

@@ -10,28 +10,17 @@ use Rattle.lfs_model.specs.Encodes.{IsLogMap}
 use Rattle.lfs_model.specs.Stands.{LogMap}
 use Rattle.lfs_model.specs.TreeOf.{dropped}
 use Rattle.lfs_model.proofs.Moments.{carries_none, carries_then, started, joined, weaker}
-use Rattle.lfs_model.proofs.Settled.{settled_stands}
-use Rattle.lfs_log.proofs.Unsaved.{kept_saved}
-use Rattle.lfs_log.specs.memory.declared.memory.LogMemory.{LogMemory}
-use Rattle.lfs_log.specs.memory.segments.Table.{clean_in}
-use Rattle.lfs_log.specs.memory.Memory.{IsLog}
-use Rattle.lfs_log.proofs.of_memory.Looses.{loose, tight_again}
-use Rattle.lfs_log.proofs.of_memory.Presents.{looks_quiet, still_log}
+use Rattle.lfs_log.proofs.LogReads.{acknowledged, held_still, looks_leave, rest_reads}
 use Rattle.lfs_log.proofs.Volumes.{same_segments}
 use Rattle.lfs_log.specs.Cleaning.{Cleans}
-use Rattle.lfs_log.specs.Held.{Held, Halts, Holds, IsReadFault, IsSaved, LeavesSaved, Reads, Saves}
-use Rattle.lfs_log.specs.segments.Early.{AreUntaken}
+use Rattle.lfs_log.specs.LogState.{LogState, Halts, Holds, IsReadFault, IsSaved, LeavesSaved, Reads, Saves}
 use Rattle.lfs_cleaner.specs.Room.{Acknowledges, HaltsLater, HoldsOver, IsAtRest, IsRoomFault, KeepsMap, PassesInNeed, PassesOn, Repeats}
 use Rattle.lfs_cleaner.specs.Room.{SavesAll}
 
 module _ {D : Type 0} (state : D → DeviceState) where
   -- ---- one step
-  pub acknowledged : (h : Held D) (k : CheckpointValue) (m0 m : LogMap) → Holds state h k m0 m
-      → AllLeft (state h.device) (λ c. StandsOn k.segments c m0)
-  acknowledged h k m0 m is = settled_stands (state h.device) k m0 is.log.running.settled
-
   -- nothing happens
-  pub keeps_none : (h : Held D) → IsLawful (state h.device) → h.halted ≡ false → KeepsMap state h h 0
+  pub keeps_none : (h : LogState D) → IsLawful (state h.device) → h.halted ≡ false → KeepsMap state h h 0
   keeps_none h lawful running = record {
     carries = carries_none (state h.device);
     running = running;
@@ -43,62 +32,40 @@ module _ {D : Type 0} (state : D → DeviceState) where
     rest = λ rest. rest;
     holds = λ k m0 m keeps is map. record { checkpoint = k; acknowledged = m0; either = inl refl; same = refl; holds = is };
     moment = λ k m0 m keeps is map.
-        started (state h.device) (IsSaved state k.segments m0 m) lawful (λ c left. inl (acknowledged h k m0 m is c left));
-  }
-
-  -- memory is as it was
-  pub rest_reads : (a b : Held D) → Reads state a b → IsAtRest a → IsAtRest b
-  rest_reads a b reads rest = record {
-    nothing = kept_saved a b rest.nothing (let same = ap (λ (v : LogMemory). length v.dirty.blocks) reads.memory in omega (arith, same))
-        reads.upgraded (subst (λ (v : LogMemory). AreUntaken v.usage) (sym reads.memory) rest.untaken);
-    untaken = subst (λ (v : LogMemory). AreUntaken v.usage) (sym reads.memory) rest.untaken;
-    many = subst (λ (v : LogMemory). length v.usage.segments ≤ 8 * clean_in v.usage.segments) (sym reads.memory) rest.many;
-  }
-
-  -- the device was only read
-  pub held_still : (a b : Held D) (k : CheckpointValue) (m0 m : LogMap) → Reads state a b → Holds state a k m0 m → Holds state b k m0 m
-  held_still a b k m0 m reads is = record {
-    log = subst (λ (v : LogMemory). IsLog (state b.device) v k m0 m) (sym reads.memory)
-        (let s = still_log (state a.device) (state b.device) a.memory k m0 m reads.looks (loose (state a.device) a.memory k m0 m is.log) in
-        tight_again (state b.device) a.memory k m0 m s is.log.tight);
-    number = is.number ∙ sym reads.number;
-    version = is.version ∙ sym reads.version;
-    running = reads.halted ∙ is.running;
-    nothing_new = λ all. is.nothing_new (sym reads.saved ∙ all);
-    rest = λ all. rest_reads a b reads (is.rest (sym reads.saved ∙ all));
+        started (state h.device) (IsSaved state k.segments m0 m) lawful (λ c left. inl (acknowledged state h k m0 m is c left));
   }
 
   -- after a commit, and after a pass
-  pub rest_saves : (h h' : Held D) → Saves state h h' → IsAtRest h'
+  pub rest_saves : (h h' : LogState D) → Saves state h h' → IsAtRest h'
   rest_saves h h' s = record { nothing = s.empty; untaken = s.untaken; many = s.many }
 
-  pub rest_cleans : (h h' : Held D) (vs : List ℕ) → Cleans state h h' vs → IsAtRest h'
+  pub rest_cleans : (h h' : LogState D) (vs : List ℕ) → Cleans state h h' vs → IsAtRest h'
   rest_cleans h h' vs s = record { nothing = s.empty; untaken = s.untaken; many = s.many }
 
-  pub keeps_reads : (a b : Held D) → IsLawful (state a.device) → a.halted ≡ false → Reads state a b → KeepsMap state a b 0
+  pub keeps_reads : (a b : LogState D) → IsLawful (state a.device) → a.halted ≡ false → Reads state a b → KeepsMap state a b 0
   keeps_reads a b lawful running reads = record {
     carries = reads.looks.carries;
     running = reads.halted ∙ running;
     later = (let same = reads.number in omega (arith, same));
     number = (let same = reads.number in omega (arith, same));
-    segments = subst (λ (v : LogMemory). length v.usage.segments ≡ length a.memory.usage.segments) (sym reads.memory) refl;
+    segments = reads.segments;
     totals = reads.totals;
     saved = λ all. reads.saved ∙ all;
-    rest = λ rest. rest_reads a b reads rest;
+    rest = λ rest. rest_reads state a b reads rest;
     holds = λ k m0 m keeps is map.
-        record { checkpoint = k; acknowledged = m0; either = inl refl; same = refl; holds = held_still a b k m0 m reads is };
+        record { checkpoint = k; acknowledged = m0; either = inl refl; same = refl; holds = held_still state a b k m0 m reads is };
     moment = λ k m0 m keeps is map.
         weaker (state a.device) (state b.device) (λ c. StandsOn k.segments c m0) (IsSaved state k.segments m0 m) (λ c there. inl there)
-        (looks_quiet (state a.device) (state b.device) a.memory k m0 m lawful reads.looks (loose (state a.device) a.memory k m0 m is.log));
+        (looks_leave state a (state b.device) k m0 m lawful reads.looks is);
   }
 
-  pub saves_all : (h h' : Held D) → Saves state h h' → SavesAll state h h'
+  pub saves_all : (h h' : LogState D) → Saves state h h' → SavesAll state h h'
   saves_all h h' s = record { saved = s.saved; rest = rest_saves h h' s; holds = s.holds }
 
-  pub cleans_all : (h h' : Held D) (vs : List ℕ) → Cleans state h h' vs → SavesAll state h h'
+  pub cleans_all : (h h' : LogState D) (vs : List ℕ) → Cleans state h h' vs → SavesAll state h h'
   cleans_all h h' vs s = record { saved = s.saved; rest = rest_cleans h h' vs s; holds = s.holds }
 
-  saved_over : (h h' : Held D) → length h'.memory.usage.segments ≡ length h.memory.usage.segments → SavesAll state h h'
+  saved_over : (h h' : LogState D) → h'.segments ≡ h.segments → SavesAll state h h'
       → (k : CheckpointValue) (m0 m : LogMap) → (state h'.device).keeps_model → Holds state h k m0 m → IsLogMap (dropped m)
       → HoldsOver state k.segments m0 m h'
   saved_over h h' same all k m0 m keeps is map =
@@ -111,7 +78,7 @@ module _ {D : Type 0} (state : D → DeviceState) where
         holds = next.1;
       }
 
-  pub keeps_saves : (h h' : Held D) → Saves state h h' → h'.totals ≡ h.totals → KeepsMap state h h' 1
+  pub keeps_saves : (h h' : LogState D) → Saves state h h' → h'.totals ≡ h.totals → KeepsMap state h h' 1
   keeps_saves h h' s totals = record {
     carries = s.carries;
     running = s.running;
@@ -125,7 +92,7 @@ module _ {D : Type 0} (state : D → DeviceState) where
     moment = s.moment;
   }
 
-  pub keeps_cleans : (h h' : Held D) (vs : List ℕ) → Cleans state h h' vs → h'.totals ≡ h.totals → KeepsMap state h h' 1
+  pub keeps_cleans : (h h' : LogState D) (vs : List ℕ) → Cleans state h h' vs → h'.totals ≡ h.totals → KeepsMap state h h' 1
   keeps_cleans h h' vs s totals = record {
     carries = s.carries;
     running = s.running;
@@ -139,7 +106,7 @@ module _ {D : Type 0} (state : D → DeviceState) where
     moment = s.moment;
   }
 
-  pub keeps_weaker : (a b : Held D) (x y : ℕ) → KeepsMap state a b x → x ≤ y → KeepsMap state a b y
+  pub keeps_weaker : (a b : LogState D) (x y : ℕ) → KeepsMap state a b x → x ≤ y → KeepsMap state a b y
   keeps_weaker a b x y one le = record {
     carries = one.carries;
     running = one.running;
@@ -155,7 +122,7 @@ module _ {D : Type 0} (state : D → DeviceState) where
 
   -- ---- one step after another
   -- what is one of the two for the log map in the middle is one of the two for that at the start
-  module _ (a b : Held D) (k : CheckpointValue) (m0 m : LogMap) (over : HoldsOver state k.segments m0 m b) where
+  module _ (a b : LogState D) (k : CheckpointValue) (m0 m : LogMap) (over : HoldsOver state k.segments m0 m b) where
     pub saved_still : (c : Content) → IsSaved state over.checkpoint.segments over.acknowledged m c → IsSaved state k.segments m0 m c
     saved_still c is = ⊎_elim
         (λ (first : StandsOn over.checkpoint.segments c over.acknowledged).
@@ -167,7 +134,7 @@ module _ {D : Type 0} (state : D → DeviceState) where
         (λ (second : StandsOn over.checkpoint.segments c (dropped m)). inr (subst (λ (l : ℕ). StandsOn l c (dropped m)) over.same second))
         is
 
-    over_then : (c : Held D) → HoldsOver state over.checkpoint.segments over.acknowledged m c → HoldsOver state k.segments m0 m c
+    over_then : (c : LogState D) → HoldsOver state over.checkpoint.segments over.acknowledged m c → HoldsOver state k.segments m0 m c
     over_then c next = record {
       checkpoint = next.checkpoint;
       acknowledged = next.acknowledged;
@@ -180,7 +147,7 @@ module _ {D : Type 0} (state : D → DeviceState) where
       holds = next.holds;
     }
 
-  module _ (a b c : Held D) (x : ℕ) (one : KeepsMap state a b x) where
+  module _ (a b c : LogState D) (x : ℕ) (one : KeepsMap state a b x) where
     module _ (after : Carries (state b.device) (state c.device)) (moment : LeavesSaved state b c) where
       moment_then : LeavesSaved state a c
       moment_then k m0 m keeps is map =
@@ -238,7 +205,7 @@ module _ {D : Type 0} (state : D → DeviceState) where
       moment = moment_then two.carries two.moment;
     }
 
-  pub halts_at_once : (a b : Held D) → Halts state a b → HaltsLater state a b 0
+  pub halts_at_once : (a b : LogState D) → Halts state a b → HaltsLater state a b 0
   halts_at_once a b halts = record {
     carries = halts.carries;
     halted = halts.halted;
@@ -249,7 +216,7 @@ module _ {D : Type 0} (state : D → DeviceState) where
     moment = halts.moment;
   }
 
-  pub halts_weaker : (a b : Held D) (x y : ℕ) → HaltsLater state a b x → x ≤ y → HaltsLater state a b y
+  pub halts_weaker : (a b : LogState D) (x y : ℕ) → HaltsLater state a b x → x ≤ y → HaltsLater state a b y
   halts_weaker a b x y one le = record {
     carries = one.carries;
     halted = one.halted;
@@ -260,15 +227,15 @@ module _ {D : Type 0} (state : D → DeviceState) where
     moment = one.moment;
   }
 
-  pub read_fault : (a b : Held D) → IsReadFault state a b → IsRoomFault state a b
+  pub read_fault : (a b : LogState D) → IsReadFault state a b → IsRoomFault state a b
   read_fault a b failed k m0 m keeps is map = failed k m0 m keeps is
 
   -- ---- passes that are done
-  pub repeats_none : (h : Held D) → IsLawful (state h.device) → h.halted ≡ false → Repeats state h h 0
+  pub repeats_none : (h : LogState D) → IsLawful (state h.device) → h.halted ≡ false → Repeats state h h 0
   repeats_none h lawful running =
       record { passes = (0, omega arith, refl); keeps = keeps_none h lawful running; no_failure = refl; saved = inl refl }
 
-  pub repeats_passes : (h h' : Held D) → PassesInNeed state h h' → h'.totals ≡ h.totals → Repeats state h h' 1
+  pub repeats_passes : (h h' : LogState D) → PassesInNeed state h h' → h'.totals ≡ h.totals → Repeats state h h' 1
   repeats_passes h h' need totals =
       let vs = need.passes.victims in
       let s = need.passes.cleans in
@@ -279,7 +246,7 @@ module _ {D : Type 0} (state : D → DeviceState) where
         saved = inr (cleans_all h h' vs s);
       }
 
-  pub repeats_weaker : (a b : Held D) (x y : ℕ) → Repeats state a b x → x ≤ y → Repeats state a b y
+  pub repeats_weaker : (a b : LogState D) (x y : ℕ) → Repeats state a b x → x ≤ y → Repeats state a b y
   repeats_weaker a b x y one le = record {
     passes = (let w = one.passes in let few = w.1 in (w.0, omega (arith, few, le), w.2));
     keeps = keeps_weaker a b x y one.keeps le;
@@ -288,15 +255,15 @@ module _ {D : Type 0} (state : D → DeviceState) where
   }
 
   -- what was done first, and then the rest
-  passes_then : (a b c : Held D) (x y : ℕ) → PassesOn state x a b → PassesOn state y b c
+  passes_then : (a b c : LogState D) (x y : ℕ) → PassesOn state x a b → PassesOn state y b c
       → (count : ℕ) × (count ≤ x + y) × PassesOn state count a c
-  passes_then a b c x zero one two = (x, omega arith, subst (λ (h : Held D). PassesOn state x a h) (sym two) one)
+  passes_then a b c x zero one two = (x, omega arith, subst (λ (h : LogState D). PassesOn state x a h) (sym two) one)
   passes_then a b c x (suc y) one two =
       let rest = passes_then a b two.0 x y one two.1 in
       let few = rest.1 in
       (suc rest.0, omega (arith, few), (two.0, rest.2, two.2))
 
-  pub repeats_then : (a b c : Held D) (x y : ℕ) → Repeats state a b x → Repeats state b c y → Repeats state a c (x + y)
+  pub repeats_then : (a b c : LogState D) (x y : ℕ) → Repeats state a b x → Repeats state b c y → Repeats state a c (x + y)
   repeats_then a b c x y one two = record {
     passes =
         let w = one.passes in
@@ -309,13 +276,13 @@ module _ {D : Type 0} (state : D → DeviceState) where
     keeps = keeps_then a b c x one.keeps y two.keeps;
     no_failure = two.no_failure ∙ one.no_failure;
     saved = ⊎_elim
-        (λ (same : c ≡ b). subst (λ (h : Held D). (h ≡ a) ⊎ SavesAll state a h) (sym same) one.saved)
+        (λ (same : c ≡ b). subst (λ (h : LogState D). (h ≡ a) ⊎ SavesAll state a h) (sym same) one.saved)
         (λ (all : SavesAll state b c). inr (saved_then a b c x one.keeps two.keeps.carries all))
         two.saved;
   }
 
   -- what a commit acknowledged stays so
-  pub acknowledges_still : (a b c : Held D) (x : ℕ) → Acknowledges state a b → KeepsMap state b c x → Acknowledges state a c
+  pub acknowledges_still : (a b c : LogState D) (x : ℕ) → Acknowledges state a b → KeepsMap state b c x → Acknowledges state a c
   acknowledges_still a b c x all passes k m0 m keeps is map =
       let first = all k m0 m (passes.carries.kept_before keeps) is map in
       let over = passes.holds first.0 (dropped m) m keeps first.1 map in

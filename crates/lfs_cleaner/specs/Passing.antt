@@ -1,6 +1,7 @@
 -- A pass of the cleaner, and where one may be made.
 use Rattle.std.specs.Prelude.{◌≡◌, ◌<◌, ◌≤◌, ◌+◌, ◌-◌, ◌*◌, ◌^◌, ℕ, List, length}
 use Rattle.lfs_model.specs.Checkpoint.{CheckpointValue}
+use Rattle.lfs_model.specs.declared.limits.TheConstants.{LEAST_NEED, NEED_OF_META, NEED_OF_SEGMENT}
 use Rattle.lfs_model.specs.Device.{DeviceState}
 use Rattle.lfs_model.specs.Encodes.{IsLogMap}
 use Rattle.lfs_model.specs.Stands.{LogMap}
@@ -9,44 +10,44 @@ use Rattle.lfs_log.specs.segments.Table.{clean_in}
 use Rattle.lfs_log.specs.segments.Victims.{AreVictims, IsChosen, pass_limit}
 use Rattle.lfs_log.specs.Cleaning.{Cleans}
 use Rattle.lfs_log.specs.Thresholds.{IsEighthClean}
-use Rattle.lfs_log.specs.Held.{Held, Holds, IsReadFault, Reads, AreAllSaved}
+use Rattle.lfs_log.specs.LogState.{LogState, Holds, IsReadFault, Reads, AreAllSaved}
 use Rattle.lfs_log.specs.segments.Early.{AreUntaken}
 
 module _ {D : Type 0} (state : D → DeviceState) where
   -- A pass over victims that were chosen: an eighth of the segments and one at most, by which a
   -- segment is gained at least. They are clean then.
-  pub record Passes (h h' : Held D) : Type 0 where
+  pub record Passes (h h' : LogState D) : Type 0 where
     pub victims : List ℕ
-    pub gain : AreVictims h.memory.usage h.totals.meta_blocks (pass_limit h.memory.usage) victims
-    pub choice : IsChosen h.memory.usage h.totals.meta_blocks (pass_limit h.memory.usage)
+    pub gain : AreVictims h.usage h.totals.meta_blocks (pass_limit h.usage) victims
+    pub choice : IsChosen h.usage h.totals.meta_blocks (pass_limit h.usage)
         h.number victims
     pub cleans : Cleans state h h' victims
 
   -- The log holds a log map for which a pass may be made. All is saved. An eighth of the segments
   -- is clean at least, but fewer than a quarter. The blocks of the files are within the volume. No
   -- sector was taken since, as is so after a mount and a commit.
-  pub record CanPass (h : Held D) (k : CheckpointValue) (m0 m : LogMap) : Type 0 where
+  pub record CanPass (h : LogState D) (k : CheckpointValue) (m0 m : LogMap) : Type 0 where
     pub holds : Holds state h k m0 m
     pub map : IsLogMap m
     pub nothing : AreAllSaved h
-    pub untaken : AreUntaken h.memory.usage
-    pub few : 4 * clean_in h.memory.usage.segments < length h.memory.usage.segments
-    pub many : IsEighthClean h.memory.usage
+    pub untaken : AreUntaken h.usage
+    pub few : 4 * h.clean < h.segments
+    pub many : IsEighthClean h.segments h.clean
     pub counted : h.totals.meta_blocks ≡ meta_in m
-    pub need : data_in m + 7 * meta_in m + 720 ≤ 47 * length h.memory.usage.segments
+    pub need : data_in m + NEED_OF_META * meta_in m + LEAST_NEED ≤ NEED_OF_SEGMENT * h.segments
     pub number : h.number < 2 ^ 64 - 1
 
   -- there is no such log map, where the device keeps the model
-  abbrev pub IsUnfit : Held D → Held D → Type 0
+  abbrev pub IsUnfit : LogState D → LogState D → Type 0
   IsUnfit h h' = (k : CheckpointValue) (m0 m : LogMap) → (state h'.device).keeps_model
       → CanPass h k m0 m → ⊥
 
   -- It isn't made: the log was only read, and has no such map.
-  pub record RefusesPass (h h' : Held D) : Type 0 where
+  pub record RefusesPass (h h' : LogState D) : Type 0 where
     pub reads : Reads state h h'
     pub unfit : IsUnfit h h'
 
   -- A call of the device failed: the log was only read.
-  pub record FailsPass (h h' : Held D) : Type 0 where
+  pub record FailsPass (h h' : LogState D) : Type 0 where
     pub reads : Reads state h h'
     pub fault : IsReadFault state h h'

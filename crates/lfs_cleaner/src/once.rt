@@ -1,6 +1,6 @@
 //! One pass of the cleaner where it is due: where fewer than a quarter of the segments is clean.
 ghost use Rattle.std.specs.Prelude.{◌≡◌, ◌≢◌, ◌≤◌, ◌+◌, true, false, length, OnOk, IsErrOf};
-ghost use Rattle.lfs_log.specs.Held.{AreAllSaved};
+ghost use Rattle.lfs_log.specs.LogState.{AreAllSaved};
 ghost use Rattle.lfs_log.specs.Saving.{pass_orders};
 ghost use Rattle.lfs_cleaner.specs.Room.{FailsPasses, FailsRoom, HaltsLater, HasQuarter, LacksPasses, LacksRoom, MakesOnce, PassesWhereDue, most_checkpoints, once_orders};
 
@@ -27,7 +27,7 @@ fn pass_where_due<D: SectorDevice>(log: &mut Log<D>) -> Result<(), LogFault>
     ensures halted { IsErrOf result LogFault.Halted
         → HaltsLater D.SectorDevice.state log.old log.new 0 }
     ensures told { length (D.state log.new.device).told ≤ length (D.state log.old.device).told
-        + pass_orders (length log.old.memory.usage.segments) }
+        + pass_orders log.old.segments }
 {
     if has_quarter(log) {
         return Ok(());
@@ -56,14 +56,14 @@ pub fn clean_once<D: SectorDevice>(log: &mut Log<D>) -> Result<(), LogFault>
     ensures device { IsErrOf result LogFault.Device
         → FailsRoom D.SectorDevice.state log.old log.new }
     ensures told { length (D.state log.new.device).told ≤ length (D.state log.old.device).told
-        + once_orders (length log.old.memory.usage.segments) }
+        + once_orders log.old.segments }
     ensures halted { IsErrOf result LogFault.Halted → log.old.halted ≢ true
         → HaltsLater D.SectorDevice.state log.old log.new (most_checkpoints log.old) }
     ensures still { log.old.halted ≡ true → (log.new ≡ log.old)
         × IsErrOf result LogFault.Halted }
     ensures saved { log.old.saved ≡ true
         → length (D.state log.new.device).told ≤ length (D.state log.old.device).told
-        + pass_orders (length log.old.memory.usage.segments) }
+        + pass_orders log.old.segments }
     ensures quiet { HasQuarter log.old → log.new ≡ log.old }
     ensures unsaved { (IsErrOf result LogFault.Halted → ⊥) → log.new.saved ≡ false
         → log.new ≡ log.old }

@@ -1,6 +1,6 @@
 //! One pass of the cleaner.
 ghost use Rattle.std.specs.Prelude.{◌≡◌, ◌≢◌, ◌≤◌, ◌+◌, true, length, OnOk, IsErrOf};
-ghost use Rattle.lfs_log.specs.Held.{Halts};
+ghost use Rattle.lfs_log.specs.LogState.{Halts};
 ghost use Rattle.lfs_log.specs.Saving.{pass_orders};
 ghost use Rattle.lfs_cleaner.specs.Passing.{FailsPass, Passes, RefusesPass};
 
@@ -31,13 +31,13 @@ pub fn pass<D: SectorDevice>(log: &mut Log<D>) -> Result<(), LogFault>
     ensures still { log.old.halted ≡ true → (log.new ≡ log.old)
         × IsErrOf result LogFault.Halted }
     ensures told { length (D.state log.new.device).told ≤ length (D.state log.old.device).told
-        + pass_orders (length log.old.memory.usage.segments) }
+        + pass_orders log.old.segments }
 {
     if log.is_halted() {
         return Err(LogFault::Halted);
     }
     log.are_tables_whole();
-    let most = most_victims(log.usage());
+    let most = most_victims(log.segments());
     let Some(chosen) = victims(log.usage(), log.meta(), most, log.number()) else {
         return Err(LogFault::Full);
     };

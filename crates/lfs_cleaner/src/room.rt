@@ -2,7 +2,7 @@
 //! of the segments is clean.
 ghost use Rattle.std.specs.Prelude.{◌≡◌, ◌≢◌, ◌<◌, ◌≤◌, ◌+◌, ◌*◌, ◌/◌, true, false, length, OnOk, OnErr, IsErrOf, IsTrue, IsFalse};
 ghost use Rattle.lfs_log.specs.memory.segments.Table.{clean_in};
-ghost use Rattle.lfs_log.specs.Held.{AreAllSaved, Halts, IsFull};
+ghost use Rattle.lfs_log.specs.LogState.{AreAllSaved, Halts, IsFull};
 ghost use Rattle.lfs_cleaner.specs.Room.{CleansQuarter, FailsPasses, FailsRoom, HaltsLater, HasQuarter, IsReadied, LacksPasses, LacksRoom, Repeats, most_checkpoints, passes_orders, room_orders};
 ghost use Rattle.lfs_log.specs.Saving.{commit_orders};
 
@@ -14,10 +14,10 @@ use lfs_log::{Log, LogFault};
 /// Whether a quarter of the segments is clean.
 pub fn has_quarter<D: SectorDevice>(log: &Log<D>) -> bool
     ensures yes { IsTrue result → HasQuarter log.now }
-    ensures no { IsFalse result → 4 * clean_in log.now.memory.usage.segments
-        < length log.now.memory.usage.segments }
+    ensures no { IsFalse result → 4 * log.now.clean
+        < log.now.segments }
 {
-    is_quarter_clean(log.usage())
+    is_quarter_clean(log.segments(), log.clean_segments())
 }
 
 /// Passes until a quarter of the segments is clean, an eighth of them times at most, for each pass
@@ -32,22 +32,22 @@ fn pass_until_quarter<D: SectorDevice>(log: &mut Log<D>) -> Result<(), LogFault>
     requires saved { log.old.saved ≡ true }
     requires nothing { AreAllSaved log.old }
     ensures done { OnOk result (Repeats D.SectorDevice.state log.old log.new
-        (length log.old.memory.usage.segments / 8)) }
+        (log.old.segments / 8)) }
     ensures enough { OnOk result (HasQuarter log.new) }
     ensures totals { log.new.totals ≡ log.old.totals }
     ensures full { IsErrOf result LogFault.Full
         → LacksPasses D.SectorDevice.state log.old log.new
-        (length log.old.memory.usage.segments / 8) }
+        (log.old.segments / 8) }
     ensures device { IsErrOf result LogFault.Device
         → FailsPasses D.SectorDevice.state log.old log.new
-        (length log.old.memory.usage.segments / 8) }
+        (log.old.segments / 8) }
     ensures halted { IsErrOf result LogFault.Halted
         → HaltsLater D.SectorDevice.state log.old log.new
-        (length log.old.memory.usage.segments / 8) }
+        (log.old.segments / 8) }
     ensures told { length (D.state log.new.device).told ≤ length (D.state log.old.device).told
-        + passes_orders (length log.old.memory.usage.segments) }
+        + passes_orders log.old.segments }
 {
-    let most = most_passes(log.usage());
+    let most = most_passes(log.segments());
     for _ in 0..most {
         if has_quarter(log) {
             return Ok(());
@@ -106,14 +106,14 @@ pub fn make_room<D: SectorDevice>(log: &mut Log<D>) -> Result<(), LogFault>
     ensures device { IsErrOf result LogFault.Device
         → FailsRoom D.SectorDevice.state log.old log.new }
     ensures told { length (D.state log.new.device).told ≤ length (D.state log.old.device).told
-        + room_orders (length log.old.memory.usage.segments) }
+        + room_orders log.old.segments }
     ensures halted { IsErrOf result LogFault.Halted → log.old.halted ≢ true
         → HaltsLater D.SectorDevice.state log.old log.new (most_checkpoints log.old) }
     ensures still { log.old.halted ≡ true → (log.new ≡ log.old)
         × IsErrOf result LogFault.Halted }
     ensures passes { log.old.saved ≡ true
         → length (D.state log.new.device).told ≤ length (D.state log.old.device).told
-        + passes_orders (length log.old.memory.usage.segments) }
+        + passes_orders log.old.segments }
     ensures quiet { HasQuarter log.old → log.new ≡ log.old }
     ensures unsaved { (IsErrOf result LogFault.Halted → ⊥) → log.new.saved ≡ false
         → log.new ≡ log.old }

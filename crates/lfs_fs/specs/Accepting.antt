@@ -3,7 +3,7 @@ use Rattle.std.specs.Prelude.{◌≡◌, ◌⊎◌, ◌<◌, ◌≤◌, ◌+◌,
 use Rattle.lfs_model.specs.declared.limits.TheConstants.{LEAST_NEED, NEED_OF_META, NEED_OF_SEGMENT}
 use Rattle.lfs_model.specs.Device.{DeviceState}
 use Rattle.lfs_store.specs.cleaner.Room.{HaltsLater, room_orders}
-use Rattle.lfs_store.specs.log.Held.{Held}
+use Rattle.lfs_store.specs.log.LogState.{LogState}
 use Rattle.lfs_store.specs.log.Saving.{commit_orders}
 use Rattle.lfs_store.specs.Accepting.{Accepts, CannotMakeRoom, Declines, HasCleanForTwo, IsAcceptFault, most_written}
 use Rattle.lfs_fs.specs.declared.error.FsError.{FsError}
@@ -17,12 +17,12 @@ abbrev pub need_of : {D : Type 0} → Fs D → ℕ
 need_of f = f.store.drafted.data_blocks + NEED_OF_META * f.store.drafted.meta_blocks + LEAST_NEED
 
 abbrev pub limit_of : {D : Type 0} → Fs D → ℕ
-limit_of f = NEED_OF_SEGMENT * length f.store.log.memory.usage.segments
+limit_of f = NEED_OF_SEGMENT * f.store.log.segments
 
 module _ {D : Type 0} (state : D → DeviceState) where
   -- The device is given no more orders than where room is made, and no more than in a commit where enough segments are clean for two.
-  pub record TellsFew (old new : Held D) : Type 0 where
-    pub room : TellsAtMost state old new (room_orders (length old.memory.usage.segments))
+  pub record TellsFew (old new : LogState D) : Type 0 where
+    pub room : TellsAtMost state old new (room_orders old.segments)
     pub one_commit : HasCleanForTwo old → TellsAtMost state old new commit_orders
 
   -- The draft is staged, and the totals are those with it.

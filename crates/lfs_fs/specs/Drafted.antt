@@ -12,7 +12,7 @@ use Rattle.lfs_files.specs.Files.{FilesState}
 use Rattle.lfs_files.specs.Headers.{as_header}
 use Rattle.lfs_store.specs.declared.draft.Draft.{Draft}
 use Rattle.lfs_store.specs.declared.store.Store.{Store}
-use Rattle.lfs_store.specs.log.Held.{Held, Holds}
+use Rattle.lfs_store.specs.log.LogState.{LogState, Holds}
 use Rattle.lfs_store.specs.memory.Batch.{staged}
 use Rattle.lfs_store.specs.memory.declared.changes.Changes.{Changes}
 use Rattle.lfs_store.specs.Seen.{StagedLog, state_of}
@@ -26,21 +26,21 @@ module _ {D : Type 0} (state : D → DeviceState) where
   files_of s = state_of state s.log s.draft s.log.saved s.drafted
 
   -- this is so of each log map that the log holds, after the draft
-  abbrev pub EachDrafted : Held D → Held D → Changes → (LogMap → Type 0) → Type 0
+  abbrev pub EachDrafted : LogState D → LogState D → Changes → (LogMap → Type 0) → Type 0
   EachDrafted h h' c P = (k : CheckpointValue) (m0 m : LogMap) → (state h'.device).keeps_model → Holds state h k m0 m → P (staged c m)
 
   -- a call of the device failed, where d is a directory
-  abbrev pub IsDirectoryFault : Held D → Held D → Changes → ℕ → Header → Type 0
+  abbrev pub IsDirectoryFault : LogState D → LogState D → Changes → ℕ → Header → Type 0
   IsDirectoryFault h h' c d head =
       EachDrafted h h' c (λ m. IsDirectory m d (as_header head) → (state h.device).failures < (state h'.device).failures)
 
   -- a walk ends there
-  abbrev pub WalksTo : Held D → Held D → Changes → (Tree → End → Type 0) → End → Type 0
+  abbrev pub WalksTo : LogState D → LogState D → Changes → (Tree → End → Type 0) → End → Type 0
   WalksTo h h' c W e = EachDrafted h h' c (λ m. HasTree m → W (tree_in m) e)
 
   -- it ends refused; or there is no answer, since a call of the device failed
-  abbrev pub FailsWalk : Held D → Held D → Changes → Type 0
+  abbrev pub FailsWalk : LogState D → LogState D → Changes → Type 0
   FailsWalk h h' c = EachDrafted h h' c (λ m. HasTree m → (state h.device).failures < (state h'.device).failures)
 
-  abbrev pub EndsRefused : Held D → Held D → Changes → (Tree → End → Type 0) → WalkFault → Type 0
+  abbrev pub EndsRefused : LogState D → LogState D → Changes → (Tree → End → Type 0) → WalkFault → Type 0
   EndsRefused h h' c W fault = ByFault fault (FailsWalk h h' c) (λ r. WalksTo h h' c W (Refused r))

@@ -13,7 +13,7 @@ use Rattle.lfs_model.specs.Stands.{LogMap}
 use Rattle.lfs_model.specs.Tree.{Handles, State, drop_nameless}
 use Rattle.lfs_model.specs.TreeOf.{IsTree, LeavesOne, LeavesStates, Stands}
 use Rattle.lfs_model.specs.Volume.{IsLogOf}
-use Rattle.lfs_store.specs.log.Held.{Held, Reads}
+use Rattle.lfs_store.specs.log.LogState.{LogState, Reads}
 use Rattle.lfs_store.specs.log.Saving.{commit_orders}
 use Rattle.lfs_store.specs.cleaner.Room.{room_orders}
 use Rattle.lfs_store.specs.Accepting.{Stores, HasClean, HasCleanForTwo}
@@ -21,7 +21,7 @@ use Rattle.lfs_model.specs.Totals.{IsCounted}
 
 -- a volume between two calls: its log, whether all of it is saved, its data blocks and its other blocks, and the table of open files
 pub record Mounted (D : Type 0) : Type 0 where
-  pub log : Held D
+  pub log : LogState D
   pub saved : Bool
   pub blocks : ℕ
   pub others : ℕ
@@ -29,7 +29,7 @@ pub record Mounted (D : Type 0) : Type 0 where
 
 -- the number of its segments
 abbrev pub segments_of : {D : Type 0} → Mounted D → ℕ
-segments_of v = length v.log.memory.usage.segments
+segments_of v = v.log.segments
 
 -- so many checkpoints are written at most in one call
 abbrev pub CommitsFew : {D : Type 0} → Mounted D → Mounted D → Type 0
@@ -92,7 +92,7 @@ changes_handles ListTree = false
 
 module _ {D : Type 0} (state : D → DeviceState) where
   -- the device is given so many orders more at most
-  abbrev pub TellsAtMost : Held D → Held D → ℕ → Type 0
+  abbrev pub TellsAtMost : LogState D → LogState D → ℕ → Type 0
   TellsAtMost old new most = length (state new.device).told ≤ length (state old.device).told + most
 
   -- The volume is in state s: its log has the log map of s, over one that is a tree's, which the acknowledged checkpoint stands for.

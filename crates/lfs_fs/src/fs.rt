@@ -87,7 +87,7 @@ impl<D: SectorDevice> Fs<D> {
         ensures need { result.need ≡ totals.data_blocks + NEED_OF_META * totals.meta_blocks
             + LEAST_NEED }
         ensures limit { result.limit ≡ NEED_OF_SEGMENT
-            * length self.now.store.log.memory.usage.segments }
+            * self.now.store.log.segments }
     {
         let data_blocks = u64::from(totals.data_blocks);
         let meta_blocks = u64::from(totals.meta_blocks);
@@ -111,7 +111,7 @@ impl<D: SectorDevice> Fs<D> {
         ensures rest { self.new.handles ≡ self.old.handles }
         ensures told { length (D.state self.new.store.log.device).told
             ≤ length (D.state self.old.store.log.device).told
-            + room_orders (length self.old.store.log.memory.usage.segments) }
+            + room_orders self.old.store.log.segments }
     {
         let space = self.space_of(self.store.drafted);
         if space.need > space.limit {

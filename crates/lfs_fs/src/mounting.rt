@@ -102,7 +102,7 @@ impl<D: SectorDevice> Fs<D> {
 
     /// How many blocks live in each segment, and hold it.
     pub fn usage(&self) -> &Usage
-        ensures { result.now ≡ self.now.store.log.memory.usage }
+        ensures { result.now ≡ self.now.store.log.usage }
     {
         self.store.log.usage()
     }

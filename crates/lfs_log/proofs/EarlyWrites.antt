@@ -1,5 +1,6 @@
 -- The log over its device, as full chunks of data blocks are written between commits.
-use Rattle.std.proofs.Common.{◌≡◌, ◌<◌, ◌≤◌, ◌⊎◌, inl, ◌+◌, cond, ℕ, Bool, true, false, length, sym, ◌∙◌, ap₂, subst, arith}
+use Rattle.std.proofs.Common.{◌≡◌, ◌<◌, ◌≤◌, ◌⊎◌, ⊎_elim, inl, inr, ◌+◌, cond, ℕ, Bool, true, false, length, sym, ◌∙◌, ap, ap₂, subst}
+use Rattle.std.proofs.Common.{arith}
 use Rattle.std.specs.Prelude.{max}
 use Rattle.lfs_model.specs.Crash.{StandsOn, StandsForOn}
 use Rattle.lfs_model.specs.Device.{DeviceState}
@@ -14,13 +15,15 @@ use Rattle.lfs_memory.specs.Memory.{Stops}
 use Rattle.lfs_log.specs.Early.{WritesChunks, full_chunk}
 use Rattle.lfs_log.specs.Thresholds.{reserve_of}
 use Rattle.lfs_memory.proofs.of_inodes.Data.{no_data}
-use Rattle.lfs_log.specs.Held.{Held, Halts, IsAtRest, NothingWaits, WaitsUnlessSaved, WritesEarly}
+use Rattle.lfs_log.specs.LogState.{Halts, IsAtRest, WritesEarly}
+use Rattle.lfs_log.specs.Held.{Held, NothingWaits, WaitsUnlessSaved, seen}
+use Rattle.lfs_log.proofs.Unsaved.{none_left}
 
 module _ {D : Type 0} (state : D → DeviceState) where
   pub writes_early : (h h' : Held D) → WritesChunks (state h.device) (state h'.device) h.memory h'.memory → h'.number ≡ h.number
       → h'.version ≡ h.version → h'.upgraded ≡ h.upgraded → h'.saved ≡ h.saved → h'.halted ≡ false
       → (h' ≡ h) ⊎ (reserve_of (length h'.memory.usage.segments) ≤ clean_in h'.memory.usage.segments)
-      → (data_count h.memory.dirty < full_chunk → h' ≡ h) → WritesEarly state h h'
+      → (data_count h.memory.dirty < full_chunk → h' ≡ h) → WritesEarly state (seen h) (seen h')
   writes_early h h' c number version upgraded saved running reserve idle = record {
     carries = c.goes.1.carries;
     running = running;
@@ -28,19 +31,22 @@ module _ {D : Type 0} (state : D → DeviceState) where
     upgraded = upgraded;
     saved = saved;
     segments = c.goes.1.segments;
-    capacity = c.capacity;
     fewer = c.fewer;
     only_data = c.only_data;
     unsaved = ap₂ (λ (all : Bool) (n : ℕ). cond all 0 (max 1 n)) saved
         (ap₂ (λ (n : ℕ) (raised : Bool). n + cond raised 1 0) c.due upgraded);
-    reserve = subst (λ (n : ℕ). (h' ≡ h) ⊎ (reserve_of n ≤ clean_in h'.memory.usage.segments)) c.goes.1.segments reserve;
-    idle = idle;
+    reserve = subst (λ (n : ℕ). (seen h' ≡ seen h) ⊎ (reserve_of n ≤ clean_in h'.memory.usage.segments)) c.goes.1.segments
+        (⊎_elim (λ (same : h' ≡ h). inl (ap seen same))
+        (λ (kept : reserve_of (length h'.memory.usage.segments) ≤ clean_in h'.memory.usage.segments). inr kept) reserve);
+    idle = λ few. ap seen (idle few);
+    rest = rest_early;
     taken = c.taken;
     emptied = emptied_stay h.memory.usage h'.memory.usage c.goes.1.segments c.goes.1.emptied;
     told = c.told;
     no_failure = c.goes.1.no_failure;
     holds = λ k m0 m keeps is. record {
       log = c.goes.1.log k m0 m keeps is.log;
+      segments = is.segments ∙ sym c.goes.1.segments;
       number = is.number ∙ sym number;
       version = is.version ∙ sym version;
       running = running;
@@ -51,15 +57,16 @@ module _ {D : Type 0} (state : D → DeviceState) where
   }
     where
       -- nothing is written where all is saved
-      rest_early : IsAtRest h → IsAtRest h'
+      rest_early : IsAtRest (seen h) → IsAtRest (seen h')
       rest_early rest =
-          let none = no_data h.memory.dirty rest.nothing.blocks in
+          let empty = rest.nothing.blocks in
+          let none = no_data h.memory.dirty (none_left h.memory.dirty.blocks (omega (arith, empty))) in
           let few : data_count h.memory.dirty < full_chunk = omega (arith, none) in
-          subst (λ (x : Held D). IsAtRest x) (sym (idle few)) rest
+          subst (λ (x : Held D). IsAtRest (seen x)) (sym (idle few)) rest
 
   -- a write that failed: what is acknowledged stays
   pub early_halts : (h h' : Held D) → Stops (state h.device) (state h'.device) h.memory → h'.halted ≡ true → h'.saved ≡ false
-      → h'.number ≡ h.number → Halts state h h'
+      → h'.number ≡ h.number → Halts state (seen h) (seen h')
   early_halts h h' stops halted unsaved number = record {
     carries = stops.carries;
     halted = halted;

@@ -28,3 +28,5 @@ pub use Rattle.lfs_verify.proofs as of_verify
 pub mod EarlyBlocks
 pub mod EarlyWrites
 pub mod KeptRuns
+pub mod LogReads
+pub mod Pressing

@@ -37,7 +37,8 @@ use Rattle.lfs_verify.specs.declared.fault.MountFault.{MountFault}
 use Rattle.lfs_verify.specs.declared.fault.MountFault.TheVariants as fault
 use Rattle.lfs_verify.specs.Faults.{IsOpenFault}
 use Rattle.lfs_verify.specs.Verified.{HasLogMap, IsRefusedLog}
-use Rattle.lfs_log.specs.Held.{Held, Holds, IsReadyToPass, Mounts}
+use Rattle.lfs_log.specs.LogState.{LogState, Holds, Mounts}
+use Rattle.lfs_log.specs.Held.{IsReadyToPass}
 use Rattle.lfs_log.specs.Mounting.{OpenedLog, OpensLog}
 use Rattle.lfs_log.specs.Opening.{CountsOpened, IsOpened, Opens}
 use Rattle.lfs_memory.specs.segments.Early.{AreUntaken}
@@ -260,7 +261,7 @@ module _ {D : Type 0} (state : D → DeviceState) (d d' : D) (looks : Looks (sta
       → Only (state d').content (state d')
   only_behind durable keeps = subst (λ (c : Content). Only c (state d')) (sym looks.untouched.content) (durable keeps)
 
-module _ {D : Type 0} (state : D → DeviceState) (d d' : D) (looks : Looks (state d) (state d')) (h : Held D) (same : h.device ≡ d') where
+module _ {D : Type 0} (state : D → DeviceState) (d d' : D) (looks : Looks (state d) (state d')) (h : LogState D) (same : h.device ≡ d') where
   mounts_behind : Mounts state d' h → Mounts state d h
   mounts_behind mounts =
       subst (λ (c : Content). (m : LogMap) → (state h.device).keeps_model → (is : StandsLog c m) → Holds state h is.checkpoint m m)
@@ -279,10 +280,10 @@ module _ {D : Type 0} (state : D → DeviceState) (d d' : D) (looks : Looks (sta
   log_behind t has = subst (λ (x : D). HasLogMap (state d) (state x)) (sym same) (has_log_map (state d) (state d') t has)
 
 -- ---- how a mount ends
-abbrev pub mount_fails : {D : Type 0} → MountFault → D → Result (Held D) (MountFault × D)
+abbrev pub mount_fails : {D : Type 0} → MountFault → D → Result (LogState D) (MountFault × D)
 mount_fails fault device = Err (fault, device)
 
-abbrev pub mount_gives : {D : Type 0} → Held D → Result (Held D) (MountFault × D)
+abbrev pub mount_gives : {D : Type 0} → LogState D → Result (LogState D) (MountFault × D)
 mount_gives h = Ok h
 
 module _ {D : Type 0} (state : D → DeviceState) (d d' : D) (looks : Looks (state d) (state d')) where
@@ -301,7 +302,7 @@ module _ {D : Type 0} (state : D → DeviceState) (d d' : D) (looks : Looks (sta
   }
 
   -- it found one
-  pub opens_some : (h : Held D) → h.device ≡ d' → OpenedLog state d' h → (t : Tables)
+  pub opens_some : (h : LogState D) → h.device ≡ d' → OpenedLog state d' h → (t : Tables)
       → ((state d').keeps_model → HasTables (state d).content t)
       → ((state d').keeps_model → Only (state d).content (state d')) → OpensLog state d (mount_gives h)
   opens_some h same opened t has durable = record {

@@ -1,5 +1,5 @@
 -- A pass of the cleaner: what came into memory fits, and its commit makes the segments clean.
-use Rattle.std.proofs.Common.{◌≡◌, ◌≤◌, inl, ◌+◌, ◌-◌, ℕ, Bool, true, false, List, length, get_or, refl, ◌∙◌, subst, arith}
+use Rattle.std.proofs.Common.{◌≡◌, ◌≤◌, inl, ◌+◌, ◌-◌, ℕ, Bool, true, false, List, length, get_or, refl, sym, ◌∙◌, ap, subst, arith}
 use Rattle.lfs_model.specs.Checkpoint.{CheckpointValue}
 use Rattle.lfs_model.specs.Content.{Content}
 use Rattle.lfs_model.specs.Crash.{StandsOn, StandsForOn}
@@ -14,13 +14,17 @@ use Rattle.lfs_memory.specs.segments.Table.{used_of}
 use Rattle.lfs_memory.specs.segments.Spare.{emptied_in}
 use Rattle.lfs_memory.specs.inodes.Blocks.{TableValue}
 use Rattle.lfs_memory.specs.declared.memory.LogMemory.{LogMemory}
+use Rattle.lfs_memory.specs.Memory.{IsLoose}
 use Rattle.lfs_memory.proofs.Looses.{loose}
 use Rattle.lfs_memory.proofs.Presents.{looks_quiet}
-use Rattle.lfs_log.specs.Cleaning.{Cleans, Empties, MayClean, most_brought}
-use Rattle.lfs_log.specs.Held.{Held, Halts, Holds, NothingWaits}
+use Rattle.lfs_log.specs.Cleaning.{ArePacked, Cleans, Empties, MayClean, MayPass, Overfills, limited, most_brought}
+use Rattle.lfs_log.specs.LogState.{AreAllSaved, Halts, Holds}
+use Rattle.lfs_log.specs.Held.{Held, seen}
 use Rattle.lfs_log.specs.Publishing.{IsAcknowledged}
 use Rattle.lfs_log.specs.Saving.{CommitsAll, CommitFails, IsSpared, segments_for}
 use Rattle.lfs_log.proofs.Cleaned.{at_one, emptied_least, limited_log}
+use Rattle.lfs_log.proofs.Fitting.{crowd_fits}
+use Rattle.lfs_log.proofs.Unsaved.{none_left}
 
 -- ---- room
 pub fewer_taken : (blocks count : ℕ) → 2 ≤ count → blocks ≤ most_brought count → segments_for blocks ≤ count - 1
@@ -42,15 +46,33 @@ module _ (d d' : DeviceState) (v v' : LogMemory) (vs : List ℕ) (may : MayClean
       let gone = pass_emptied in
       omega (arith, taken, least, many, clean, size, gone)
 
+-- ---- whether it may begin, and whether its blocks fit
+pub may_begin : {D : Type 0} (h : Held D) (vs : List ℕ) → MayPass (seen h) vs → MayClean h.memory vs
+may_begin h vs may = record {
+  nothing = let none = may.nothing in none_left h.memory.dirty.blocks (omega (arith, none));
+  many = may.many;
+  least = may.least;
+  most = may.most;
+  each = may.each;
+}
+
 -- ---- the whole pass
 module _ {D : Type 0} (state : D → DeviceState) where
+  pub are_packed : (h h' : Held D) (vs : List ℕ) → MayPass (seen h) vs
+      → Overfills (state h.device) (state h'.device) h.memory vs (most_brought (length vs)) → ArePacked state (seen h) (seen h') vs
+  are_packed h h' vs may over k m0 m keeps is map =
+      let v = limited h.memory (most_brought (length vs)) in
+      let loose : IsLoose (state h.device) v k m0 m =
+      record { running = is.log.running; hidden = is.log.hidden; segments = is.log.segments } in
+      crowd_fits (state h.device) (state h'.device) v over.0 k m0 m vs keeps loose map (may_begin h vs may).nothing over.1
+
   module _ (h : Held D) (middle : DeviceState) (v : LogMemory) (vs : List ℕ) (lawful : IsLawful (state h.device))
       (one : Empties (state h.device) middle h.memory v vs) where
-    acknowledged : (k : CheckpointValue) (m0 m : LogMap) → middle.keeps_model → Holds state h k m0 m → IsLogMap (dropped m)
+    acknowledged : (k : CheckpointValue) (m0 m : LogMap) → middle.keeps_model → Holds state (seen h) k m0 m → IsLogMap (dropped m)
         → IsAcknowledged middle v h.version h.number k m0 m
     acknowledged k m0 m keeps is map = record { log = one.log k m0 m keeps is.log; map = map; same = is.number; same_version = is.version }
 
-    moment_then : (d : DeviceState) (k : CheckpointValue) (m0 m : LogMap) → middle.keeps_model → Holds state h k m0 m
+    moment_then : (d : DeviceState) (k : CheckpointValue) (m0 m : LogMap) → middle.keeps_model → Holds state (seen h) k m0 m
         → LeavesOnly middle d (StandsForOn k.segments m0 (dropped m))
         → LeavesOnly (state h.device) d (StandsForOn k.segments m0 (dropped m))
     moment_then d k m0 m keeps is moment =
@@ -61,7 +83,7 @@ module _ {D : Type 0} (state : D → DeviceState) where
 
     pub pass_halts : (device : D) (after : LogMemory) → middle.failures ≡ (state h.device).failures
         → CommitFails middle (state device) v h.version h.number
-        → Halts state h (record {
+        → Halts state (seen h) (seen (record {
           device = device;
           memory = after;
           number = h.number;
@@ -70,7 +92,7 @@ module _ {D : Type 0} (state : D → DeviceState) where
           saved = false;
           halted = true;
           totals = h.totals;
-        })
+        }))
     pass_halts device after unfailed fails = record {
       carries = carries_then (state h.device) middle (state device) one.looks.carries fails.carries;
       halted = refl;
@@ -87,7 +109,7 @@ module _ {D : Type 0} (state : D → DeviceState) where
     pub pass_done : MayClean h.memory vs → AreApart vs → length v.dirty.blocks ≤ most_brought (length vs)
         → (device : D) (w : LogMemory) (t : TableValue) (halted : Bool) → halted ≡ false → t.blocks ≡ w.dirty.blocks
         → middle.failures ≡ (state h.device).failures → CommitsAll middle (state device) v w h.version h.number
-        → Cleans state h (record {
+        → Cleans state (seen h) (seen (record {
           device = device;
           memory = record { map = w.map; usage = w.usage; dirty = t; chunk = w.chunk };
           number = h.number + 1;
@@ -96,7 +118,7 @@ module _ {D : Type 0} (state : D → DeviceState) where
           saved = true;
           halted = halted;
           totals = h.totals;
-        }) vs
+        })) vs
     pass_done may apart few device w t halted on same unfailed done = record {
       carries = carries_then (state h.device) middle (state device) one.looks.carries done.carries;
       running = on;
@@ -128,26 +150,30 @@ module _ {D : Type 0} (state : D → DeviceState) where
           moment_then (state device) k m0 m back is (done.moment k m0 m keeps (acknowledged k m0 m back is map));
     }
       where
-        nothing : NothingWaits (record { map = w.map; usage = w.usage; dirty = t; chunk = w.chunk }) false
-        nothing = record { blocks = same ∙ done.dirty; version = refl; sectors = done.untaken }
+        after : Held D
+        after = record {
+          device = device;
+          memory = record { map = w.map; usage = w.usage; dirty = t; chunk = w.chunk };
+          number = h.number + 1;
+          version = h.version;
+          upgraded = false;
+          saved = true;
+          halted = halted;
+          totals = h.totals;
+        }
 
-        holds : (k : CheckpointValue) (m0 m : LogMap) → (state device).keeps_model → Holds state h k m0 m → IsLogMap (dropped m)
+        nothing : AreAllSaved (seen after)
+        nothing = record { blocks = ap length (same ∙ done.dirty); version = refl; sectors = done.untaken }
+
+        holds : (k : CheckpointValue) (m0 m : LogMap) → (state device).keeps_model → Holds state (seen h) k m0 m → IsLogMap (dropped m)
             → (next : CheckpointValue)
-            × Holds state (record {
-              device = device;
-              memory = record { map = w.map; usage = w.usage; dirty = t; chunk = w.chunk };
-              number = h.number + 1;
-              version = h.version;
-              upgraded = false;
-              saved = true;
-              halted = halted;
-              totals = h.totals;
-            }) next (dropped m) m
+            × Holds state (seen after) next (dropped m) m
         holds k m0 m keeps is map =
             let n = done.log k m0 m keeps (acknowledged k m0 m (done.carries.kept_before keeps) is map) in (
               n.0,
               record {
                 log = limited_log w t same (state device) n.0 (dropped m) m n.2;
+                segments = sym n.2.segments;
                 number = n.1;
                 version = is.version;
                 running = on;

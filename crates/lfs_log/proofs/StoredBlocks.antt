@@ -21,7 +21,8 @@ use Rattle.lfs_memory.specs.Pointers.{AnswersCount}
 use Rattle.lfs_memory.specs.Present.{AnswersAddress}
 use Rattle.lfs_memory.proofs.Looses.{loose}
 use Rattle.lfs_memory.proofs.PointerRuns.{block_test, some_test, test_some}
-use Rattle.lfs_log.specs.Held.{Held, TellsBlock, TellsLeaf, TellsDouble, CountsBlocks}
+use Rattle.lfs_log.specs.LogState.{TellsBlock, TellsLeaf, TellsDouble, CountsBlocks}
+use Rattle.lfs_log.specs.Held.{Held, seen}
 
 -- ---- where memory and device hold a log map
 module _ (d : DeviceState) (v : LogMemory) (k : CheckpointValue) (m0 m : LogMap) (is : IsLoose d v k m0 m) where
@@ -93,20 +94,20 @@ module _ (d : DeviceState) (v : LogMemory) (k : CheckpointValue) (m0 m : LogMap)
 -- ---- what calls tell
 module _ {D : Type 0} (state : D → DeviceState) where
   pub tells_block : (h h' : Held D) (n i address : ℕ) → AnswersAddress (state h.device) (state h'.device) h.memory (Data n i) address
-      → TellsBlock state h h' n i (not (address == 0))
+      → TellsBlock state (seen h) (seen h') n i (not (address == 0))
   tells_block h h' n i address answers k m0 m keeps is = block_test (state h.device) h.memory k m0 m
       (loose (state h.device) h.memory k m0 m is.log) n i address (answers k m0 m keeps (loose (state h.device) h.memory k m0 m is.log))
 
   pub tells_leaf : (h h' : Held D) (n q address : ℕ) → AnswersAddress (state h.device) (state h'.device) h.memory (Leaf n q) address
-      → TellsLeaf state h h' n q (not (address == 0))
+      → TellsLeaf state (seen h) (seen h') n q (not (address == 0))
   tells_leaf h h' n q address answers k m0 m keeps is = leaf_test (state h.device) h.memory k m0 m (loose (state h.device) h.memory k m0 m
       is.log) is.log.tight n q address (answers k m0 m keeps (loose (state h.device) h.memory k m0 m is.log))
 
   pub tells_double : (h h' : Held D) (n address : ℕ) → AnswersAddress (state h.device) (state h'.device) h.memory (Double n) address
-      → TellsDouble state h h' n (not (address == 0))
+      → TellsDouble state (seen h) (seen h') n (not (address == 0))
   tells_double h h' n address answers k m0 m keeps is = double_test (state h.device) h.memory k m0 m (loose (state h.device) h.memory k m0 m
       is.log) is.log.tight n address (answers k m0 m keeps (loose (state h.device) h.memory k m0 m is.log))
 
   pub counts_blocks : (h h' : Held D) (n from to count : ℕ) → AnswersCount (state h.device) (state h'.device) h.memory n from to count
-      → CountsBlocks state h h' n from to count
+      → CountsBlocks state (seen h) (seen h') n from to count
   counts_blocks h h' n from to count answers k m0 m keeps is = answers k m0 m keeps (loose (state h.device) h.memory k m0 m is.log)

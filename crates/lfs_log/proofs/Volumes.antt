@@ -37,8 +37,8 @@ use Rattle.lfs_memory.proofs.Applied.{has_inode}
 use Rattle.lfs_memory.proofs.BlockSteps.{tightened_log}
 use Rattle.lfs_memory.proofs.Presents.{no_inode, same_map}
 use Rattle.lfs_memory.proofs.Versions.{staged_version}
-use Rattle.lfs_log.specs.Held.{Held, Holds, Mounts, Saves, Halts, ReadsHeader, ReadsBlock, IsReadFault, Alters, IsStaged, IsRefused}
-use Rattle.lfs_log.specs.Held.{IsStageFault, IsRemoved, IsKept, IsVacant, HasAll, HoldsOne, AreAllSaved, IsAtRest, Reads, ReadsLog}
+use Rattle.lfs_log.specs.LogState.{LogState, Holds, Mounts, Saves, Halts, ReadsHeader, ReadsBlock, IsReadFault, Alters, IsStaged, IsRefused, IsStageFault, IsRemoved, IsKept, IsVacant, HasAll, HoldsOne, AreAllSaved, IsAtRest, Reads, ReadsLog}
+use Rattle.lfs_log.specs.Held.{Held, seen}
 use Rattle.lfs_log.proofs.Linked.{all_linked, same_dropped}
 use Rattle.lfs_log.proofs.Unsaved.{rest_altered}
 
@@ -50,19 +50,18 @@ and_true true = refl
 and_true false = refl
 
 module _ {D : Type 0} (state : D → DeviceState) where
-  acknowledged : (h : Held D) (k : CheckpointValue) (m0 m : LogMap) → Holds state h k m0 m → IsLogMap (dropped m)
+  acknowledged : (h : Held D) (k : CheckpointValue) (m0 m : LogMap) → Holds state (seen h) k m0 m → IsLogMap (dropped m)
       → IsAcknowledged (state h.device) h.memory h.version h.number k m0 m
   acknowledged h k m0 m holds map = record { log = holds.log; map = map; same = holds.number; same_version = holds.version }
 
   -- checkpoints over as many numbers in memory have as many segments
-  pub same_segments : (h h' : Held D) (k next : CheckpointValue) (m0 m m0' m' : LogMap)
-      → length h'.memory.usage.segments ≡ length h.memory.usage.segments
+  pub same_segments : (h h' : LogState D) (k next : CheckpointValue) (m0 m m0' m' : LogMap) → h'.segments ≡ h.segments
       → Holds state h k m0 m → Holds state h' next m0' m' → next.segments ≡ k.segments
-  same_segments h h' k next m0 m m0' m' same is is' = sym is'.log.segments ∙ same ∙ is.log.segments
+  same_segments h h' k next m0 m m0' m' same is is' = is'.segments ∙ same ∙ sym is.segments
 
   pub saves : (h h' : Held D) → length h.memory.dirty.blocks ≤ 456 → CommitsAll (state h.device) (state h'.device) h.memory h'.memory
       h.version h.number → h'.number ≡ h.number + 1 → h'.version ≡ h.version → h'.upgraded ≡ false → h'.saved ≡ true → h'.halted ≡ false
-      → Saves state h h'
+      → Saves state (seen h) (seen h')
   saves h h' few c number version upgraded saved running = record {
     carries = c.carries;
     running = running;
@@ -80,21 +79,22 @@ module _ {D : Type 0} (state : D → DeviceState) where
     left = λ k m0 m keeps is map. (
         let n = holds k m0 m keeps is map in
         subst (λ (l : ℕ). AllLeft (state h'.device) (λ c. StandsOn l c (dropped m)))
-        (same_segments h h' k n.0 m0 m (dropped m) m c.segments is n.1)
+        (same_segments (seen h) (seen h') k n.0 m0 m (dropped m) m c.segments is n.1)
         (settled_stands (state h'.device) n.0 (dropped m) n.1.log.running.settled));
     moment = λ k m0 m keeps is map. c.moment k m0 m keeps (acknowledged h k m0 m is map);
   }
     where
-      nothing : AreAllSaved h'
-      nothing = record { blocks = c.dirty; version = upgraded; sectors = c.untaken }
+      nothing : AreAllSaved (seen h')
+      nothing = record { blocks = ap length c.dirty; version = upgraded; sectors = c.untaken }
 
-      holds : (k : CheckpointValue) (m0 m : LogMap) → (state h'.device).keeps_model → Holds state h k m0 m → IsLogMap (dropped m)
-          → (next : CheckpointValue) × Holds state h' next (dropped m) m
+      holds : (k : CheckpointValue) (m0 m : LogMap) → (state h'.device).keeps_model → Holds state (seen h) k m0 m → IsLogMap (dropped m)
+          → (next : CheckpointValue) × Holds state (seen h') next (dropped m) m
       holds k m0 m keeps is map =
           let n = c.log k m0 m keeps (acknowledged h k m0 m is map) in (
             n.0,
             record {
               log = n.2;
+              segments = sym n.2.segments;
               number = n.1 ∙ sym number;
               version = is.version ∙ sym version;
               running = running;
@@ -104,7 +104,7 @@ module _ {D : Type 0} (state : D → DeviceState) where
           )
 
   pub halts : (h h' : Held D) → CommitFails (state h.device) (state h'.device) h.memory h.version h.number → h'.halted ≡ true
-      → h'.saved ≡ false → h'.number ≡ h.number → Halts state h h'
+      → h'.saved ≡ false → h'.number ≡ h.number → Halts state (seen h) (seen h')
   halts h h' c halted unsaved number = record {
     carries = c.carries;
     halted = halted;
@@ -117,12 +117,13 @@ module _ {D : Type 0} (state : D → DeviceState) where
 
   -- a mounted log map has no file of no links
   pub mounts : (d : D) (h : Held D) → IsLawful (state d) → Opens (state d) (state h.device) h.memory h.version h.number → h.halted ≡ false
-      → AreAllSaved h → ((state h.device).keeps_model → AreUntaken h.memory.usage)
-      → ((state h.device).keeps_model → length h.memory.usage.segments ≤ 8 * clean_in h.memory.usage.segments) → Mounts state d h
+      → AreAllSaved (seen h) → ((state h.device).keeps_model → AreUntaken h.memory.usage)
+      → ((state h.device).keeps_model → length h.memory.usage.segments ≤ 8 * clean_in h.memory.usage.segments) → Mounts state d (seen h)
   mounts d h lawful opens running nothing untaken many m keeps is =
       let o = opens m keeps is in
       record {
         log = o.0;
+        segments = sym o.0.segments;
         number = o.1;
         version = o.2;
         running = running;
@@ -132,15 +133,31 @@ module _ {D : Type 0} (state : D → DeviceState) where
 
   -- ---- a call that only looks
   module _ (h : Held D) (device : D) (looks : Looks (state h.device) (state device)) where
-    still : Reads state h (record h { device = device })
+    still : Reads state (seen h) (seen (record h { device = device }))
     still =
-        record { looks = looks; memory = refl; number = refl; version = refl; upgraded = refl; saved = refl; halted = refl; totals = refl }
+        record {
+          looks = looks;
+          halted = refl;
+          number = refl;
+          version = refl;
+          upgraded = refl;
+          saved = refl;
+          unsaved = refl;
+          totals = refl;
+          segments = refl;
+          clean = refl;
+          emptied = refl;
+          waiting = refl;
+          file_data = refl;
+          usage = refl;
+          inner = refl;
+        }
 
-    pub looked_done : {T : Type 0} (x : T) → ReadsLog state h (record h { device = device }) (Ok x)
+    pub looked_done : {T : Type 0} (x : T) → ReadsLog state (seen h) (seen (record h { device = device })) (Ok x)
     looked_done x = record { reads = still; halted = λ e. absurd (cc); other = λ e. absurd (cc); failed = tt }
 
     pub looked_fails : (T : Type 0) → FailsFromDevice (state h.device) (state device) h.memory
-        → ReadsLog state h (record h { device = device }) (device_fails T)
+        → ReadsLog state (seen h) (seen (record h { device = device })) (device_fails T)
     looked_fails T failed = record {
       reads = still;
       halted = λ e. absurd (cc);
@@ -149,24 +166,25 @@ module _ {D : Type 0} (state : D → DeviceState) where
     }
 
   pub reads_header : (h h' : Held D) (n : ℕ) (found : Option Header) → AnswersHeader (state h.device) (state h'.device) h.memory n found
-      → ReadsHeader state h h' n found
+      → ReadsHeader state (seen h) (seen h') n found
   reads_header h h' n found answers k m0 m keeps is = answers k m0 m keeps (loose (state h.device) h.memory k m0 m is.log)
 
   pub reads_block : (h h' : Held D) (n i : ℕ) (out : List ℕ) (stored : Bool)
-      → AnswersBlock (state h.device) (state h'.device) h.memory n i out stored → ReadsBlock state h h' n i out stored
+      → AnswersBlock (state h.device) (state h'.device) h.memory n i out stored → ReadsBlock state (seen h) (seen h') n i out stored
   reads_block h h' n i out stored answers k m0 m keeps is = answers k m0 m keeps (loose (state h.device) h.memory k m0 m is.log)
 
-  pub read_fault : (h h' : Held D) → FailsFromDevice (state h.device) (state h'.device) h.memory → IsReadFault state h h'
+  pub read_fault : (h h' : Held D) → FailsFromDevice (state h.device) (state h'.device) h.memory → IsReadFault state (seen h) (seen h')
   read_fault h h' excused k m0 m keeps is = excused k m0 m keeps (loose (state h.device) h.memory k m0 m is.log)
 
   -- ---- memory changes, and then blocks of pointers that lead nowhere leave it
-  held_tight : (h h' : Held D) (v : LogMemory) (k : CheckpointValue) (m0 m w : LogMap) → Holds state h k m0 m → h'.number ≡ h.number
+  held_tight : (h h' : Held D) (v : LogMemory) (k : CheckpointValue) (m0 m w : LogMap) → Holds state (seen h) k m0 m → h'.number ≡ h.number
       → (raised : Bool) → h'.version ≡ cond raised 2 h.version → w.version ≡ cond raised 2 m.version → h'.halted ≡ h.halted
       → Tightens v h'.memory
-      → IsLoose (state h'.device) v k m0 w → (h'.saved ≡ true → m0 ≡ dropped w) → (h'.saved ≡ true → IsAtRest h') → Holds state h' k m0 w
+      → IsLoose (state h'.device) v k m0 w → (h'.saved ≡ true → m0 ≡ dropped w) → (h'.saved ≡ true → IsAtRest (seen h')) → Holds state (seen h') k m0 w
   held_tight h h' v k m0 m w is number raised version same halted tight loose nothing_new rest =
       record {
         log = tightened_log (state h'.device) v h'.memory k m0 w tight loose;
+        segments = sym (tightened_log (state h'.device) v h'.memory k m0 w tight loose).segments;
         number = is.number ∙ sym number;
         version = same ∙ ap (λ (n : ℕ). cond raised 2 n) is.version ∙ sym version;
         running = halted ∙ is.running;
@@ -179,7 +197,7 @@ module _ {D : Type 0} (state : D → DeviceState) where
     module _ (c : Changes) where
       stood : (raised : Bool) → h'.version ≡ cond raised 2 h.version → h'.upgraded ≡ (raised || h.upgraded)
           → StandsWithBatch (state h.device) (state h'.device) h.memory v c.headers.items c.blocks.items
-          → Alters state h h' (room_for c) raised
+          → Alters state (seen h) (seen h') (room_for c) raised
       stood raised version upgraded s = record {
         looks = s.looks;
         number = number;
@@ -188,13 +206,12 @@ module _ {D : Type 0} (state : D → DeviceState) where
         halted = halted;
         segments = tight.stays.segments ∙ s.segments;
         clean = tight.stays.clean ∙ s.clean;
-        capacity = tight.stays.capacity ∙ s.capacity;
         few = let x = s.few in let y = tight.stays.blocks in omega (arith, x, y);
       }
 
       pub is_staged : h'.version ≡ version_after c.loss h.version → h'.upgraded ≡ (raises c.loss || h.upgraded) → h'.saved ≡ false
           → TakesBatch (state h.device) (state h'.device) h.memory v c.loss c.headers.items c.blocks.items
-          → IsStaged state h h' c
+          → IsStaged state (seen h) (seen h') c
       is_staged version upgraded unsaved s = record {
         alters = stood (raises c.loss) version upgraded s.stands;
         unsaved = unsaved;
@@ -203,7 +220,7 @@ module _ {D : Type 0} (state : D → DeviceState) where
       }
 
       pub is_refused : h'.version ≡ h.version → h'.upgraded ≡ h.upgraded → h'.saved ≡ false
-          → RefusesBatch (state h.device) (state h'.device) h.memory v c.loss c.headers.items c.blocks.items → IsRefused state h h' c
+          → RefusesBatch (state h.device) (state h'.device) h.memory v c.loss c.headers.items c.blocks.items → IsRefused state (seen h) (seen h') c
       is_refused version upgraded unsaved s =
           record {
             alters = stood false version upgraded s.stands;
@@ -216,7 +233,7 @@ module _ {D : Type 0} (state : D → DeviceState) where
     -- where it had a name, the log isn't saved any more
     pub is_removed : h'.version ≡ h.version → h'.upgraded ≡ h.upgraded → (n : ℕ) → n < FILE_NUMBERS
         → h'.saved ≡ (h.saved && is_hidden_in h.memory.map n)
-        → RemovesFile (state h.device) (state h'.device) h.memory v n → IsRemoved state h h' n
+        → RemovesFile (state h.device) (state h'.device) h.memory v n → IsRemoved state (seen h) (seen h') n
     is_removed version upgraded n low saved s = record {
       alters = alters;
       unsaved = λ off. saved ∙ ap (λ (all : Bool). all && is_hidden_in h.memory.map n) off;
@@ -228,10 +245,10 @@ module _ {D : Type 0} (state : D → DeviceState) where
           (λ all. (let both = and_parts h.saved (is_hidden_in h.memory.map n) (sym saved ∙ all) in
           is.nothing_new both.0 ∙ sym (same_dropped m n (is.log.hidden n low ∙ both.1))))
           (λ all. (let both = and_parts h.saved (is_hidden_in h.memory.map n) (sym saved ∙ all) in
-          rest_altered state h h' alters untaken (is.rest both.0)));
+          rest_altered state (seen h) (seen h') alters untaken (is.rest both.0)));
     }
       where
-        alters : Alters state h h' 0 false
+        alters : Alters state (seen h) (seen h') 0 false
         alters = record {
           looks = s.looks;
           number = number;
@@ -240,8 +257,7 @@ module _ {D : Type 0} (state : D → DeviceState) where
           halted = halted;
           segments = tight.stays.segments ∙ s.segments;
           clean = tight.stays.clean ∙ s.clean;
-          capacity = tight.stays.capacity ∙ s.capacity;
-          few = let x = s.few in let y = tight.stays.blocks in omega (arith, x, y);
+            few = let x = s.few in let y = tight.stays.blocks in omega (arith, x, y);
         }
 
         untaken : AreUntaken h.memory.usage → AreUntaken h'.memory.usage
@@ -249,17 +265,17 @@ module _ {D : Type 0} (state : D → DeviceState) where
             (s.kept segment ∙ before segment ∙ sym (s.used segment))
 
     pub is_kept : h'.version ≡ h.version → h'.upgraded ≡ h.upgraded → h'.saved ≡ h.saved
-        → Prepares (state h.device) (state h'.device) h.memory v 0 → IsKept state h h'
+        → Prepares (state h.device) (state h'.device) h.memory v 0 → IsKept state (seen h) (seen h')
     is_kept version upgraded saved s = record {
       alters = alters;
       saved = saved;
       untaken = untaken;
       holds = λ k m0 m keeps is. held_tight h h' v k m0 m m is number false version refl halted tight
           (s.log k m0 m keeps (loose (state h.device) h.memory k m0 m is.log))
-          (λ all. is.nothing_new (sym saved ∙ all)) (λ all. rest_altered state h h' alters untaken (is.rest (sym saved ∙ all)));
+          (λ all. is.nothing_new (sym saved ∙ all)) (λ all. rest_altered state (seen h) (seen h') alters untaken (is.rest (sym saved ∙ all)));
     }
       where
-        alters : Alters state h h' 0 false
+        alters : Alters state (seen h) (seen h') 0 false
         alters = record {
           looks = s.looks;
           number = number;
@@ -268,8 +284,7 @@ module _ {D : Type 0} (state : D → DeviceState) where
           halted = halted;
           segments = tight.stays.segments ∙ s.segments;
           clean = tight.stays.clean ∙ s.clean;
-          capacity = tight.stays.capacity ∙ s.capacity;
-          few = let x = s.few in let y = tight.stays.blocks in omega (arith, x, y);
+            few = let x = s.few in let y = tight.stays.blocks in omega (arith, x, y);
         }
 
         untaken : AreUntaken h.memory.usage → AreUntaken h'.memory.usage
@@ -277,15 +292,15 @@ module _ {D : Type 0} (state : D → DeviceState) where
             (s.kept segment ∙ before segment ∙ sym (s.used segment))
 
   pub is_stage_fault : (h h' : Held D) (c : Changes)
-      → IsBatchExcused (state h.device) (state h'.device) h.memory c.loss c.headers.items c.blocks.items → IsStageFault state h h' c
+      → IsBatchExcused (state h.device) (state h'.device) h.memory c.loss c.headers.items c.blocks.items → IsStageFault state (seen h) (seen h') c
   is_stage_fault h h' c failed k m0 m keeps is fits = failed k m0 m keeps (loose (state h.device) h.memory k m0 m is.log) fits
 
   -- ---- numbers that no file has
-  has_there : (h : Held D) (k : CheckpointValue) (m0 m : LogMap) → Holds state h k m0 m → (l : ℕ) → 0 < address_in h.memory.map l
+  has_there : (h : Held D) (k : CheckpointValue) (m0 m : LogMap) → Holds state (seen h) k m0 m → (l : ℕ) → 0 < address_in h.memory.map l
       → HasInode m l
   has_there h k m0 m is l some = has_inode (state h.device) h.memory k m0 m (loose (state h.device) h.memory k m0 m is.log) l some
 
-  pub is_vacant : (h : Held D) (n : ℕ) → IsUnusedNumber h.memory.map n → IsVacant state h n
+  pub is_vacant : (h : Held D) (n : ℕ) → IsUnusedNumber h.memory.map n → IsVacant state (seen h) n
   is_vacant h n f = record {
     some = f.some;
     few = f.few;
@@ -293,18 +308,18 @@ module _ {D : Type 0} (state : D → DeviceState) where
     least = λ k m0 m is l low below. has_there h k m0 m is l (f.least l low below);
   }
 
-  pub has_all : (h : Held D) → ((l : ℕ) → 1 ≤ l → l < 4096 → 0 < address_in h.memory.map l) → HasAll state h
+  pub has_all : (h : Held D) → ((l : ℕ) → 1 ≤ l → l < 4096 → 0 < address_in h.memory.map l) → HasAll state (seen h)
   has_all h all k m0 m is l low few = has_there h k m0 m is l (all l low few)
 
   -- ---- the log holds one log map
-  pub holds_one : (h : Held D) → HoldsOne state h
+  pub holds_one : (h : LogState D) → HoldsOne state h
   holds_one h = record {
     present = λ k k' m0 m m0' m' is is'.
-        same_map (state h.device) h.memory k k' m0 m m0' m' (loose (state h.device) h.memory k m0 m is.log)
-        (loose (state h.device) h.memory k' m0' m' is'.log) (is.version ∙ sym is'.version);
+        same_map (state h.device) h.inner k k' m0 m m0' m' (loose (state h.device) h.inner k m0 m is.log)
+        (loose (state h.device) h.inner k' m0' m' is'.log) (is.version ∙ sym is'.version);
     acknowledged = λ k k' m0 m m0' m' is is'.
         single_log (state h.device).content m0 m0' (stands_for h k m0 m is) (stands_for h k' m0' m' is');
   }
     where
-      stands_for : (h : Held D) (k : CheckpointValue) (m0 m : LogMap) → Holds state h k m0 m → StandsLog (state h.device).content m0
+      stands_for : (h : LogState D) (k : CheckpointValue) (m0 m : LogMap) → Holds state h k m0 m → StandsLog (state h.device).content m0
       stands_for h k m0 m is = let s = is.log.running.settled in record { checkpoint = k; newest = s.newest; stands = s.stands }

@@ -1,5 +1,6 @@
 -- What a pass of the cleaner does: all that lives in some segments goes elsewhere, and they are clean.
-use Rattle.std.specs.Prelude.{◌≡◌, ◌<◌, ◌≤◌, ◌+◌, ◌*◌, ◌-◌, ◌/◌, ℕ, true, false, List, [], length, get_or, Some, Result, OnOk, IsErrOf}
+use Rattle.std.specs.Prelude.{◌≡◌, ◌<◌, ◌≤◌, ◌+◌, ◌*◌, ◌-◌, ◌/◌, ℕ, true, false, List, [], length, get_or, sum_by, Some, Result, OnOk}
+use Rattle.std.specs.Prelude.{IsErrOf}
 use Rattle.lfs_model.specs.Checkpoint.{CheckpointValue}
 use Rattle.lfs_model.specs.Crash.{StandsOn}
 use Rattle.lfs_model.specs.declared.limits.TheConstants.{CHUNK_BLOCKS, TABLE_BLOCKS}
@@ -7,6 +8,7 @@ use Rattle.lfs_model.specs.Device.{DeviceState, Carries, AllLeft}
 use Rattle.lfs_model.specs.Encodes.{IsLogMap}
 use Rattle.lfs_model.specs.Members.{IsIn}
 use Rattle.lfs_model.specs.Stands.{LogMap}
+use Rattle.lfs_model.specs.Totals.{meta_in}
 use Rattle.lfs_model.specs.TreeOf.{dropped}
 use Rattle.lfs_memory.specs.segments.Emptied.{IsEmptied}
 use Rattle.lfs_memory.specs.segments.Table.{UsageTable, used_of, kept_of, clean_in}
@@ -15,8 +17,10 @@ use Rattle.lfs_memory.specs.Memory.{IsLog, IsMemory}
 use Rattle.lfs_memory.specs.declared.lifting.LiftFault.{LiftFault}
 use Rattle.lfs_memory.specs.declared.lifting.LiftFault.TheVariants as lift
 use Rattle.lfs_memory.specs.Present.{FailsFromDevice, Looks}
-use Rattle.lfs_log.specs.Held.{Held, Holds, LeavesSaved, AreAllSaved}
+use Rattle.lfs_log.specs.LogState.{LogState, Holds, LeavesSaved, AreAllSaved}
+use Rattle.lfs_log.specs.Thresholds.{IsEighthClean, most_victims}
 use Rattle.lfs_memory.specs.segments.Early.{AreUntaken}
+use Rattle.lfs_memory.specs.segments.Victims.{load_of}
 use Rattle.lfs_log.specs.Relocating.{CameFrom, IsAmong, IsInOrder, Misses, Relocates}
 
 -- a segment in use, of which no sector was taken since the acknowledged checkpoint, and in which the last chunk doesn't stand
@@ -78,20 +82,34 @@ pub record MayClean (v : LogMemory) (vs : List ℕ) : Type 0 where
   pub most : length vs ≤ length v.usage.segments / 8 + 1
   pub each : AreCleanable v.usage vs
 
+-- and of the log
+pub record MayPass {D : Type 0} (h : LogState D) (vs : List ℕ) : Type 0 where
+  pub nothing : h.waiting ≡ 0
+  pub many : IsEighthClean h.segments h.clean
+  pub least : 2 ≤ length vs
+  pub most : length vs ≤ most_victims h.segments
+  pub each : AreCleanable h.usage vs
+
 module _ {D : Type 0} (state : D → DeviceState) where
+  -- The blocks of these segments, with the inodes and blocks of pointers of each log map that the log holds and the blocks of the tables,
+  -- fill as many segments.
+  abbrev pub ArePacked : LogState D → LogState D → List ℕ → Type 0
+  ArePacked h h' vs = (k : CheckpointValue) (m0 m : LogMap) → (state h'.device).keeps_model → Holds state h k m0 m → IsLogMap m
+      → most_brought (length vs) < sum_by (load_of h.usage) vs + meta_in m
+
   -- A pass that is done: the log map is the same and all of it is saved, none of these segments has a block any more, fewer were taken than
   -- these, and a stop meanwhile left what was acknowledged, or the present map without its files of no links.
-  pub record Cleans (h h' : Held D) (vs : List ℕ) : Type 0 where
+  pub record Cleans (h h' : LogState D) (vs : List ℕ) : Type 0 where
     pub carries : Carries (state h.device) (state h'.device)
     pub running : h'.halted ≡ false
     pub number : h'.number ≡ h.number + 1
-    pub segments : length h'.memory.usage.segments ≡ length h.memory.usage.segments
-    pub cleaned : (s : ℕ) → IsIn vs s → used_of h'.memory.usage s ≡ 0
-    pub gains : clean_in h.memory.usage.segments < clean_in h'.memory.usage.segments
-    pub many : length h'.memory.usage.segments ≤ 8 * clean_in h'.memory.usage.segments
+    pub segments : h'.segments ≡ h.segments
+    pub cleaned : (s : ℕ) → IsIn vs s → used_of h'.usage s ≡ 0
+    pub gains : h.clean < h'.clean
+    pub many : h'.segments ≤ 8 * h'.clean
     pub saved : h'.saved ≡ true
     pub empty : AreAllSaved h'
-    pub untaken : AreUntaken h'.memory.usage
+    pub untaken : AreUntaken h'.usage
     pub no_failure : (state h'.device).failures ≡ (state h.device).failures
     pub holds : (k : CheckpointValue) (m0 m : LogMap) → (state h'.device).keeps_model → Holds state h k m0 m → IsLogMap (dropped m)
         → (next : CheckpointValue) × Holds state h' next (dropped m) m

@@ -2,6 +2,7 @@ pub mod Settling
 pub mod Publishing
 pub mod Saving
 pub mod Opening
+pub mod LogState
 pub mod Held
 pub mod Mounting
 pub mod Relocating

@@ -1,27 +1,26 @@
 -- What a mount gives, and why it gives none.
-use Rattle.std.specs.Prelude.{◌≡◌, ◌≤◌, ◌*◌, true, length, Result, IfOk, IfErr, MatchResult}
+use Rattle.std.specs.Prelude.{◌≡◌, ◌≤◌, ◌*◌, true, Result, IfOk, IfErr, MatchResult}
 use Rattle.lfs_model.specs.Device.{DeviceState, Only, IsUntouched, Carries, LeavesOnly}
 use Rattle.lfs_memory.specs.segments.Early.{AreUntaken}
-use Rattle.lfs_memory.specs.segments.Table.{clean_in}
 use Rattle.lfs_verify.specs.declared.fault.MountFault.{MountFault}
 use Rattle.lfs_verify.specs.declared.fault.MountFault.TheVariants as fault
 use Rattle.lfs_verify.specs.Faults.{IsOpenFault}
 use Rattle.lfs_verify.specs.Verified.{HasLogMap, IsRefusedLog}
-use Rattle.lfs_log.specs.Held.{Held, Mounts, AreAllSaved}
+use Rattle.lfs_log.specs.LogState.{LogState, Mounts, AreAllSaved}
 use Rattle.lfs_log.specs.Opening.{CountsOpened}
 
 module _ {D : Type 0} (state : D → DeviceState) (d : D) where
   -- The log of a volume that is mounted: it holds the log map that the device stands for, all of it saved, and knows its totals.
-  pub record OpenedLog (h : Held D) : Type 0 where
+  pub record OpenedLog (h : LogState D) : Type 0 where
     pub holds : Mounts state d h
     pub counts : CountsOpened (state d) (state h.device) h.totals
     pub saved : h.saved ≡ true
     pub empty : AreAllSaved h
-    pub untaken : (state h.device).keeps_model → AreUntaken h.memory.usage
-    pub many : (state h.device).keeps_model → length h.memory.usage.segments ≤ 8 * clean_in h.memory.usage.segments
+    pub untaken : (state h.device).keeps_model → AreUntaken h.usage
+    pub many : (state h.device).keeps_model → h.segments ≤ 8 * h.clean
 
   -- A mount, which writes nothing: the log, or why the device holds none.
-  pub record OpensLog (result : Result (Held D) (MountFault × D)) : Type 0 where
+  pub record OpensLog (result : Result (LogState D) (MountFault × D)) : Type 0 where
     pub opened : IfOk result (λ log. OpenedLog log)
     pub found : IfOk result (λ log. HasLogMap (state d) (state log.device))
     pub durable : IfOk result (λ log. (state log.device).keeps_model → Only (state d).content (state log.device))

@@ -1,24 +1,27 @@
--- How many segments are to be clean before each kind of work, and how many a pass takes.
-use Rattle.std.specs.Prelude.{◌<◌, ◌≤◌, ◌+◌, ◌*◌, ◌/◌, ℕ, length}
-use Rattle.lfs_memory.specs.segments.Table.{UsageTable, clean_in}
+-- How many segments are to be clean before each kind of work, and how many a pass takes, by how many there are.
+use Rattle.std.specs.Prelude.{◌<◌, ◌≤◌, ◌+◌, ◌*◌, ◌/◌, ℕ}
 
 -- so many segments are clean before a commit: eight, which it takes at most, and an eighth, which stays clean behind it
 abbrev pub reserve_of : ℕ → ℕ
 reserve_of segments = segments / 8 + 8
 
-abbrev pub HasReserve : UsageTable → Type 0
-HasReserve t = reserve_of (length t.segments) ≤ clean_in t.segments
+abbrev pub HasReserve : ℕ → ℕ → Type 0
+HasReserve segments clean = reserve_of segments ≤ clean
 
-abbrev pub LacksReserve : UsageTable → Type 0
-LacksReserve t = clean_in t.segments < reserve_of (length t.segments)
+abbrev pub LacksReserve : ℕ → ℕ → Type 0
+LacksReserve segments clean = clean < reserve_of segments
 
 -- an eighth of the segments is clean: a pass may begin
-abbrev pub IsEighthClean : UsageTable → Type 0
-IsEighthClean t = length t.segments ≤ 8 * clean_in t.segments
+abbrev pub IsEighthClean : ℕ → ℕ → Type 0
+IsEighthClean segments clean = segments ≤ 8 * clean
 
 -- a quarter is clean: room isn't made
-abbrev pub IsQuarterClean : UsageTable → Type 0
-IsQuarterClean t = length t.segments ≤ 4 * clean_in t.segments
+abbrev pub IsQuarterClean : ℕ → ℕ → Type 0
+IsQuarterClean segments clean = segments ≤ 4 * clean
+
+-- so many segments a pass empties at most
+abbrev pub most_victims : ℕ → ℕ
+most_victims segments = segments / 8 + 1
 
 -- so many passes make a quarter clean of an eighth at most, for each gains a segment
 abbrev pub most_passes : ℕ → ℕ

@@ -227,14 +227,14 @@ pub fn may_clean(memory: &LogMemory, victims: &[u16]) -> bool
     if memory.dirty.len() != 0 {
         return false;
     }
-    if !is_eighth_clean(&memory.usage) {
+    if !is_eighth_clean(memory.usage.segments(), memory.usage.clean()) {
         return false;
     }
     let count = victims.len();
     if count < 2 {
         return false;
     }
-    if count > most_victims(&memory.usage) as usize {
+    if count > most_victims(memory.usage.segments()) as usize {
         return false;
     }
     are_cleanable(&memory.usage, victims)

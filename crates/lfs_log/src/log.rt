@@ -4,13 +4,8 @@ ghost use Rattle.lfs_model.specs.Checkpoint.{IsVersion};
 ghost use Rattle.lfs_model.specs.Device.{Only};
 ghost use Rattle.lfs_model.specs.Fields.{zeros};
 ghost use Rattle.lfs_model.specs.Members.{AreApart};
-ghost use Rattle.lfs_memory.specs.segments.Table.{clean_in};
 ghost use Rattle.lfs_verify.specs.Loading.{HasTables, IsLoaded};
-ghost use Rattle.lfs_memory.specs.Preparing.{LacksRoom};
 ghost use Rattle.lfs_memory.specs.Batch.{room_for};
-ghost use Rattle.lfs_memory.specs.Memory.{IsMemory};
-ghost use Rattle.lfs_memory.specs.inodes.Data.{data_count};
-ghost use Rattle.lfs_memory.specs.inodes.MapValue.{IsMap};
 
 use crate::cleaning::{SavedTables, may_clean, most_of, relocate};
 use crate::committing::save;
@@ -58,14 +53,13 @@ pub struct Log<D: SectorDevice> {
 
 impl<D: SectorDevice> Model for Log<D> {
     ghost use Rattle.lfs_memory.specs.Pointers.{KeepsRun};
-    ghost use Rattle.lfs_log.specs.Held.{Held, held_code, HoldsUnlessHalted, WaitsUnlessSaved};
+    ghost use Rattle.lfs_log.specs.LogState.{LogState};
+    ghost use Rattle.lfs_log.specs.Held.{HoldsUnlessHalted, WaitsUnlessSaved, seen};
     ghost use Rattle.lfs_log.specs.Versions.{number_of};
 
-    ghost Value = { Held D };
+    ghost Value = { LogState D };
 
-    ghost coded = { held_code D.code };
-
-    ghost view = { λ l. record {
+    ghost view = { λ l. seen record {
       device = l.device;
       memory = l.memory;
       number = l.number;
@@ -83,12 +77,12 @@ impl<D: SectorDevice> Model for Log<D> {
 }
 
 impl<D: SectorDevice> Log<D> {
-    ghost use Rattle.lfs_log.specs.Cleaning.{Cleans, MayClean, Overfills, most_brought};
+    ghost use Rattle.lfs_log.specs.Cleaning.{ArePacked, Cleans, MayPass};
     ghost use Rattle.lfs_log.specs.Saving.{commit_orders, orders_for, pass_orders};
     ghost use Rattle.lfs_log.specs.Early.{full_chunk};
     ghost use Rattle.lfs_log.specs.Thresholds.{HasReserve, LacksReserve, reserve_of};
     ghost use Rattle.lfs_log.specs.Mounting.{OpenedLog, OpensLog};
-    ghost use Rattle.lfs_log.specs.Held.{Saves, Halts, Reads, ReadsHeader, ReadsBlock, TellsBlock, TellsLeaf, TellsDouble, CountsBlocks, IsReadFault, IsFull, IsVacant, HasAll, IsStaged, IsRefused, IsStageFault, IsRemoved, IsKept, HoldsOne, AreAllSaved, WritesEarly, ReadsLog, unsaved_in};
+    ghost use Rattle.lfs_log.specs.LogState.{Saves, Halts, Reads, ReadsHeader, ReadsBlock, TellsBlock, TellsLeaf, TellsDouble, CountsBlocks, IsReadFault, IsFull, IsVacant, HasAll, IsStaged, IsRefused, IsStageFault, IsRemoved, IsKept, IsWhole, HoldsOne, AreAllSaved, WritesEarly, ReadsLog};
 
     /// The volume that the newest checkpoint of the device leads to, with the totals of its files;
     /// else why there is none, and the device. All that the checkpoint leads to is walked over
@@ -183,9 +177,7 @@ impl<D: SectorDevice> Log<D> {
     /// The inode map has a place for each file, and the usage table one for each segment: a law of
     /// what the log keeps.
     pub fn are_tables_whole(&self)
-        ensures map { IsMap self.now.memory.map }
-        ensures memory { self.now.halted ≡ false → IsMemory self.now.memory }
-        ensures few { self.now.halted ≡ false → length self.now.memory.dirty.blocks ≤ MOST_UNSAVED }
+        ensures { IsWhole self.now }
     {
         let _first = self.memory.map.block_address(0);
     }
@@ -228,14 +220,14 @@ impl<D: SectorDevice> Log<D> {
 
     /// How many segments the volume has.
     pub fn segments(&self) -> u32
-        ensures { result ≡ length self.now.memory.usage.segments }
+        ensures { result ≡ self.now.segments }
     {
         self.memory.usage.segments()
     }
 
     /// How many segments are clean.
     pub fn clean_segments(&self) -> u32
-        ensures { result ≡ clean_in self.now.memory.usage.segments }
+        ensures { result ≡ self.now.clean }
     {
         self.memory.usage.clean()
     }
@@ -245,7 +237,7 @@ impl<D: SectorDevice> Log<D> {
     /// memory or written where the acknowledged checkpoint doesn't reach, and its own where the
     /// version was raised, and 1 at least.
     pub fn unsaved(&self) -> usize
-        ensures { result ≡ unsaved_in self.now }
+        ensures { result ≡ self.now.unsaved }
     {
         if self.saved {
             return 0;
@@ -282,7 +274,7 @@ impl<D: SectorDevice> Log<D> {
 
     /// How many blocks live in each segment, and hold it.
     pub fn usage(&self) -> &Usage
-        ensures { result.now ≡ self.now.memory.usage }
+        ensures { result.now ≡ self.now.usage }
     {
         &self.memory.usage
     }
@@ -298,14 +290,9 @@ impl<D: SectorDevice> Log<D> {
     /// Whether memory has room for a batch of changes. After a commit it has for each that asks for
     /// 456 blocks at most.
     pub fn has_room(&self, changes: &Changes) -> bool
-        ensures room { IsTrue result → length self.now.memory.dirty.blocks + room_for changes.now
-            ≤ self.now.memory.dirty.capacity.limit }
-        ensures fits { IsTrue result → length self.now.memory.dirty.blocks + room_for changes.now
-            ≤ MOST_UNSAVED }
-        ensures lacks { IsFalse result → self.now.halted ≡ false
-            → LacksRoom self.now.memory (room_for changes.now) }
+        ensures fits { IsTrue result → self.now.waiting + room_for changes.now ≤ MOST_UNSAVED }
         ensures narrow { IsFalse result → self.now.halted ≡ false
-            → MOST_UNSAVED < length self.now.memory.dirty.blocks + room_for changes.now }
+            → MOST_UNSAVED < self.now.waiting + room_for changes.now }
     {
         !self.halted && has_room(&self.memory, changes)
     }
@@ -468,9 +455,7 @@ impl<D: SectorDevice> Log<D> {
         ensures refused { OnErr result (IsRefused D.SectorDevice.state self.old self.new
             changes.now) }
         ensures full { IsErrOf result LogFault.Full
-            → LacksRoom self.old.memory (room_for changes.now) }
-        ensures narrow { IsErrOf result LogFault.Full
-            → MOST_UNSAVED < length self.old.memory.dirty.blocks + room_for changes.now }
+            → MOST_UNSAVED < self.old.waiting + room_for changes.now }
         ensures failed { IsErrOf result LogFault.Device
             → IsStageFault D.SectorDevice.state self.old self.new changes.now }
         ensures halted { IsErrOf result LogFault.Halted
@@ -531,11 +516,11 @@ impl<D: SectorDevice> Log<D> {
     /// Whether so many segments are clean that a commit leaves an eighth of them clean, whatever it
     /// takes. `commit` asks beside this only that a number is left.
     pub fn may_commit(&self) -> bool
-        ensures yes { IsTrue result → HasReserve self.now.memory.usage }
-        ensures no { IsFalse result → LacksReserve self.now.memory.usage }
+        ensures yes { IsTrue result → HasReserve self.now.segments self.now.clean }
+        ensures no { IsFalse result → LacksReserve self.now.segments self.now.clean }
         ensures full { IsFalse result → IsFull self.now }
     {
-        has_reserve(&self.memory.usage)
+        has_reserve(self.segments(), self.clean_segments())
     }
 
     /// Writes full chunks of data blocks to segments that are clean, as long as memory has one and
@@ -547,9 +532,8 @@ impl<D: SectorDevice> Log<D> {
     /// `Halted` where a call of the device failed, here or as the log was written before.
     pub fn write_early(&mut self) -> Result<(), LogFault>
         ensures done { OnOk result (WritesEarly D.SectorDevice.state self.old self.new) }
-        ensures left { OnOk result ((data_count self.new.memory.dirty < full_chunk)
-            ⊎ (clean_in self.new.memory.usage.segments
-            ≤ reserve_of (length self.new.memory.usage.segments))) }
+        ensures left { OnOk result ((self.new.file_data < full_chunk)
+            ⊎ (self.new.clean ≤ reserve_of self.new.segments)) }
         ensures totals { self.new.totals ≡ self.old.totals }
         ensures halted { IsErrOf result LogFault.Halted → self.old.halted ≢ true
             → Halts D.SectorDevice.state self.old self.new }
@@ -559,7 +543,7 @@ impl<D: SectorDevice> Log<D> {
         ensures other { IsErrOf result LogFault.Device → ⊥ }
         ensures told { length (D.state self.new.device).told
             ≤ length (D.state self.old.device).told
-            + orders_for (length self.old.memory.dirty.blocks) }
+            + orders_for self.old.waiting }
     {
         if self.halted {
             return Err(LogFault::Halted);
@@ -596,7 +580,7 @@ impl<D: SectorDevice> Log<D> {
             ≤ length (D.state self.old.device).told + commit_orders }
         ensures tells { length (D.state self.new.device).told
             ≤ length (D.state self.old.device).told
-            + orders_for (length self.old.memory.dirty.blocks) }
+            + orders_for self.old.waiting }
     {
         if self.halted {
             return Err(LogFault::Halted);
@@ -646,10 +630,9 @@ impl<D: SectorDevice> Log<D> {
         ensures done { OnOk result (Cleans D.SectorDevice.state self.old self.new victims.now) }
         ensures totals { self.new.totals ≡ self.old.totals }
         ensures full { IsErrOf result LogFault.Full → Reads D.SectorDevice.state self.old self.new }
-        ensures lacks { IsErrOf result LogFault.Full → MayClean self.old.memory victims.now
+        ensures lacks { IsErrOf result LogFault.Full → MayPass self.old victims.now
             → self.old.number < 2 ^ 64 - 1
-            → Overfills (D.state self.old.device) (D.state self.new.device) self.old.memory
-            victims.now (most_brought (length victims.now)) }
+            → ArePacked D.SectorDevice.state self.old self.new victims.now }
         ensures kept { IsErrOf result LogFault.Device
             → Reads D.SectorDevice.state self.old self.new }
         ensures failed { IsErrOf result LogFault.Device
@@ -660,7 +643,7 @@ impl<D: SectorDevice> Log<D> {
             → (self.new ≡ self.old) × IsErrOf result LogFault.Halted }
         ensures told { length (D.state self.new.device).told
             ≤ length (D.state self.old.device).told
-            + pass_orders (length self.old.memory.usage.segments) }
+            + pass_orders self.old.segments }
     {
         if self.halted {
             return Err(LogFault::Halted);
@@ -700,7 +683,7 @@ impl<D: SectorDevice> Log<D> {
 }
 
 impl<D: TendedDevice> Log<D> {
-    ghost use Rattle.lfs_log.specs.Held.{Reads};
+    ghost use Rattle.lfs_log.specs.LogState.{Reads};
 
     /// Tends to the device, of which the log sees nothing.
     pub fn tend(&mut self)

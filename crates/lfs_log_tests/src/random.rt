@@ -248,16 +248,16 @@ impl Trial<'_> {
 }
 
 /// The log on the heap, where each end drops it by one call.
-type Held<'a> = Box<Log<WiredDevice<'a>>>;
+type LogState<'a> = Box<Log<WiredDevice<'a>>>;
 
 impl<'a> Trial<'a> {
     /// The log after a stop.
     fn restarted(
         &mut self,
         alloc: Global,
-        log: Held<'a>,
+        log: LogState<'a>,
         within_commit: bool,
-    ) -> Result<Held<'a>, Flaw> {
+    ) -> Result<LogState<'a>, Flaw> {
         let segments = log.segments();
         let mut wired = Box::into_inner(log).into_device();
         // What is kept is read without a call, so faults that were chosen may still wait for one.
@@ -273,7 +273,7 @@ impl<'a> Trial<'a> {
     }
 
     /// The log after a step; none where it was the last.
-    fn stepped(&mut self, alloc: Global, log: Held<'a>) -> Result<Option<Held<'a>>, Flaw> {
+    fn stepped(&mut self, alloc: Global, log: LogState<'a>) -> Result<Option<LogState<'a>>, Flaw> {
         let mut log = log;
         match self.step(alloc, &mut log) {
             Ok(Next::Step) => Ok(Some(log)),
@@ -287,7 +287,7 @@ impl<'a> Trial<'a> {
     }
 
     /// So many steps, or fewer where clean segments run out.
-    fn run(&mut self, alloc: Global, log: Held<'a>, steps: u32) -> Result<(), Flaw> {
+    fn run(&mut self, alloc: Global, log: LogState<'a>, steps: u32) -> Result<(), Flaw> {
         let mut log = log;
         for _ in 0..steps {
             match self.stepped(alloc, log) {

@@ -19,7 +19,7 @@ use Rattle.lfs_cleaner.proofs.of_log.of_memory.Looses.{loose}
 use Rattle.lfs_cleaner.proofs.of_log.of_memory.Presents.{looks_quiet}
 use Rattle.lfs_cleaner.proofs.of_log.Volumes.{same_segments}
 use Rattle.lfs_cleaner.specs.log.verify.declared.totals.BlockTotals.{BlockTotals}
-use Rattle.lfs_cleaner.specs.log.Held.{Held, Halts, Holds, IsFull, IsSaved, Saves, Alters, IsStaged, IsRefused, IsStageFault}
+use Rattle.lfs_cleaner.specs.log.LogState.{LogState, Halts, Holds, IsFull, IsSaved, Saves, Alters, IsStaged, IsRefused, IsStageFault}
 use Rattle.lfs_cleaner.specs.Room as cleaner
 use Rattle.lfs_cleaner.specs.Room.{Acknowledges, HaltsLater, HasQuarter, IsAtRest, IsRoomFault, KeepsMap, MayNotMakeRoom, StaysUnsaved}
 use Rattle.lfs_cleaner.proofs.RoomBounds.{same_need, segment_count}
@@ -29,21 +29,21 @@ use Rattle.lfs_store.specs.Accepting.{HasClean, Stores, StoresOver, LeavesEither
 use Rattle.lfs_store.specs.Accepting.{SavesFew, Accepts, Declines, IsAcceptFault, most_written}
 
 -- where anything isn't saved a checkpoint is written
-pub written_most : (D : Type 0) (h : Held D) (saved : Bool) → most_written h saved ≤ length h.memory.usage.segments / 8 + 1
+pub written_most : (D : Type 0) (h : LogState D) (saved : Bool) → most_written h saved ≤ h.segments / 8 + 1
 written_most D h true =
-    let le : length h.memory.usage.segments / 8 + 0 ≤ length h.memory.usage.segments / 8 + 1 = omega arith in le
-written_most D h false = let le : length h.memory.usage.segments / 8 + 1 ≤ length h.memory.usage.segments / 8 + 1 = omega arith in le
+    let le : h.segments / 8 + 0 ≤ h.segments / 8 + 1 = omega arith in le
+written_most D h false = let le : h.segments / 8 + 1 ≤ h.segments / 8 + 1 = omega arith in le
 
-written_least : (D : Type 0) (h : Held D) (saved : Bool) → length h.memory.usage.segments / 8 ≤ most_written h saved
+written_least : (D : Type 0) (h : LogState D) (saved : Bool) → h.segments / 8 ≤ most_written h saved
 written_least D h true =
-    let le : length h.memory.usage.segments / 8 ≤ length h.memory.usage.segments / 8 + 0 = omega arith in le
-written_least D h false = let le : length h.memory.usage.segments / 8 ≤ length h.memory.usage.segments / 8 + 1 = omega arith in le
+    let le : h.segments / 8 ≤ h.segments / 8 + 0 = omega arith in le
+written_least D h false = let le : h.segments / 8 ≤ h.segments / 8 + 1 = omega arith in le
 
 -- what isn't saved stays so
-stays_unsaved : (D : Type 0) (h : Held D) → StaysUnsaved h h
+stays_unsaved : (D : Type 0) (h : LogState D) → StaysUnsaved h h
 stays_unsaved D h = record { number = refl; fewer = omega arith; capacity = refl; clean = λ enough. enough }
 
-stays_then : (D : Type 0) (a b c : Held D) → StaysUnsaved a b → StaysUnsaved b c → StaysUnsaved a c
+stays_then : (D : Type 0) (a b c : LogState D) → StaysUnsaved a b → StaysUnsaved b c → StaysUnsaved a c
 stays_then D a b c one two =
     let first = one.fewer in
     let second = two.fewer in
@@ -56,17 +56,17 @@ stays_then D a b c one two =
 
 module _ {D : Type 0} (state : D → DeviceState) where
   -- what is left now stands for what is acknowledged
-  acknowledged : (h : Held D) (k : CheckpointValue) (m0 m : LogMap) → Holds state h k m0 m
+  acknowledged : (h : LogState D) (k : CheckpointValue) (m0 m : LogMap) → Holds state h k m0 m
       → AllLeft (state h.device) (λ c. StandsOn k.segments c m0)
   acknowledged h k m0 m is = settled_stands (state h.device) k m0 is.log.running.settled
 
   -- nothing happens
-  quiet : (h : Held D) (saved : Bool) → IsLawful (state h.device) → LeavesEither state h saved h
+  quiet : (h : LogState D) (saved : Bool) → IsLawful (state h.device) → LeavesEither state h saved h
   quiet h saved lawful k m0 m keeps is map =
       started (state h.device) (IsSaved state k.segments m0 m) lawful (λ c left. inl (acknowledged h k m0 m is.holds c left))
 
   -- ---- a commit
-  pub commits_none : (h : Held D) → IsLawful (state h.device) → h.halted ≡ false → Commits state h true h
+  pub commits_none : (h : LogState D) → IsLawful (state h.device) → h.halted ≡ false → Commits state h true h
   commits_none h lawful running = record {
     carries = carries_none (state h.device);
     was_running = running;
@@ -82,7 +82,7 @@ module _ {D : Type 0} (state : D → DeviceState) where
     moment = quiet h true lawful;
   }
 
-  pub commits_log : (h h' : Held D) → h.halted ≡ false → Saves state h h' → Commits state h false h'
+  pub commits_log : (h h' : LogState D) → h.halted ≡ false → Saves state h h' → Commits state h false h'
   commits_log h h' was s = record {
     carries = s.carries;
     was_running = was;
@@ -98,7 +98,7 @@ module _ {D : Type 0} (state : D → DeviceState) where
   }
 
   -- ---- room
-  pub room_none : (h : Held D) (saved : Bool) → IsLawful (state h.device) → h.halted ≡ false → MakesRoom state h saved h saved
+  pub room_none : (h : LogState D) (saved : Bool) → IsLawful (state h.device) → h.halted ≡ false → MakesRoom state h saved h saved
   room_none h saved lawful running = record {
     keeps = keeps_weaker state h h 0 (most_written h saved) (keeps_none state h lawful running) (omega arith);
     unsaved = λ e. (e, stays_unsaved D h);
@@ -106,14 +106,14 @@ module _ {D : Type 0} (state : D → DeviceState) where
     rest = λ e rest. rest e;
   }
 
-  pub readies_none : (h : Held D) (saved : Bool) → IsLawful (state h.device) → h.halted ≡ false → Readies state h saved h saved
+  pub readies_none : (h : LogState D) (saved : Bool) → IsLawful (state h.device) → h.halted ≡ false → Readies state h saved h saved
   readies_none h saved lawful running = record {
     room = room_none h saved lawful running;
     spent = omega arith;
     able = λ k m0 m keeps can. (k, m0, can);
   }
 
-  pub readies_saves : (h h' : Held D) → Saves state h h' → h'.totals ≡ h.totals → Readies state h false h' true
+  pub readies_saves : (h h' : LogState D) → Saves state h h' → h'.totals ≡ h.totals → Readies state h false h' true
   readies_saves h h' s totals =
       let size = s.segments in
       let rose = s.number in
@@ -124,11 +124,11 @@ module _ {D : Type 0} (state : D → DeviceState) where
           all = λ e. inr s.holds;
           rest = λ e rest. rest_saves state h h' s;
         };
-        spent = (let spent : h'.number + (length h'.memory.usage.segments / 8 + 0)
-            ≤ h.number + (length h.memory.usage.segments / 8 + 1) = omega (arith, size, rose) in spent);
+        spent = (let spent : h'.number + (h'.segments / 8 + 0)
+            ≤ h.number + (h.segments / 8 + 1) = omega (arith, size, rose) in spent);
         able = λ k m0 m keeps can.
             let next = s.holds k m0 m keeps can.stores.holds can.shown in
-            let most : h.number + (length h.memory.usage.segments / 8 + 1) ≤ 2 ^ 64 - 1 = can.number in (
+            let most : h.number + (h.segments / 8 + 1) ≤ 2 ^ 64 - 1 = can.number in (
               next.0,
               dropped m,
               record {
@@ -138,14 +138,14 @@ module _ {D : Type 0} (state : D → DeviceState) where
                 counted = subst (λ (t : BlockTotals). IsCounted m t.data_blocks t.meta_blocks) (sym totals) can.counted;
                 need = same_need state h h' totals size can.need;
                 enough = λ never. absurd (cc);
-                number = (let fits : h'.number + (length h'.memory.usage.segments / 8 + 0) ≤ 2 ^ 64 - 1 =
+                number = (let fits : h'.number + (h'.segments / 8 + 0) ≤ 2 ^ 64 - 1 =
                     omega (arith, size, rose, most) in fits);
               },
             );
       }
 
   -- what is acknowledged stays so
-  acks_then : (a b c : Held D) (x : ℕ) → Acknowledges state a b → KeepsMap state b c x → Acknowledges state a c
+  acks_then : (a b c : LogState D) (x : ℕ) → Acknowledges state a b → KeepsMap state b c x → Acknowledges state a c
   acks_then a b c x acks two k m0 m keeps is map =
       let one = acks k m0 m (two.carries.kept_before keeps) is map in
       let over = two.holds one.0 (dropped m) m keeps one.1 map in
@@ -153,13 +153,13 @@ module _ {D : Type 0} (state : D → DeviceState) where
       ⊎_elim (λ (e : over.acknowledged ≡ dropped m). e) (λ (e : over.acknowledged ≡ dropped m). e) over.either in
       (over.checkpoint, subst (λ (l : LogMap). Holds state c over.checkpoint l m) same over.holds)
 
-  acks_before : (a b c : Held D) (x : ℕ) → KeepsMap state a b x → Carries (state b.device) (state c.device) → Acknowledges state b c
+  acks_before : (a b c : LogState D) (x : ℕ) → KeepsMap state a b x → Carries (state b.device) (state c.device) → Acknowledges state b c
       → Acknowledges state a c
   acks_before a b c x one after acks k m0 m keeps is map =
       let over = one.holds k m0 m (after.kept_before keeps) is map in
       acks over.checkpoint over.acknowledged m keeps over.holds map
 
-  keeps_numbered : (a b : Held D) (x y : ℕ) → KeepsMap state a b x → b.number ≤ a.number + y → KeepsMap state a b y
+  keeps_numbered : (a b : LogState D) (x y : ℕ) → KeepsMap state a b x → b.number ≤ a.number + y → KeepsMap state a b y
   keeps_numbered a b x y one few = record {
     carries = one.carries;
     running = one.running;
@@ -173,7 +173,7 @@ module _ {D : Type 0} (state : D → DeviceState) where
     moment = one.moment;
   }
 
-  halts_numbered : (a b : Held D) (x y : ℕ) → HaltsLater state a b x → b.number ≤ a.number + y → HaltsLater state a b y
+  halts_numbered : (a b : LogState D) (x y : ℕ) → HaltsLater state a b x → b.number ≤ a.number + y → HaltsLater state a b y
   halts_numbered a b x y one few = record {
     carries = one.carries;
     halted = one.halted;
@@ -185,7 +185,7 @@ module _ {D : Type 0} (state : D → DeviceState) where
   }
 
   -- ---- behind a commit, or nothing
-  module _ (a b c : Held D) (saved kept : Bool) (ready : Readies state a saved b kept) where
+  module _ (a b c : LogState D) (saved kept : Bool) (ready : Readies state a saved b kept) where
     pub room_then : (after : Bool) → MakesRoom state b kept c after → MakesRoom state a saved c after
     room_then after two =
         let number = two.keeps.number in
@@ -217,10 +217,10 @@ module _ {D : Type 0} (state : D → DeviceState) where
     fault_after after failed = fault_then state a b c _ ready.room.keeps after failed
 
   -- ---- the cleaner's room is the store's
-  pub room_cleaned : (h h' : Held D) → cleaner.MakesRoom state h h' → MakesRoom state h h.saved h' h'.saved
+  pub room_cleaned : (h h' : LogState D) → cleaner.MakesRoom state h h' → MakesRoom state h h.saved h' h'.saved
   room_cleaned h h' made = record { keeps = made.keeps; unsaved = made.unsaved; all = made.all; rest = made.rest }
 
-  pub cannot_clean : (h h' : Held D) → MayNotMakeRoom state h h' → CannotMakeRoom state h h.saved h'
+  pub cannot_clean : (h h' : LogState D) → MayNotMakeRoom state h h' → CannotMakeRoom state h h.saved h'
   cannot_clean h h' never k m0 m keeps can = never k m0 m keeps (record {
     holds = can.stores.holds;
     map = can.map;
@@ -232,14 +232,14 @@ module _ {D : Type 0} (state : D → DeviceState) where
   })
 
   -- nothing happened
-  pub room_same : (a b : Held D) (saved kept : Bool) → IsLawful (state a.device) → a.halted ≡ false → b ≡ a → kept ≡ saved
+  pub room_same : (a b : LogState D) (saved kept : Bool) → IsLawful (state a.device) → a.halted ≡ false → b ≡ a → kept ≡ saved
       → MakesRoom state a saved b kept
   room_same a b saved kept lawful running same flag =
       subst (λ (f : Bool). MakesRoom state a saved b f) (sym flag)
-      (subst (λ (h : Held D). MakesRoom state a saved h saved) (sym same) (room_none a saved lawful running))
+      (subst (λ (h : LogState D). MakesRoom state a saved h saved) (sym same) (room_none a saved lawful running))
 
   -- where room can be made a commit finds enough clean segments
-  pub cannot_commit : (h after : Held D) (saved : Bool) → IsLawful (state h.device) → saved ≡ false → IsFull h
+  pub cannot_commit : (h after : LogState D) (saved : Bool) → IsLawful (state h.device) → saved ≡ false → IsFull h
       → CannotMakeRoom state h saved after
   cannot_commit h after saved lawful unsaved full k m0 m keeps can =
       let clean = can.enough unsaved in
@@ -249,25 +249,25 @@ module _ {D : Type 0} (state : D → DeviceState) where
       let most = can.number in
       let least = written_least D h saved in
       ⊎_elim
-      (λ (few : 8 * clean_in h.memory.usage.segments < length h.memory.usage.segments + 64). omega (arith, eighths, clean, few))
+      (λ (few : 8 * h.clean < h.segments + 64). omega (arith, eighths, clean, few))
       (λ (high : 2 ^ 64 - 1 ≤ h.number). omega (arith, most, high, least, size))
       full
 
   -- and a quarter of the segments is enough for one
-  pub cannot_lack : (h after : Held D) (saved kept : Bool) → IsLawful (state after.device) → MakesRoom state h saved after kept
+  pub cannot_lack : (h after : LogState D) (saved kept : Bool) → IsLawful (state after.device) → MakesRoom state h saved after kept
       → HasQuarter after
-      → clean_in after.memory.usage.segments < length after.memory.usage.segments / 8 + 8 → CannotMakeRoom state h saved after
+      → after.clean < after.segments / 8 + 8 → CannotMakeRoom state h saved after
   cannot_lack h after saved kept lawful room quarter few k m0 m keeps can =
       let over = room.keeps.holds k m0 m keeps can.stores.holds can.shown in
       let least = (segment_count state after over.checkpoint over.acknowledged m lawful over.holds).least in
       omega (arith, quarter, few, least)
 
   -- a failed commit
-  pub halts_first : (a b : Held D) (saved : Bool) → Halts state a b → HaltsLater state a b (most_written a saved)
+  pub halts_first : (a b : LogState D) (saved : Bool) → Halts state a b → HaltsLater state a b (most_written a saved)
   halts_first a b saved halts = halts_weaker state a b 0 _ (halts_at_once state a b halts) (omega arith)
 
   -- ---- what room is to the store's log map
-  module _ (h : Held D) (saved : Bool) (h' : Held D) (saved' : Bool) (room : MakesRoom state h saved h' saved') where
+  module _ (h : LogState D) (saved : Bool) (h' : LogState D) (saved' : Bool) (room : MakesRoom state h saved h' saved') where
     pub saves_few : SavesFew h saved h' saved'
     saves_few = record {
       number = room.keeps.later;
@@ -320,7 +320,7 @@ module _ {D : Type 0} (state : D → DeviceState) where
     room_moment k m0 m keeps is map = room.keeps.moment k m0 m keeps is.holds map
 
   -- ---- the draft is staged, or refused
-  module _ (h mid h' : Held D) (saved kept : Bool) (c : Changes) (lawful : IsLawful (state mid.device)) (running : h.halted ≡ false)
+  module _ (h mid h' : LogState D) (saved kept : Bool) (c : Changes) (lawful : IsLawful (state mid.device)) (running : h.halted ≡ false)
       (room : MakesRoom state h saved mid kept) {raised : Bool} (alters : Alters state mid h' (room_for c) raised) where
     before : (state h'.device).keeps_model → (state mid.device).keeps_model
     before = alters.looks.carries.kept_before
@@ -353,7 +353,7 @@ module _ {D : Type 0} (state : D → DeviceState) where
     enough_after : HasClean mid → HasClean h'
     enough_after enough =
         let same = alters.clean in
-        subst (λ (n : ℕ). n / 8 + 8 ≤ clean_in h'.memory.usage.segments) (sym alters.segments) (omega (arith, enough, same))
+        subst (λ (n : ℕ). n / 8 + 8 ≤ h'.clean) (sym alters.segments) (omega (arith, enough, same))
 
     saved_after : HasClean mid → SavesFew h saved h' false
     saved_after enough =
@@ -421,7 +421,7 @@ module _ {D : Type 0} (state : D → DeviceState) where
         omega (arith, more, before)
 
   -- no room is made
-  pub declines_room : (h h' : Held D) (saved kept : Bool) (c : Changes) → h.halted ≡ false → MakesRoom state h saved h' kept
+  pub declines_room : (h h' : LogState D) (saved kept : Bool) (c : Changes) → h.halted ≡ false → MakesRoom state h saved h' kept
       → Declines state h saved h' kept c
   declines_room h h' saved kept c running room = record {
     carries = room.keeps.carries;
@@ -432,13 +432,13 @@ module _ {D : Type 0} (state : D → DeviceState) where
     moment = room_moment h saved h' kept room;
   }
 
-  pub room_fault : (h h' : Held D) (saved : Bool) (c : Changes) → IsRoomFault state h h' → IsAcceptFault state h saved h' c
+  pub room_fault : (h h' : LogState D) (saved : Bool) (c : Changes) → IsRoomFault state h h' → IsAcceptFault state h saved h' c
   room_fault h h' saved c failed k m0 m keeps is fits map = failed k m0 m keeps is.holds map
 
   -- ---- a draft that memory has no room for, though what could be saved is saved
-  pub asks_much : (h h' : Held D) (saved saved' : Bool) (c : Changes) → MakesRoom state h saved h' saved' → (saved ≡ true → IsAtRest h)
-      → (saved' ≡ false → length h'.memory.dirty.blocks + room_for c ≤ h'.memory.dirty.capacity.limit)
-      → LacksRoom h'.memory (room_for c) → 456 < length h'.memory.dirty.blocks + room_for c → 456 < room_for c
+  pub asks_much : (h h' : LogState D) (saved saved' : Bool) (c : Changes) → MakesRoom state h saved h' saved' → (saved ≡ true → IsAtRest h)
+      → (saved' ≡ false → h'.waiting + room_for c ≤ h'.memory.dirty.capacity.limit)
+      → LacksRoom h'.memory (room_for c) → 456 < h'.waiting + room_for c → 456 < room_for c
   asks_much h h' saved true c makes rest room lacks narrow =
       let none = ap length (makes.rest refl rest).nothing.blocks in
       omega (arith, none, narrow)

@@ -22,7 +22,7 @@ use Rattle.lfs_cleaner.specs.log.memory.Batch.{IsNoChange, is_lost, staged, Fits
 use Rattle.lfs_cleaner.specs.log.memory.Changing.{stored}
 use Rattle.lfs_cleaner.specs.log.memory.Cutting.{cut_from}
 use Rattle.lfs_cleaner.specs.log.memory.Present.{BlockAnswer, as_header}
-use Rattle.lfs_cleaner.specs.log.Held.{Held, Reads}
+use Rattle.lfs_cleaner.specs.log.LogState.{LogState, Reads}
 use Rattle.lfs_store.specs.Drafting.{PutsBlock, PutsHeader, TakesBlock}
 use Rattle.lfs_store.specs.Pieces.{CutsTail, CutSoFar, CutBlocks}
 use Rattle.lfs_store.specs.Reading.{ReadsBlock}
@@ -83,7 +83,7 @@ cut_takes c n len m odd is there = record {
 module _ {D : Type 0} (state : D → DeviceState) where
   -- ---- the blocks of a file end at a length
 
-  pub cuts_even : (h h' : Held D) (c : Changes) (n len : ℕ) → len % 512 ≡ 0 → DraftsCut c n len → CutsDraft state h h' c n len
+  pub cuts_even : (h h' : LogState D) (c : Changes) (n len : ℕ) → len % 512 ≡ 0 → DraftsCut c n len → CutsDraft state h h' c n len
   cuts_even h h' c n len even is = record {
     loss = is.lost;
     headers = is.headers;
@@ -93,7 +93,7 @@ module _ {D : Type 0} (state : D → DeviceState) where
     file = λ k m0 m keeps holds. cut_between m (staged c m) n len even (far_cut c n len (len / 512) m is (omega (arith, even)));
   }
 
-  pub cuts_none : (h h' : Held D) (c : Changes) (n len : ℕ) (out : List ℕ) (found : Bool) → found ≡ false → 0 < len % 512
+  pub cuts_none : (h h' : LogState D) (c : Changes) (n len : ℕ) (out : List ℕ) (found : Bool) → found ≡ false → 0 < len % 512
       → DraftsCut c n len → ReadsBlock state h h' c n (len / 512) out found
       → CutsDraft state h h' c n len
   cuts_none h h' c n len out found off odd is answer = record {
@@ -106,7 +106,7 @@ module _ {D : Type 0} (state : D → DeviceState) where
         (subst (λ (stored : Bool). BlockAnswer (staged c m) n (len / 512) out stored) off (answer k m0 m keeps holds));
   }
 
-  pub cuts_inside : (h h' : Held D) (c c' : Changes) (n len : ℕ) (old new : List ℕ) (found : Bool) → 0 < len % 512 → DraftsCut c n len
+  pub cuts_inside : (h h' : LogState D) (c c' : Changes) (n len : ℕ) (old new : List ℕ) (found : Bool) → 0 < len % 512 → DraftsCut c n len
       → length old ≡ 512 → length new ≡ 512 → (IsFalse found → old ≡ zeros 512)
       → ReadsBlock state h h' c n (len / 512) old found → CutsTail (len % 512) old new → PutsBlock c c' n (len / 512) new
       → CutsDraft state h h' c' n len
@@ -124,7 +124,7 @@ module _ {D : Type 0} (state : D → DeviceState) where
 
   -- ---- and its header says so
 
-  pub sets_shorter : (h h' : Held D) (c c' : Changes) (n : ℕ) (head : Header) (len : ℕ) → len < head.size → CutsDraft state h h' c n len
+  pub sets_shorter : (h h' : LogState D) (c c' : Changes) (n : ℕ) (head : Header) (len : ℕ) → len < head.size → CutsDraft state h h' c n len
       → PutsHeader c c' n (resized head len) → SetsLen state h h' c' n head len
   sets_shorter h h' c c' n head len less is puts = record {
     lost = λ lt. record { cut = is.loss.cut; loss = puts.loss ∙ is.loss.loss; number = is.loss.number; start = is.loss.start };
@@ -149,7 +149,7 @@ module _ {D : Type 0} (state : D → DeviceState) where
             header = with_it.own;
           }
 
-  pub sets_longer : (h h' : Held D) (c c' : Changes) (n : ℕ) (head : Header) (len : ℕ) → head.size ≤ len → IsNoChange c
+  pub sets_longer : (h h' : LogState D) (c c' : Changes) (n : ℕ) (head : Header) (len : ℕ) → head.size ≤ len → IsNoChange c
       → PutsHeader c c' n (resized head len) → SetsLen state h h' c' n head len
   sets_longer h h' c c' n head len more none puts = record {
     lost = λ lt. absurd (omega (arith, more, lt));
@@ -177,7 +177,7 @@ module _ {D : Type 0} (state : D → DeviceState) where
       }
 
   -- a log that is only read before and after
-  pub sets_around : (h a b h' : Held D) (c : Changes) (n : ℕ) (head : Header) (len : ℕ) → Reads state h a → SetsLen state a b c n head len
+  pub sets_around : (h a b h' : LogState D) (c : Changes) (n : ℕ) (head : Header) (len : ℕ) → Reads state h a → SetsLen state a b c n head len
       → Reads state b h' → SetsLen state h h' c n head len
   sets_around h a b h' c n head len first sets last = record {
     lost = sets.lost;

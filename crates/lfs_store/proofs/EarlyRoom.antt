@@ -11,7 +11,7 @@ use Rattle.lfs_cleaner.specs.log.verify.declared.totals.BlockTotals.{BlockTotals
 use Rattle.lfs_cleaner.specs.log.inodes.Data.{data_count}
 use Rattle.lfs_cleaner.specs.log.segments.Table.{clean_in}
 use Rattle.lfs_cleaner.specs.log.Early.{full_chunk}
-use Rattle.lfs_cleaner.specs.log.Held.{AreAllSaved, Held, IsSaved, Saves, WritesEarly}
+use Rattle.lfs_cleaner.specs.log.LogState.{AreAllSaved, LogState, IsSaved, Saves, WritesEarly}
 use Rattle.lfs_cleaner.specs.log.Saving.{commit_orders, orders_for}
 use Rattle.lfs_cleaner.specs.Room.{IsAtRest, KeepsMap, passes_orders, room_orders}
 use Rattle.lfs_cleaner.proofs.of_log.of_memory.of_inodes.Data.{no_data}
@@ -21,14 +21,14 @@ use Rattle.lfs_store.specs.Accepting.{HasClean, MakesRoom, Readies, most_written
 use Rattle.lfs_store.proofs.Acceptings.{room_then}
 
 -- what the next commit asks for is clean still, where anything was written
-early_clean : (D : Type 0) (state : D → DeviceState) (h h' : Held D) → WritesEarly state h h' → (h' ≡ h) ⊎ HasClean h'
+early_clean : (D : Type 0) (state : D → DeviceState) (h h' : LogState D) → WritesEarly state h h' → (h' ≡ h) ⊎ HasClean h'
 early_clean D state h h' w = ⊎_elim
     (λ (same : h' ≡ h). inl same)
-    (λ kept. inr (subst (λ (n : ℕ). n / 8 + 8 ≤ clean_in h'.memory.usage.segments) (sym w.segments) kept))
+    (λ kept. inr (subst (λ (n : ℕ). n / 8 + 8 ≤ h'.clean) (sym w.segments) kept))
     w.reserve
 
 module _ {D : Type 0} (state : D → DeviceState) where
-  pub early_none : (h : Held D) → IsLawful (state h.device) → h.halted ≡ false → WritesEarly state h h
+  pub early_none : (h : LogState D) → IsLawful (state h.device) → h.halted ≡ false → WritesEarly state h h
   early_none h lawful running = record {
     carries = carries_none (state h.device);
     running = running;
@@ -51,13 +51,13 @@ module _ {D : Type 0} (state : D → DeviceState) where
         (settled_stands (state h.device) k m0 is.log.running.settled);
   }
 
-  module _ (h h' : Held D) (w : WritesEarly state h h') (totals : h'.totals ≡ h.totals) where
+  module _ (h h' : LogState D) (w : WritesEarly state h h') (totals : h'.totals ≡ h.totals) where
     -- nothing is written where all is saved
     rest_early : IsAtRest h → IsAtRest h'
     rest_early rest =
         let none = no_data h.memory.dirty rest.nothing.blocks in
-        let few : data_count h.memory.dirty < full_chunk = omega (arith, none) in
-        subst (λ (x : Held D). IsAtRest x) (sym (w.idle few)) rest
+        let few : h.data < full_chunk = omega (arith, none) in
+        subst (λ (x : LogState D). IsAtRest x) (sym (w.idle few)) rest
 
     keeps_early : KeepsMap state h h' 0
     keeps_early =
@@ -78,7 +78,7 @@ module _ {D : Type 0} (state : D → DeviceState) where
         }
 
     clean_stays : HasClean h → HasClean h'
-    clean_stays enough = ⊎_elim (λ (same : h' ≡ h). subst (λ (x : Held D). HasClean x) (sym same) enough) (λ (kept : HasClean h'). kept)
+    clean_stays enough = ⊎_elim (λ (same : h' ≡ h). subst (λ (x : LogState D). HasClean x) (sym same) enough) (λ (kept : HasClean h'). kept)
         (early_clean D state h h' w)
 
     room_early : MakesRoom state h false h' false
@@ -95,10 +95,10 @@ module _ {D : Type 0} (state : D → DeviceState) where
         let size = w.segments in
         record {
           room = room_early;
-          spent = (let spent : h'.number + (length h'.memory.usage.segments / 8 + 1) ≤ h.number + (length h.memory.usage.segments / 8 + 1) =
+          spent = (let spent : h'.number + (h'.segments / 8 + 1) ≤ h.number + (h.segments / 8 + 1) =
               omega (arith, number, size) in spent);
           able = λ k m0 m keeps can.
-              let most : h.number + (length h.memory.usage.segments / 8 + 1) ≤ 2 ^ 64 - 1 = can.number in (
+              let most : h.number + (h.segments / 8 + 1) ≤ 2 ^ 64 - 1 = can.number in (
                 k,
                 m0,
                 record {
@@ -112,14 +112,14 @@ module _ {D : Type 0} (state : D → DeviceState) where
                   counted = subst (λ (t : BlockTotals). IsCounted m t.data_blocks t.meta_blocks) (sym totals) can.counted;
                   need = same_need state h h' totals size can.need;
                   enough = λ e. clean_stays (can.enough refl);
-                  number = (let fits : h'.number + (length h'.memory.usage.segments / 8 + 1) ≤ 2 ^ 64 - 1 =
+                  number = (let fits : h'.number + (h'.segments / 8 + 1) ≤ 2 ^ 64 - 1 =
                       omega (arith, number, size, most) in fits);
                 },
               );
         }
 
   -- ---- and a commit behind them
-  pub readies_then : (a b c : Held D) (x y z : Bool) → Readies state a x b y → Readies state b y c z → Readies state a x c z
+  pub readies_then : (a b c : LogState D) (x y z : Bool) → Readies state a x b y → Readies state b y c z → Readies state a x c z
   readies_then a b c x y z one two =
       let first = one.spent in
       let second = two.spent in
@@ -131,55 +131,55 @@ module _ {D : Type 0} (state : D → DeviceState) where
       }
 
   -- one commit, or less
-  pub once_early : (a b : Held D) (kept : Bool) → WritesEarly state a b → (b ≡ a) ⊎ (HasClean b ⊎ ((kept ≡ true) × AreAllSaved b))
+  pub once_early : (a b : LogState D) (kept : Bool) → WritesEarly state a b → (b ≡ a) ⊎ (HasClean b ⊎ ((kept ≡ true) × AreAllSaved b))
   once_early a b kept w = ⊎_elim (λ (same : b ≡ a). inl same) (λ (clean : HasClean b). inr (inl clean)) (early_clean D state a b w)
 
-  pub once_saved : (a b c : Held D) (saved kept after : Bool) → (saved ≡ true → b ≡ a) → kept ≡ saved → (kept ≡ true → c ≡ b)
+  pub once_saved : (a b c : LogState D) (saved kept after : Bool) → (saved ≡ true → b ≡ a) → kept ≡ saved → (kept ≡ true → c ≡ b)
       → (kept ≡ false → Saves state b c) → after ≡ true
       → (c ≡ a) ⊎ (HasClean c ⊎ ((after ≡ true) × AreAllSaved c))
   once_saved a b c true kept after still same quiet saves all = inl (quiet same ∙ still refl)
   once_saved a b c false kept after still same quiet saves all = inr (inr (all, (saves same).empty))
 
-  pub clean_early : (a b : Held D) → length a.memory.dirty.blocks ≤ 456 → WritesEarly state a b
-      → clean_in a.memory.usage.segments ≤ clean_in b.memory.usage.segments + 8
+  pub clean_early : (a b : LogState D) → a.waiting ≤ 456 → WritesEarly state a b
+      → a.clean ≤ b.clean + 8
   clean_early a b few w = let taken = w.taken in omega (arith, taken, few)
 
-  pub clean_saved : (a b c : Held D) (saved kept : Bool) → length a.memory.dirty.blocks ≤ 456 → WritesEarly state a b
+  pub clean_saved : (a b c : LogState D) (saved kept : Bool) → a.waiting ≤ 456 → WritesEarly state a b
       → (saved ≡ true → b ≡ a) → kept ≡ saved → (kept ≡ true → c ≡ b) → (kept ≡ false → Saves state b c)
-      → clean_in a.memory.usage.segments ≤ clean_in c.memory.usage.segments + 8
+      → a.clean ≤ c.clean + 8
   clean_saved a b c true kept few w still same quiet saves =
       let all = quiet same ∙ still refl in
-      subst (λ (x : Held D). clean_in a.memory.usage.segments ≤ clean_in x.memory.usage.segments + 8) (sym all) (omega arith)
+      subst (λ (x : LogState D). a.clean ≤ x.clean + 8) (sym all) (omega arith)
   clean_saved a b c false kept few w still same quiet saves =
       let taken = w.taken in
       let emptied = w.emptied in
       let more = (saves same).taken in
       omega (arith, taken, emptied, more, few)
 
-  pub told_early : (a b : Held D) → length a.memory.dirty.blocks ≤ 456 → WritesEarly state a b
+  pub told_early : (a b : LogState D) → a.waiting ≤ 456 → WritesEarly state a b
       → length (state b.device).told ≤ length (state a.device).told + commit_orders
   told_early a b few w = let told = w.told in omega (arith, told, few)
 
-  pub told_saved : (a b : Held D) (told : ℕ) → length a.memory.dirty.blocks ≤ 456 → WritesEarly state a b
-      → told ≤ length (state b.device).told + orders_for (length b.memory.dirty.blocks)
+  pub told_saved : (a b : LogState D) (told : ℕ) → a.waiting ≤ 456 → WritesEarly state a b
+      → told ≤ length (state b.device).told + orders_for b.waiting
       → told ≤ length (state a.device).told + commit_orders
   told_saved a b told few w more = let gave = w.told in omega (arith, gave, more, few)
 
   -- segments are cleaned behind it: where that was done after a commit, no second one comes
-  pub told_cleaned : (a b c : Held D) (kept : Bool) → (b ≡ a) ⊎ (HasClean b ⊎ ((kept ≡ true) × AreAllSaved b))
-      → clean_in b.memory.usage.segments < length b.memory.usage.segments / 8 + 8
+  pub told_cleaned : (a b c : LogState D) (kept : Bool) → (b ≡ a) ⊎ (HasClean b ⊎ ((kept ≡ true) × AreAllSaved b))
+      → b.clean < b.segments / 8 + 8
       → length (state b.device).told ≤ length (state a.device).told + commit_orders
-      → length (state c.device).told ≤ length (state b.device).told + room_orders (length b.memory.usage.segments)
-      → (kept ≡ true → length (state c.device).told ≤ length (state b.device).told + passes_orders (length b.memory.usage.segments))
-      → length b.memory.usage.segments ≡ length a.memory.usage.segments
-      → length (state c.device).told ≤ length (state a.device).told + room_orders (length a.memory.usage.segments)
+      → length (state c.device).told ≤ length (state b.device).told + room_orders b.segments
+      → (kept ≡ true → length (state c.device).told ≤ length (state b.device).told + passes_orders b.segments)
+      → b.segments ≡ a.segments
+      → length (state c.device).told ≤ length (state a.device).told + room_orders a.segments
   told_cleaned a b c kept once few first rest passes same = ⊎_elim
-      (λ (is : b ≡ a). subst (λ (x : Held D).
-      length (state c.device).told ≤ length (state x.device).told + room_orders (length x.memory.usage.segments)) is rest)
+      (λ (is : b ≡ a). subst (λ (x : LogState D).
+      length (state c.device).told ≤ length (state x.device).told + room_orders x.segments) is rest)
       (λ (more : HasClean b ⊎ ((kept ≡ true) × AreAllSaved b)). ⊎_elim
       (λ (clean : HasClean b). absurd (omega (arith, clean, few)))
       (λ (all : (kept ≡ true) × AreAllSaved b). behind (length (state a.device).told) (length (state b.device).told)
-      (length (state c.device).told) (length a.memory.usage.segments) (length b.memory.usage.segments) same first (passes all.0))
+      (length (state c.device).told) a.segments b.segments same first (passes all.0))
       more)
       once
     where

@@ -8,7 +8,7 @@ use Rattle.lfs_files.specs.declared.fault.LogFault.TheVariants.{Full, Device, Ha
 use Rattle.lfs_files.specs.declared.fault.StoreFault.{StoreFault}
 use Rattle.lfs_files.specs.declared.fault.StoreFault.TheVariants.{NoMemory, Log}
 use Rattle.lfs_cleaner.specs.log.memory.Batch.{room_for}
-use Rattle.lfs_cleaner.specs.log.Held.{Held, IsFull, IsStaged, IsRefused, IsStageFault}
+use Rattle.lfs_cleaner.specs.log.LogState.{LogState, IsFull, IsStaged, IsRefused, IsStageFault}
 use Rattle.lfs_cleaner.specs.log.Saving.{commit_orders}
 use Rattle.lfs_cleaner.specs.Room as cleaner
 use Rattle.lfs_cleaner.specs.Room.{FailsRoom, HaltsLater, HasQuarter, IsAtRest, IsRoomFault, most_checkpoints, room_orders}
@@ -33,10 +33,10 @@ abbrev store_error : StoreFault → Result Unit StoreFault
 store_error fault = Err fault
 
 -- a commit that fails leaves what isn't saved so
-pub still_unsaved : (D : Type 0) (h h' : Held D) (X : Type 0) (fault : LogFault) → h.saved ≡ false
+pub still_unsaved : (D : Type 0) (h h' : LogState D) (X : Type 0) (fault : LogFault) → h.saved ≡ false
     → (log_error fault ≡ log_error Full → (h' ≡ h) × X) → (log_error fault ≡ log_error Device → ⊥)
     → (log_error fault ≡ log_error Halted → h'.saved ≡ false) → h'.saved ≡ h.saved
-still_unsaved D h h' X Full off full device halted = ap (λ (x : Held D). x.saved) (full refl).0
+still_unsaved D h h' X Full off full device halted = ap (λ (x : LogState D). x.saved) (full refl).0
 still_unsaved D h h' X Device off full device halted = absurd (device refl)
 still_unsaved D h h' X Halted off full device halted = halted refl ∙ sym off
 
@@ -151,7 +151,7 @@ module _ {D : Type 0} (state : D → DeviceState) where
   made_committed a b (Err fault) lawful running commit = made_uncommitted a b fault lawful running commit
 
   -- ---- the cleaner makes room
-  pub cleaned : (a : Store D) (h : Held D) (r : Result Unit LogFault) → h.totals ≡ a.log.totals → OnOk r (cleaner.MakesRoom state a.log h)
+  pub cleaned : (a : Store D) (h : LogState D) (r : Result Unit LogFault) → h.totals ≡ a.log.totals → OnOk r (cleaner.MakesRoom state a.log h)
       → (IsErrOf r Full → cleaner.LacksRoom state a.log h) → (IsErrOf r Device → FailsRoom state a.log h)
       → (IsErrOf r Halted → a.log.halted ≢ true → HaltsLater state a.log h (most_checkpoints a.log))
       → (a.log.halted ≡ true → (h ≡ a.log) × IsErrOf r Halted) → (HasQuarter a.log → h ≡ a.log) → Cleaned state a (record a { log = h }) r
@@ -165,8 +165,8 @@ module _ {D : Type 0} (state : D → DeviceState) where
       failed = λ e. (device e).fault;
       halted = halted;
     };
-    still = λ t. (let s = still t in (s.0, ap (λ (x : Held D). x.saved) s.0, s.1));
-    quiet = λ quarter. (let same = quiet quarter in (same, ap (λ (x : Held D). x.saved) same));
+    still = λ t. (let s = still t in (s.0, ap (λ (x : LogState D). x.saved) s.0, s.1));
+    quiet = λ quarter. (let same = quiet quarter in (same, ap (λ (x : LogState D). x.saved) same));
   }
 
   -- ---- a draft of a halted log
@@ -197,7 +197,7 @@ module _ {D : Type 0} (state : D → DeviceState) where
   module _ (a b : Store D) (running : a.log.halted ≡ false)
       (quiet : HasRoomFor a.log a.draft.changes → HasClean a.log → b.log ≡ a.log)
       (told : length (state b.log.device).told
-      ≤ length (state a.log.device).told + room_orders (length a.log.memory.usage.segments))
+      ≤ length (state a.log.device).told + room_orders a.log.segments)
       (one_commit : HasCleanForTwo a.log → length (state b.log.device).told ≤ length (state a.log.device).told + commit_orders) where
     -- no room was made
     pub accepted_unready : (fault : LogFault) → RoomMade state a b (Err fault) → (log_error fault ≡ log_error Full → IsFull b.log)
@@ -215,12 +215,12 @@ module _ {D : Type 0} (state : D → DeviceState) where
       failed = λ e. room_fault state a.log b.log a.log.saved a.draft.changes (made.failed (as_log fault Device e));
       halted = λ e. made.halted (as_log fault Halted e);
       still = λ t. absurd (cc);
-      quiet = λ room clean. ap (λ (h : Held D). h.number) (quiet room clean);
+      quiet = λ room clean. ap (λ (h : LogState D). h.number) (quiet room clean);
       told = told;
       one_commit = one_commit;
     }
 
-    module _ (h : Held D) (lawful : IsLawful (state b.log.device)) (made : RoomMade state a b (Ok tt)) (enough : HasClean b.log) where
+    module _ (h : LogState D) (lawful : IsLawful (state b.log.device)) (made : RoomMade state a b (Ok tt)) (enough : HasClean b.log) where
       -- it is staged
       pub accepted_staged : IsStaged state b.log h b.draft.changes → h.totals ≡ b.drafted → Accepted state a h h.saved (Ok tt)
       accepted_staged s totals =
@@ -239,7 +239,7 @@ module _ {D : Type 0} (state : D → DeviceState) where
             failed = λ e. absurd (cc);
             halted = λ e. absurd (cc);
             still = λ t. absurd (cc);
-            quiet = λ room clean. s.alters.number ∙ ap (λ (x : Held D). x.number) (quiet room clean);
+            quiet = λ room clean. s.alters.number ∙ ap (λ (x : LogState D). x.number) (quiet room clean);
             told = no_more _ _ _ (ap length s.alters.looks.told) told;
             one_commit = λ two. no_more _ _ _ (ap length s.alters.looks.told) (one_commit two);
           })
@@ -269,7 +269,7 @@ module _ {D : Type 0} (state : D → DeviceState) where
                 (accept_fault state a.log b.log h a.log.saved b.log.saved b.draft.changes lawful running made.done r.alters (failed (cc)));
             halted = λ e. absurd (running' (cc));
             still = λ t. absurd (cc);
-            quiet = λ room clean. r.alters.number ∙ ap (λ (x : Held D). x.number) (quiet room clean);
+            quiet = λ room clean. r.alters.number ∙ ap (λ (x : LogState D). x.number) (quiet room clean);
             told = no_more _ _ _ (ap length r.alters.looks.told) told;
             one_commit = λ two. no_more _ _ _ (ap length r.alters.looks.told) (one_commit two);
           })

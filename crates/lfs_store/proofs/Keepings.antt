@@ -4,7 +4,7 @@ use Rattle.std.proofs.Common.{◌≡◌, refl, sym, ◌∙◌, ap, subst}
 use Rattle.lfs_model.specs.Device.{DeviceState, IsLawful}
 use Rattle.lfs_files.specs.declared.fault.LogFault.{LogFault}
 use Rattle.lfs_files.specs.declared.fault.LogFault.TheVariants.{Full, Halted}
-use Rattle.lfs_cleaner.specs.log.Held.{Held, Reads}
+use Rattle.lfs_cleaner.specs.log.LogState.{LogState, Reads}
 use Rattle.lfs_store.specs.declared.draft.Draft.{Draft}
 use Rattle.lfs_store.specs.declared.store.Store.{Store}
 use Rattle.lfs_store.specs.Keeping.{DraftsUncounted, OnlyCounts, ReadsLog, RedraftsStore, RedraftsUncounted}
@@ -28,7 +28,7 @@ module _ {D : Type 0} (state : D → DeviceState) where
 
   pub uncounted_drafts : (a b c : Store D) → RedraftsUncounted state a b → DraftsUncounted b c → RedraftsUncounted state a c
   uncounted_drafts a b c one two = record {
-    reads = subst (λ (h : Held D). Reads state a.log h) (sym two.log) one.reads;
+    reads = subst (λ (h : LogState D). Reads state a.log h) (sym two.log) one.reads;
     saved = two.saved ∙ one.saved;
     drafted = two.drafted ∙ one.drafted;
   }
@@ -57,11 +57,11 @@ module _ {D : Type 0} (state : D → DeviceState) where
       record { reads = reads_more state a.log c.log d.log lawful change.reads three.reads; saved = three.saved ∙ change.saved }
 
   -- ---- a log that is only read
-  pub looked_done : {T : Type 0} (h h' : Held D) (x : T) → Reads state h h' → ReadsLog state h h' (Ok x)
+  pub looked_done : {T : Type 0} (h h' : LogState D) (x : T) → Reads state h h' → ReadsLog state h h' (Ok x)
   looked_done h h' x reads = record { reads = reads; failed = tt; halted = λ e. absurd (cc); other = λ e. absurd (cc) }
 
   -- behind other reads
-  pub looked_more : {T : Type 0} (a b c : Held D) (r : Result T LogFault) → IsLawful (state a.device) → Reads state a b
+  pub looked_more : {T : Type 0} (a b c : LogState D) (r : Result T LogFault) → IsLawful (state a.device) → Reads state a b
       → ReadsLog state b c r → ReadsLog state a c r
   looked_more a b c (Ok x) lawful one two = looked_done a c x (reads_more state a b c lawful one two.reads)
   looked_more a b c (Err fault) lawful one two = record {
@@ -72,7 +72,7 @@ module _ {D : Type 0} (state : D → DeviceState) where
   }
 
   -- an error is passed on
-  pub looked_fails : (S T : Type 0) (a b c : Held D) (fault : LogFault) → IsLawful (state a.device) → Reads state a b
+  pub looked_fails : (S T : Type 0) (a b c : LogState D) (fault : LogFault) → IsLawful (state a.device) → Reads state a b
       → ReadsLog state b c (error_of S fault) → ReadsLog state a c (error_of T fault)
   looked_fails S T a b c fault lawful one two = record {
     reads = reads_more state a b c lawful one two.reads;

@@ -18,8 +18,8 @@ use Rattle.lfs_cleaner.specs.log.memory.declared.changes.Changes.{Changes}
 use Rattle.lfs_cleaner.specs.log.memory.Batch.{staged}
 use Rattle.lfs_cleaner.specs.log.memory.Changing.{stored}
 use Rattle.lfs_cleaner.proofs.of_log.of_memory.LogMaps.{stored_none, stored_some}
-use Rattle.lfs_cleaner.specs.log.Held as held
-use Rattle.lfs_cleaner.specs.log.Held.{Held, Holds, Reads}
+use Rattle.lfs_cleaner.specs.log.LogState as held
+use Rattle.lfs_cleaner.specs.log.LogState.{LogState, Holds, Reads}
 use Rattle.lfs_store.specs.Drafting.{NoBlock}
 use Rattle.lfs_store.specs.Measuring.{SaysStored, IsBetween, IsOff, KeepsBefore, LeavesBlocks, StoresLeaf, TellsStored, TellsLeaf}
 use Rattle.lfs_store.specs.Measuring.{TellsDouble, CountsStored, CountsLeaves}
@@ -45,18 +45,18 @@ says_test m n i bytes false long test is =
 -- ---- calls that only read, and count what passes a test
 module _ {D : Type 0} (state : D → DeviceState) (p : LogMap → ℕ → Bool) where
   -- a call told whether number i passes
-  abbrev pub Tells : Held D → Held D → Changes → ℕ → Bool → Type 0
+  abbrev pub Tells : LogState D → LogState D → Changes → ℕ → Bool → Type 0
   Tells h h' c i found = (k : CheckpointValue) (m0 m : LogMap) → (state h'.device).keeps_model → Holds state h k m0 m
       → p (staged c m) i ≡ found
 
   -- those from..index were counted
-  pub record CountedUpTo (h h' : Held D) (c : Changes) (from index count : ℕ) : Type 0 where
+  pub record CountedUpTo (h h' : LogState D) (c : Changes) (from index count : ℕ) : Type 0 where
     pub reads : Reads state h h'
     pub few : count + from ≤ index
     pub far : (k : CheckpointValue) (m0 m : LogMap) → (state h'.device).keeps_model → Holds state h k m0 m
         → passing (p (staged c m)) from (index - from) ≡ count
 
-  pub counted_none : (h : Held D) (c : Changes) (from : ℕ) → CountedUpTo h h c from from 0
+  pub counted_none : (h : LogState D) (c : Changes) (from : ℕ) → CountedUpTo h h c from from 0
   counted_none h c from = record {
     reads = reads_none state h;
     few = omega arith;
@@ -64,7 +64,7 @@ module _ {D : Type 0} (state : D → DeviceState) (p : LogMap → ℕ → Bool) 
         (let none : from - from ≡ 0 = omega arith in ap (passing (p (staged c m)) from) none ∙ passing_none (p (staged c m)) from);
   }
 
-  module _ (h a b : Held D) (c : Changes) (from index count : ℕ) (lawful : IsLawful (state h.device))
+  module _ (h a b : LogState D) (c : Changes) (from index count : ℕ) (lawful : IsLawful (state h.device))
       (was : CountedUpTo h a c from index count) (reads : Reads state a b) where
     more : (m : LogMap)
         → passing (p (staged c m)) from (index + 1 - from) ≡ passing (p (staged c m)) from (index - from) + one_if (p (staged c m) index)
@@ -93,7 +93,7 @@ module _ {D : Type 0} (state : D → DeviceState) (p : LogMap → ℕ → Bool) 
         at_most false = omega arith
 
 -- ---- blocks and leaves
-module _ {D : Type 0} (state : D → DeviceState) (h h' : Held D) (c : Changes) (n from to index count : ℕ) (end : index ≡ to) where
+module _ {D : Type 0} (state : D → DeviceState) (h h' : LogState D) (c : Changes) (n from to index count : ℕ) (end : index ≡ to) where
   pub counts_stored : CountedUpTo state (λ m. is_stored m n) h h' c from index count → CountsStored state h h' c n from to count
   unfolding stored_in
   counts_stored was k m0 m keeps is = ap (λ (e : ℕ). passing (is_stored (staged c m) n) from (e - from)) (sym end) ∙ was.far k m0 m keeps is
@@ -103,7 +103,7 @@ module _ {D : Type 0} (state : D → DeviceState) (h h' : Held D) (c : Changes) 
   counts_leaves was k m0 m keeps is = ap (λ (e : ℕ). passing (has_leaf (staged c m) n) from (e - from)) (sym end) ∙ was.far k m0 m keeps is
 
 -- ---- what the log tells of what a draft leaves
-module _ {D : Type 0} (state : D → DeviceState) (h h' : Held D) (c : Changes) (n : ℕ) where
+module _ {D : Type 0} (state : D → DeviceState) (h h' : LogState D) (c : Changes) (n : ℕ) where
   pub log_stored : {E : Type 0} (i : ℕ) (r : Result Bool E) → ((m : LogMap) → (staged c m).block n i ≡ m.block n i)
       → IfOk r (held.TellsBlock state h h' n i) → IfOk r (TellsStored state h h' c n i)
   log_stored i (Ok found) left tells = λ k m0 m keeps is. test_same ((staged c m).block n i) (m.block n i) (left m) ∙ tells k m0 m keeps is
@@ -112,16 +112,16 @@ module _ {D : Type 0} (state : D → DeviceState) (h h' : Held D) (c : Changes) 
 -- ---- a leaf of pointers
 
 -- no block from one on to another passes
-pub record SearchedUpTo {D : Type 0} (state : D → DeviceState) (n : ℕ) (h h' : Held D) (c : Changes) (from index : ℕ) : Type 0 where
+pub record SearchedUpTo {D : Type 0} (state : D → DeviceState) (n : ℕ) (h h' : LogState D) (c : Changes) (from index : ℕ) : Type 0 where
   pub reads : Reads state h h'
   pub none : (k : CheckpointValue) (m0 m : LogMap) → (state h'.device).keeps_model → Holds state h k m0 m → (i : ℕ) → from ≤ i → i < index
       → is_stored (staged c m) n i ≡ false
 
 module _ {D : Type 0} (state : D → DeviceState) (n : ℕ) where
-  pub searched_none : (h : Held D) (c : Changes) (from : ℕ) → SearchedUpTo state n h h c from from
+  pub searched_none : (h : LogState D) (c : Changes) (from : ℕ) → SearchedUpTo state n h h c from from
   searched_none h c from = record { reads = reads_none state h; none = λ k m0 m keeps is i le lt. absurd (omega (arith, le, lt)) }
 
-  module _ (h a b : Held D) (c : Changes) (from index : ℕ) (lawful : IsLawful (state h.device))
+  module _ (h a b : LogState D) (c : Changes) (from index : ℕ) (lawful : IsLawful (state h.device))
       (was : SearchedUpTo state n h a c from index) (reads : Reads state a b) where
     pub searched_more : TellsStored state a b c n index false → SearchedUpTo state n h b c from (index + 1)
     searched_more tells = record {
@@ -141,7 +141,7 @@ module _ {D : Type 0} (state : D → DeviceState) (n : ℕ) where
         ((leaf_tests (staged c m) n).0 q).1 (index - from, omega (arith, le, lt), subst (HasData (staged c m) n) place has)
 
   -- none of all does
-  pub leaf_empty : (h h' : Held D) (c : Changes) (from index q : ℕ) → from ≡ 112 + 128 * q → from + 128 ≤ index
+  pub leaf_empty : (h h' : LogState D) (c : Changes) (from index q : ℕ) → from ≡ 112 + 128 * q → from + 128 ≤ index
       → SearchedUpTo state n h h' c from index → TellsLeaf state h h' c n q false
   leaf_empty h h' c from index q at far was k m0 m keeps is = false_from_ne_true (has_leaf (staged c m) n q) (λ on.
       let has = ((leaf_tests (staged c m) n).0 q).0 on in
@@ -164,7 +164,7 @@ same_leaf m m' n q same = same_tests (has_leaf m' n q) (has_leaf m n q)
     (λ on. ((leaf_tests m n).0 q).1 (same_leaf_one m' m n q (λ i inside. sym (same i inside)) (((leaf_tests m' n).0 q).0 on)))
     (λ on. ((leaf_tests m' n).0 q).1 (same_leaf_one m m' n q same (((leaf_tests m n).0 q).0 on)))
 
-module _ {D : Type 0} (state : D → DeviceState) (h h' : Held D) (c : Changes) (n : ℕ) where
+module _ {D : Type 0} (state : D → DeviceState) (h h' : LogState D) (c : Changes) (n : ℕ) where
   pub log_leaf : {E : Type 0} (q : ℕ) (r : Result Bool E) → LeavesBlocks c n (112 + 128 * q) (112 + 128 * q + 128)
       → IfOk r (held.TellsLeaf state h h' n q) → IfOk r (TellsLeaf state h h' c n q)
   log_leaf q (Ok found) left tells = λ k m0 m keeps is.
@@ -183,7 +183,7 @@ leaves_blocks c n from to keeps off i inside m = (says_no_block c n i (off_block
     ∙ keeps i inside.1 m
 
 -- and they are as many
-module _ {D : Type 0} (state : D → DeviceState) (h h' : Held D) (c : Changes) (n : ℕ) where
+module _ {D : Type 0} (state : D → DeviceState) (h h' : LogState D) (c : Changes) (n : ℕ) where
   pub log_count : {E : Type 0} (from to : ℕ) (r : Result ℕ E) → LeavesBlocks c n from to → IfOk r (held.CountsBlocks state h h' n from to)
       → IfOk r (CountsStored state h h' c n from to)
   unfolding stored_in

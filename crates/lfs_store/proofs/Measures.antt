@@ -15,7 +15,7 @@ use Rattle.lfs_cleaner.specs.log.memory.declared.changes.Changes.{Changes}
 use Rattle.lfs_cleaner.specs.log.memory.files.declared.header.Header.{Header}
 use Rattle.lfs_cleaner.specs.log.memory.Batch.{staged}
 use Rattle.lfs_cleaner.specs.log.memory.Present.{as_header}
-use Rattle.lfs_cleaner.specs.log.Held.{Held, Reads}
+use Rattle.lfs_cleaner.specs.log.LogState.{LogState, Reads}
 use Rattle.lfs_store.specs.Measuring.{EndsBy, IsLeafRange, CountsStored, CountsLeaves, CountsPointers, Measures, TellsDouble}
 use Rattle.lfs_store.specs.Reading.{ReadsHeader}
 use Rattle.lfs_model.specs.Totals.{leaf_from, leaves_beside, leaves_in, stored_in, meta_of_file}
@@ -63,7 +63,7 @@ stored_to_end m n size blocks from to ends covers order = ⊎_elim
 
 -- ---- one file
 module _ {D : Type 0} (state : D → DeviceState) (c : Changes) (n : ℕ) where
-  pub absent : (h h' : Held D) (from to : ℕ) → ReadsHeader state h h' c n None
+  pub absent : (h h' : LogState D) (from to : ℕ) → ReadsHeader state h h' c n None
       → Measures state h h' c n from to (record { data_blocks = 0; meta_blocks = 0 })
   absent h h' from to answer k m0 m keeps is map =
       let none = answer k m0 m keeps is in
@@ -77,18 +77,18 @@ module _ {D : Type 0} (state : D → DeviceState) (c : Changes) (n : ℕ) where
       }
 
   -- the double root: a leaf below it is stored, or none was found
-  pub double_told : (h a b : Held D) (size leaf : ℕ) → Reads state h a → 1 ≤ leaf → leaf ≤ 128
+  pub double_told : (h a b : LogState D) (size leaf : ℕ) → Reads state h a → 1 ≤ leaf → leaf ≤ 128
       → Tells state (λ m. has_leaf m n) a b c leaf true → TellsDouble state h b c n size true
   double_told h a b size leaf one some few tells k m0 m keeps is ends =
       sym (double_found (staged c m) n leaf some few (tells k m0 m keeps (held_still state h a k m0 m one is)))
 
-  pub double_missed : (h b : Held D) (size end index : ℕ) → (size ≤ 512 * (112 + 128 * end)) ⊎ (129 ≤ end) → end ≤ 129 → index ≡ max end 1
+  pub double_missed : (h b : LogState D) (size end index : ℕ) → (size ≤ 512 * (112 + 128 * end)) ⊎ (129 ≤ end) → end ≤ 129 → index ≡ max end 1
       → CountedUpTo state (λ m. has_leaf m n) h b c 1 index 0 → TellsDouble state h b c n size false
   double_missed h b size end index past few last was k m0 m keeps is ends =
       sym (double_none (staged c m) n size end ends past (counts_leaves state h b c n 1 (max end 1) index 0 last was k m0 m keeps is) few)
 
   -- the leaves at some indices, and the double root: looked for, or above a leaf behind the first
-  module _ (h a : Held D) (size from to first end count : ℕ) (range : IsLeafRange size from to first end) (order : from ≤ to)
+  module _ (h a : LogState D) (size from to first end count : ℕ) (range : IsLeafRange size from to first end) (order : from ≤ to)
       (low : to ≤ 16624) (leaves : CountsLeaves state h a c n first end count) where
     within : (m : LogMap) → EndsBy m n size → leaves_in m n first end ≡ count → count + leaves_beside m n from to ≡ leaves_in m n 0 129
     within m ends counted =
@@ -99,7 +99,7 @@ module _ {D : Type 0} (state : D → DeviceState) (c : Changes) (n : ℕ) where
         let all = beside_split m n from to order low in
         omega (arith, counted, same, here, all)
 
-    pub counts_pointers : (b : Held D) (found : Bool) → Reads state h a → Reads state a b → TellsDouble state a b c n size found
+    pub counts_pointers : (b : LogState D) (found : Bool) → Reads state h a → Reads state a b → TellsDouble state a b c n size found
         → CountsPointers state h b c n size from to (count + bool_byte found)
     counts_pointers b found one two double k m0 m keeps is ends =
         let all = within (staged c m) ends (leaves k m0 m (two.looks.carries.kept_before keeps) is) in
@@ -119,7 +119,7 @@ module _ {D : Type 0} (state : D → DeviceState) (c : Changes) (n : ℕ) where
         let up = pointers_all (staged c m) n in
         omega (arith, all, root, up)
 
-  pub measured : (h a b d : Held D) (head : Header) (blocks from to count above : ℕ) → Reads state h a → Reads state a b → Reads state b d
+  pub measured : (h a b d : LogState D) (head : Header) (blocks from to count above : ℕ) → Reads state h a → Reads state a b → Reads state b d
       → head.size ≤ 512 * blocks → from ≤ to
       → ReadsHeader state h a c n (Some head) → CountsStored state a b c n (min from (min blocks to)) (min blocks to) count
       → CountsPointers state b d c n head.size from to above

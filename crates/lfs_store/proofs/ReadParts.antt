@@ -16,7 +16,7 @@ use Rattle.lfs_model.proofs.ObjectBytes.{get_or-zeros, object_part}
 use Rattle.lfs_cleaner.specs.log.memory.declared.changes.Changes.{Changes}
 use Rattle.lfs_cleaner.specs.log.memory.Batch.{staged}
 use Rattle.lfs_cleaner.specs.log.memory.Present.{BlockAnswer}
-use Rattle.lfs_cleaner.specs.log.Held.{Held, Holds, Reads}
+use Rattle.lfs_cleaner.specs.log.LogState.{LogState, Holds, Reads}
 use Rattle.lfs_store.proofs.LogReads.{held_still, reads_more}
 use Rattle.lfs_store.specs.Reading.{ReadsBlock, ReadsPart, Appends}
 
@@ -40,7 +40,7 @@ at_place m n at j low =
 -- ---- calls that only read, one after the other
 module _ {D : Type 0} (state : D → DeviceState) where
   -- ---- one piece
-  pub appends : (h h' : Held D) (c : Changes) (n at len : ℕ) (old new sector : List ℕ) (found : Bool) → at % 512 + len ≤ 512
+  pub appends : (h h' : LogState D) (c : Changes) (n at len : ℕ) (old new sector : List ℕ) (found : Bool) → at % 512 + len ≤ 512
       → length sector ≡ 512 → new ≡ old ++ take (at % 512 + len - at % 512) (drop (at % 512) sector)
       → ReadsBlock state h h' c n (at / 512) sector found → (IsFalse found → sector ≡ zeros 512) → Appends state h h' c n at len old new
   appends h h' c n at len old new sector found inside long read answer blank = record {
@@ -66,13 +66,13 @@ module _ {D : Type 0} (state : D → DeviceState) where
           omega (arith, t, d, long, inside)
 
   -- ---- the pieces up to here
-  pub record ReadUpTo (h h' : Held D) (c : Changes) (n from at : ℕ) (bytes : List ℕ) : Type 0 where
+  pub record ReadUpTo (h h' : LogState D) (c : Changes) (n from at : ℕ) (bytes : List ℕ) : Type 0 where
     pub reads : Reads state h h'
     pub long : from + length bytes ≡ at
     pub bytes_are : (k : CheckpointValue) (m0 m : LogMap) → (state h'.device).keeps_model → Holds state h k m0 m → (j : ℕ)
         → j < length bytes → slice_index bytes j ≡ byte_in (staged c m) n (from + j)
 
-  pub read_more : (h a b : Held D) (c : Changes) (n from at len : ℕ) (old new : List ℕ) → IsLawful (state h.device)
+  pub read_more : (h a b : LogState D) (c : Changes) (n from at len : ℕ) (old new : List ℕ) → IsLawful (state h.device)
       → ReadUpTo h a c n from at old → Reads state a b → Appends state a b c n at len old new
       → ReadUpTo h b c n from (at + len) new
   read_more h a b c n from at len old new lawful was reads more = record {
@@ -95,7 +95,7 @@ module _ {D : Type 0} (state : D → DeviceState) where
           (cases_lt j (length old))
 
   -- all of them are a part of the object
-  pub reads_part : (h h' : Held D) (c : Changes) (n from to : ℕ) (bytes : List ℕ) → ReadUpTo h h' c n from to bytes
+  pub reads_part : (h h' : LogState D) (c : Changes) (n from to : ℕ) (bytes : List ℕ) → ReadUpTo h h' c n from to bytes
       → ReadsPart state h h' c n from to bytes
   reads_part h h' c n from to bytes was k m0 m keeps is head within =
       let o = object_part (staged c m) n head from (to - from) in

@@ -10,8 +10,8 @@ use Rattle.lfs_cleaner.specs.log.memory.Batch.{staged}
 use Rattle.lfs_cleaner.specs.log.memory.Changing.{stored}
 use Rattle.lfs_cleaner.specs.log.memory.Present.{HeaderAnswer, BlockAnswer}
 use Rattle.lfs_cleaner.proofs.of_log.of_memory.LogMaps.{stored_none, stored_some}
-use Rattle.lfs_cleaner.specs.log.Held as held
-use Rattle.lfs_cleaner.specs.log.Held.{Held}
+use Rattle.lfs_cleaner.specs.log.LogState as held
+use Rattle.lfs_cleaner.specs.log.LogState.{LogState}
 use Rattle.lfs_store.specs.Drafting.{DraftsHeader}
 use Rattle.lfs_store.specs.Reading.{LosesHeader, SaysHeader, ReadsHeader, ReadsBlock}
 
@@ -38,7 +38,7 @@ same_block : (m m' : LogMap) (n i : ℕ) (out : List ℕ) (found : Bool) → m'.
 same_block m m' n i out true same is = same ∙ is
 same_block m m' n i out false same is = same ∙ is
 
-module _ {D : Type 0} (state : D → DeviceState) (h h' : Held D) (c : Changes) (n : ℕ) where
+module _ {D : Type 0} (state : D → DeviceState) (h h' : LogState D) (c : Changes) (n : ℕ) where
   pub log_header : {E : Type 0} (r : Result (Option Header) E) → SaysHeader c n None → IfOk r (held.ReadsHeader state h h' n)
       → IfOk r (ReadsHeader state h h' c n)
   log_header (Ok found) left answer = λ k m0 m keeps is. same_header m (staged c m) n found (left m) (answer k m0 m keeps is)

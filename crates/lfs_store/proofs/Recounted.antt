@@ -18,7 +18,7 @@ use Rattle.lfs_cleaner.proofs.of_log.of_memory.LogMaps.{is_with_header}
 use Rattle.lfs_cleaner.proofs.of_log.of_memory.Presents.{looks_then}
 use Rattle.lfs_cleaner.specs.log.segments.Table.{clean_in}
 use Rattle.lfs_cleaner.specs.log.memory.declared.memory.LogMemory.{LogMemory}
-use Rattle.lfs_cleaner.specs.log.Held.{Held, Reads, Alters, IsKept, IsRemoved}
+use Rattle.lfs_cleaner.specs.log.LogState.{LogState, Reads, Alters, IsKept, IsRemoved}
 use Rattle.lfs_cleaner.specs.log.segments.Early.{AreUntaken}
 use Rattle.lfs_store.specs.declared.totals.Measure.{Measure}
 use Rattle.lfs_cleaner.specs.log.verify.declared.totals.BlockTotals.{BlockTotals}
@@ -124,7 +124,7 @@ relinked_counts c c' n head links t some few sets m there are =
     (relinked_totals (staged c m) n (as_header head) (as_header (relinked head links)) t some few there are)
 
 -- ---- over a log
-module _ {D : Type 0} (state : D → DeviceState) (h a b h' : Held D) (c c' : Changes) (n : ℕ) (before : Measure) (old new : BlockTotals)
+module _ {D : Type 0} (state : D → DeviceState) (h a b h' : LogState D) (c c' : Changes) (n : ℕ) (before : Measure) (old new : BlockTotals)
     (some : 1 ≤ n) (few : n ≤ 4095)
     (first : Reads state h a) (next : Reads state a b) (last : Reads state b h') where
   pub write_counts : (head : headers.Header) (at : ℕ) (w : List ℕ) (to : ℕ) → 0 < length w → at + length w ≤ 8511488
@@ -165,7 +165,7 @@ module _ {D : Type 0} (state : D → DeviceState) (h a b h' : Held D) (c c' : Ch
 
 module _ {D : Type 0} (state : D → DeviceState) where
   -- ---- a file goes at once
-  pub gone_counts : (h a h' : Held D) (c : Changes) (n : ℕ) (before : Measure) (old new : BlockTotals) → 1 ≤ n → n ≤ 4095 → IsNoChange c
+  pub gone_counts : (h a h' : LogState D) (c : Changes) (n : ℕ) (before : Measure) (old new : BlockTotals) → 1 ≤ n → n ≤ 4095 → IsNoChange c
       → Reads state h a → Measures state h a c n 0 16624 before → Alters state a h' 0 false
       → Recounts old new before (record { data_blocks = 0; meta_blocks = 0 }) → CountsGone state h h' n old new
   gone_counts h a h' c n before old new some few none first measured alters recounts k m0 m keeps is map map' are =
@@ -180,7 +180,7 @@ module _ {D : Type 0} (state : D → DeviceState) where
       (no_measure (without_file n m) n 0 16624 (nothing_stored (without_file n m) n map' gone) gone) recounts are
 
   -- a log that was only read
-  pub alters_read : (h a : Held D) → Reads state h a → Alters state h a 0 false
+  pub alters_read : (h a : LogState D) → Reads state h a → Alters state h a 0 false
   alters_read h a reads = record {
     looks = reads.looks;
     number = reads.number;
@@ -193,7 +193,7 @@ module _ {D : Type 0} (state : D → DeviceState) where
     few = let same = ap (λ v. length v.dirty.blocks) reads.memory in omega (arith, same);
   }
 
-  alters_more : (h a h' : Held D) → IsLawful (state h.device) → Reads state h a → Alters state a h' 0 false → Alters state h h' 0 false
+  alters_more : (h a h' : LogState D) → IsLawful (state h.device) → Reads state h a → Alters state a h' 0 false → Alters state h h' 0 false
   alters_more h a h' lawful reads alters = record {
     looks = looks_then (state h.device) (state a.device) (state h'.device) lawful reads.looks alters.looks;
     number = alters.number ∙ reads.number;
@@ -206,10 +206,10 @@ module _ {D : Type 0} (state : D → DeviceState) where
     few = let same = ap (λ v. length v.dirty.blocks) reads.memory in let few = alters.few in omega (arith, same, few);
   }
 
-  untaken_read : (h a : Held D) → Reads state h a → AreUntaken h.memory.usage → AreUntaken a.memory.usage
+  untaken_read : (h a : LogState D) → Reads state h a → AreUntaken h.usage → AreUntaken a.usage
   untaken_read h a reads = subst (λ (v : LogMemory). AreUntaken v.usage) (sym reads.memory)
 
-  pub kept_read : (h a : Held D) → Reads state h a → IsKept state h a
+  pub kept_read : (h a : LogState D) → Reads state h a → IsKept state h a
   kept_read h a reads = record {
     alters = alters_read h a reads;
     saved = reads.saved;
@@ -217,7 +217,7 @@ module _ {D : Type 0} (state : D → DeviceState) where
     holds = λ k m0 m keeps is. held_still state h a k m0 m reads is;
   }
 
-  pub kept_more : (h a h' : Held D) → IsLawful (state h.device) → Reads state h a → IsKept state a h' → IsKept state h h'
+  pub kept_more : (h a h' : LogState D) → IsLawful (state h.device) → Reads state h a → IsKept state a h' → IsKept state h h'
   kept_more h a h' lawful reads kept =
       record {
         alters = alters_more h a h' lawful reads kept.alters;
@@ -226,7 +226,7 @@ module _ {D : Type 0} (state : D → DeviceState) where
         holds = λ k m0 m keeps is. kept.holds k m0 m keeps (held_still state h a k m0 m reads is);
       }
 
-  pub removed_more : (h a h' : Held D) (n : ℕ) → IsLawful (state h.device) → Reads state h a → IsRemoved state a h' n
+  pub removed_more : (h a h' : LogState D) (n : ℕ) → IsLawful (state h.device) → Reads state h a → IsRemoved state a h' n
       → IsRemoved state h h' n
   removed_more h a h' n lawful reads gone =
       record {

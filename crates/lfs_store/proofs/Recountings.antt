@@ -13,7 +13,7 @@ use Rattle.lfs_model.specs.Objects.{IsChangedAt, is_stored, stored_blocks, one_i
 use Rattle.lfs_model.specs.Stands.{LogMap}
 use Rattle.lfs_cleaner.specs.log.memory.declared.changes.Changes.{Changes}
 use Rattle.lfs_cleaner.specs.log.memory.Batch.{staged}
-use Rattle.lfs_cleaner.specs.log.Held.{Held, Holds, Reads}
+use Rattle.lfs_cleaner.specs.log.LogState.{LogState, Holds, Reads}
 use Rattle.lfs_store.specs.declared.totals.Measure.{Measure}
 use Rattle.lfs_cleaner.specs.log.verify.declared.totals.BlockTotals.{BlockTotals}
 use Rattle.lfs_store.specs.Measuring.{Measures}
@@ -101,7 +101,7 @@ recounted m m' n from to old new before after changed some few order low same wa
 
 -- ---- over a log
 module _ {D : Type 0} (state : D → DeviceState) where
-  pub counts : (h a b h' : Held D) (c c' : Changes) (n from to : ℕ) (before : Measure) (old new : BlockTotals) → 1 ≤ n → n ≤ 4095
+  pub counts : (h a b h' : LogState D) (c c' : Changes) (n from to : ℕ) (before : Measure) (old new : BlockTotals) → 1 ≤ n → n ≤ 4095
       → from ≤ to → to ≤ 16624
       → Reads state h a → Measures state h a c n from to before → Reads state a b → Reads state b h'
       → Remeasures state b h' c' n from to before old new

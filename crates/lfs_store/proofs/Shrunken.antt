@@ -18,7 +18,7 @@ use Rattle.lfs_cleaner.specs.log.memory.Batch.{is_lost, staged}
 use Rattle.lfs_cleaner.specs.log.memory.Changing.{stored}
 use Rattle.lfs_cleaner.specs.log.memory.Present.{as_header}
 use Rattle.lfs_cleaner.specs.log.verify.declared.totals.BlockTotals.{BlockTotals}
-use Rattle.lfs_cleaner.specs.log.Held.{Held, Reads}
+use Rattle.lfs_cleaner.specs.log.LogState.{LogState, Reads}
 use Rattle.lfs_store.specs.declared.totals.Measure.{Measure}
 use Rattle.lfs_store.specs.Drafting.{PutsBlock, PutsHeader, TakesBlock}
 use Rattle.lfs_store.specs.Measuring.{Measures}
@@ -81,7 +81,7 @@ none_behind a n head len last map there i lt =
     (λ j. refl)).gone i (omega (arith, lt))
 
 module _ {D : Type 0} (state : D → DeviceState) where
-  pub clears_tail : (h h' : Held D) (c c' : Changes) (n len : ℕ) (old new : List ℕ) (found : Bool) → length old ≡ 512 → length new ≡ 512
+  pub clears_tail : (h h' : LogState D) (c c' : Changes) (n len : ℕ) (old new : List ℕ) (found : Bool) → length old ≡ 512 → length new ≡ 512
       → (IsFalse found → old ≡ zeros 512)
       → ReadsBlock state h h' c n (len / 512) old found → CutsTail (len % 512) old new → PutsBlock c c' n (len / 512) new
       → ClearsTail state h h' c c' n len
@@ -102,7 +102,7 @@ module _ {D : Type 0} (state : D → DeviceState) where
       with_it m = block_put (staged c m) (staged c' m) n (len / 512) (stored new) (puts.map m)
 
   -- ---- and its header says so
-  module _ (h h' : Held D) (c c' c'' : Changes) (n : ℕ) (head : Header) (len : ℕ) (less : len < head.size)
+  module _ (h h' : LogState D) (c c' c'' : Changes) (n : ℕ) (head : Header) (len : ℕ) (less : len < head.size)
       (last : head.size ≤ 512 * (len / 512) + 512)
       (clears : ClearsTail state h h' c c' n len) (puts : PutsHeader c' c'' n (resized head len)) where
     with_header_it : (m : LogMap) → IsWithHeader (staged c' m) n (Some (as_header (resized head len))) (staged c'' m)
@@ -149,7 +149,7 @@ module _ {D : Type 0} (state : D → DeviceState) where
     }
 
   -- a log that is only read before and after
-  pub shrinks_around : (h a b h' : Held D) (c c' : Changes) (n : ℕ) (head : Header) (len : ℕ) → Reads state h a
+  pub shrinks_around : (h a b h' : LogState D) (c c' : Changes) (n : ℕ) (head : Header) (len : ℕ) → Reads state h a
       → Shrinks state a b c c' n head len → Reads state b h' → Shrinks state h h' c c' n head len
   shrinks_around h a b h' c c' n head len first is last = record {
     loss = is.loss;
@@ -163,7 +163,7 @@ module _ {D : Type 0} (state : D → DeviceState) where
   }
 
   -- ---- its totals
-  pub shrink_counts : (h a b h' : Held D) (c c' : Changes) (n : ℕ) (before : Measure) (old new : BlockTotals) (head : Header) (len : ℕ)
+  pub shrink_counts : (h a b h' : LogState D) (c c' : Changes) (n : ℕ) (before : Measure) (old new : BlockTotals) (head : Header) (len : ℕ)
       → 1 ≤ n → n ≤ 4095 → len < 8511488
       → Reads state h a → Reads state a b → Reads state b h' → Measures state h a c n (len / 512) (len / 512 + 1) before
       → Shrinks state a b c c' n head len

@@ -17,7 +17,7 @@ use Rattle.lfs_files.specs.Making as files_made
 use Rattle.lfs_cleaner.specs.log.memory.declared.batch.Loss.{Loss}
 use Rattle.lfs_cleaner.specs.log.memory.Batch.{IsNoChange, is_lost, staged}
 use Rattle.lfs_cleaner.specs.log.memory.Removing.{without_file}
-use Rattle.lfs_cleaner.specs.log.Held.{Held, Holds, Reads}
+use Rattle.lfs_cleaner.specs.log.LogState.{LogState, Holds, Reads}
 use Rattle.lfs_cleaner.specs.log.verify.declared.totals.BlockTotals.{BlockTotals}
 use Rattle.lfs_cleaner.proofs.of_log.of_memory.Removed.{is_without}
 use Rattle.lfs_store.specs.declared.draft.Draft.{Draft}
@@ -29,7 +29,7 @@ use Rattle.lfs_store.proofs.Apart.{no_change}
 use Rattle.lfs_store.proofs.LogReads.{held_still, reads_none}
 use Rattle.lfs_store.proofs.Writings.{header_put}
 
-module _ {D : Type 0} (state : D → DeviceState) (h h' : Held D) (d d' : Draft) (v v' : Bool) (u u' : BlockTotals) where
+module _ {D : Type 0} (state : D → DeviceState) (h h' : LogState D) (d d' : Draft) (v v' : Bool) (u u' : BlockTotals) where
   abbrev S : FilesState StagedLog Draft
   S = state_of state h d v u
 

@@ -17,8 +17,8 @@ use Rattle.lfs_files.specs.Headers.{HeaderAnswer, as_header, reformed, resized}
 use Rattle.lfs_cleaner.specs.log.memory.declared.batch.Loss.{Loss}
 use Rattle.lfs_cleaner.specs.log.memory.declared.memory.LogMemory.{LogMemory}
 use Rattle.lfs_cleaner.specs.log.memory.Batch.{FitsBatch, IsNoChange, is_lost, room_for, staged}
-use Rattle.lfs_cleaner.specs.log.Held as held
-use Rattle.lfs_cleaner.specs.log.Held.{Held, Holds, IsReadFault}
+use Rattle.lfs_cleaner.specs.log.LogState as held
+use Rattle.lfs_cleaner.specs.log.LogState.{LogState, Holds, IsReadFault}
 use Rattle.lfs_store.specs.declared.draft.Draft.{Draft}
 use Rattle.lfs_cleaner.specs.log.verify.declared.totals.BlockTotals.{BlockTotals}
 use Rattle.lfs_store.specs.Drafting.{PutsHeader}
@@ -36,7 +36,7 @@ use Rattle.lfs_store.proofs.Recounted.{relinked_totals}
 use Rattle.lfs_store.proofs.LogReads.{held_still}
 use Rattle.lfs_store.proofs.Writings.{block_read, header_put, takes_header}
 
-module _ {D : Type 0} (state : D → DeviceState) (h h' : Held D) (d d' : Draft) (v v' : Bool) (u u' : BlockTotals) where
+module _ {D : Type 0} (state : D → DeviceState) (h h' : LogState D) (d d' : Draft) (v v' : Bool) (u u' : BlockTotals) where
   abbrev S : FilesState StagedLog Draft
   S = state_of state h d v u
 

@@ -20,7 +20,7 @@ use Rattle.lfs_cleaner.specs.log.memory.Changing.{FitsHeader, stored, with_block
 use Rattle.lfs_cleaner.specs.log.memory.Preparing.{IsWithin}
 use Rattle.lfs_cleaner.specs.log.memory.Present.{BlockAnswer, as_header}
 use Rattle.lfs_cleaner.proofs.of_log.of_memory.LogMaps.{is_with_block, is_with_header}
-use Rattle.lfs_cleaner.specs.log.Held.{Held, Holds, Reads}
+use Rattle.lfs_cleaner.specs.log.LogState.{LogState, Holds, Reads}
 use Rattle.lfs_store.specs.Drafting.{PutsBlock, PutsHeader, TakesBlock, TakesHeader, IsApart}
 use Rattle.lfs_store.specs.Pieces.{HoldsBlock, BlockOverlays, WriteSoFar}
 use Rattle.lfs_store.specs.Reading.{ReadsBlock}
@@ -70,7 +70,7 @@ takes_header c m n head head' there name apart fits =
 
 module _ {D : Type 0} (state : D → DeviceState) where
   -- ---- one block
-  pub block_written : (h h' : Held D) (c c' : Changes) (n index at : ℕ) (w old new : List ℕ) → length new ≡ 512
+  pub block_written : (h h' : LogState D) (c c' : Changes) (n index at : ℕ) (w old new : List ℕ) → length new ≡ 512
       → ReadsBeneath state h h' c n index at w old → BlockOverlays at w index old new → PutsBlock c c' n index new
       → WritesBlock state h h' c c' n index at w
   block_written h h' c c' n index at w old new stays beneath over puts = record {
@@ -87,14 +87,14 @@ module _ {D : Type 0} (state : D → DeviceState) where
   }
 
   -- a block that is read is what bytes are laid over
-  pub read_beneath : (h h' : Held D) (c : Changes) (n index at : ℕ) (w old : List ℕ) (found : Bool) → length old ≡ 512
+  pub read_beneath : (h h' : LogState D) (c : Changes) (n index at : ℕ) (w old : List ℕ) (found : Bool) → length old ≡ 512
       → (IsFalse found → old ≡ zeros 512)
       → ReadsBlock state h h' c n index old found → ReadsBeneath state h h' c n index at w old
   read_beneath h h' c n index at w old found long blank answer k m0 m keeps is =
       inl (block_read (staged c m) n index old found long blank (answer k m0 m keeps is))
 
   -- ---- the blocks up to here
-  pub record WrittenUpTo (h h' : Held D) (c c' : Changes) (n at : ℕ) (w : List ℕ) (index : ℕ) : Type 0 where
+  pub record WrittenUpTo (h h' : LogState D) (c c' : Changes) (n at : ℕ) (w : List ℕ) (index : ℕ) : Type 0 where
     pub reads : Reads state h h'
     pub loss : c'.loss ≡ c.loss
     pub headers : c'.headers ≡ c.headers
@@ -106,7 +106,7 @@ module _ {D : Type 0} (state : D → DeviceState) where
     pub far : (k : CheckpointValue) (m0 m : LogMap) → (state h'.device).keeps_model → Holds state h k m0 m
         → WriteSoFar (staged c m) (staged c' m) n at w index
 
-  pub written_none : (h : Held D) (c : Changes) (n at : ℕ) (w : List ℕ) → Reads state h h → WrittenUpTo h h c c n at w (at / 512)
+  pub written_none : (h : LogState D) (c : Changes) (n at : ℕ) (w : List ℕ) → Reads state h h → WrittenUpTo h h c c n at w (at / 512)
   written_none h c n at w reads = record {
     reads = reads;
     loss = refl;
@@ -118,7 +118,7 @@ module _ {D : Type 0} (state : D → DeviceState) where
     far = λ k m0 m keeps is. write_begins (staged c m) n at w;
   }
 
-  pub written_more : (h h' h'' : Held D) (c c' c'' : Changes) (n at : ℕ) (w : List ℕ) (index : ℕ) → IsLawful (state h.device)
+  pub written_more : (h h' h'' : LogState D) (c c' c'' : Changes) (n at : ℕ) (w : List ℕ) (index : ℕ) → IsLawful (state h.device)
       → at / 512 ≤ index → WrittenUpTo h h' c c' n at w index → Reads state h' h''
       → WritesBlock state h' h'' c' c'' n index at w → WrittenUpTo h h'' c c'' n at w (index + 1)
   written_more h h' h'' c c' c'' n at w index lawful le was reads more = record {
@@ -139,7 +139,7 @@ module _ {D : Type 0} (state : D → DeviceState) where
   }
 
   -- ---- all of them, and the header
-  pub written : (h h' : Held D) (c c' c'' : Changes) (n : ℕ) (head : Header) (at : ℕ) (w : List ℕ) (index : ℕ) → 0 < length w
+  pub written : (h h' : LogState D) (c c' c'' : Changes) (n : ℕ) (head : Header) (at : ℕ) (w : List ℕ) (index : ℕ) → 0 < length w
       → at / 512 ≤ index → index ≡ div_ceil (at + length w) 512
       → WrittenUpTo h h' c c' n at w index → PutsHeader c' c'' n (resized head (max head.size (at + length w)))
       → Writes state h h' c c'' n head at w
@@ -177,7 +177,7 @@ module _ {D : Type 0} (state : D → DeviceState) where
           }
 
   -- a log that is only read before and after
-  pub writes_around : (h a b h' : Held D) (c c' : Changes) (n : ℕ) (head : Header) (at : ℕ) (w : List ℕ) → Reads state h a
+  pub writes_around : (h a b h' : LogState D) (c c' : Changes) (n : ℕ) (head : Header) (at : ℕ) (w : List ℕ) → Reads state h a
       → Writes state a b c c' n head at w → Reads state b h' → Writes state h h' c c' n head at w
   writes_around h a b h' c c' n head at w first writes last = record {
     loss = writes.loss;

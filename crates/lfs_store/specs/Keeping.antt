@@ -1,20 +1,18 @@
 -- What a call keeps of a store.
 use Rattle.std.specs.Prelude.{◌≡◌}
 use Rattle.lfs_model.specs.Device.{DeviceState}
-pub use Rattle.lfs_cleaner.specs.log.Held.{ReadsLog}
-use Rattle.lfs_cleaner.specs.log.Held.{Reads}
+pub use Rattle.lfs_cleaner.specs.log.LogState.{ReadsLog}
+use Rattle.lfs_cleaner.specs.log.LogState.{Reads}
 use Rattle.lfs_store.specs.declared.store.Store.{Store}
 
 module _ {D : Type 0} (old new : Store D) where
   -- A call that changes the draft alone, and what it counts.
   pub record OnlyDrafts : Type 0 where
     pub log : new.log ≡ old.log
-    pub saved : new.log.saved ≡ old.log.saved
 
   -- One that doesn't count what it changes.
   pub record DraftsUncounted : Type 0 where
     pub log : new.log ≡ old.log
-    pub saved : new.log.saved ≡ old.log.saved
     pub drafted : new.drafted ≡ old.drafted
 
   -- A call on the log: the draft stays, and the totals do.
@@ -27,16 +25,13 @@ module _ {D : Type 0} (state : D → DeviceState) (old new : Store D) where
   -- A call that changes the draft, and what it counts, by what it reads in the log.
   pub record RedraftsStore : Type 0 where
     pub reads : Reads state old.log new.log
-    pub saved : new.log.saved ≡ old.log.saved
 
   -- One that doesn't count what it changes.
   pub record RedraftsUncounted : Type 0 where
     pub reads : Reads state old.log new.log
-    pub saved : new.log.saved ≡ old.log.saved
     pub drafted : new.drafted ≡ old.drafted
 
   -- One that counts alone.
   pub record OnlyCounts : Type 0 where
     pub reads : Reads state old.log new.log
     pub draft : new.draft ≡ old.draft
-    pub saved : new.log.saved ≡ old.log.saved

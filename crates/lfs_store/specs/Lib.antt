@@ -1,3 +1,4 @@
+pub mod StoreState
 pub mod Drafting
 pub mod Growing
 pub mod Reading

@@ -12,7 +12,7 @@ use Rattle.lfs_cleaner.specs.log.memory.declared.batch.BlockEdit.{BlockEdit}
 use Rattle.lfs_cleaner.specs.log.memory.declared.batch.Loss.{Loss}
 use Rattle.lfs_cleaner.specs.log.memory.declared.changes.Changes.{Changes}
 use Rattle.lfs_cleaner.specs.log.memory.Batch.{staged}
-use Rattle.lfs_cleaner.specs.log.Held.{Held, Holds}
+use Rattle.lfs_cleaner.specs.log.LogState.{LogState, Holds}
 use Rattle.lfs_store.specs.declared.totals.Measure.{Measure}
 use Rattle.lfs_store.specs.Reading.{KeepsBlock}
 use Rattle.lfs_model.specs.Totals.{leaf_from, leaf_to, leaves_beside, leaves_in, stored_in, HasMeasure}
@@ -57,38 +57,38 @@ EndsBy m n size = (i : ℕ) → size ≤ SECTOR_LEN * i → is_stored m n i ≡ 
 
 module _ {D : Type 0} (state : D → DeviceState) where
   -- whether block i of file n is stored
-  abbrev pub TellsStored : Held D → Held D → Changes → ℕ → ℕ → Bool → Type 0
+  abbrev pub TellsStored : LogState D → LogState D → Changes → ℕ → ℕ → Bool → Type 0
   TellsStored h h' c n i found = (k : CheckpointValue) (m0 m : LogMap) → (state h'.device).keeps_model → Holds state h k m0 m
       → is_stored (staged c m) n i ≡ found
 
   -- whether a block below its leaf q of pointers is
-  abbrev pub TellsLeaf : Held D → Held D → Changes → ℕ → ℕ → Bool → Type 0
+  abbrev pub TellsLeaf : LogState D → LogState D → Changes → ℕ → ℕ → Bool → Type 0
   TellsLeaf h h' c n q found = (k : CheckpointValue) (m0 m : LogMap) → (state h'.device).keeps_model → Holds state h k m0 m
       → has_leaf (staged c m) n q ≡ found
 
   -- how many of its blocks from..to are
-  abbrev pub CountsStored : Held D → Held D → Changes → ℕ → ℕ → ℕ → ℕ → Type 0
+  abbrev pub CountsStored : LogState D → LogState D → Changes → ℕ → ℕ → ℕ → ℕ → Type 0
   CountsStored h h' c n from to count = (k : CheckpointValue) (m0 m : LogMap) → (state h'.device).keeps_model → Holds state h k m0 m
       → stored_in (staged c m) n from to ≡ count
 
   -- how many of its leaves from..to are
-  abbrev pub CountsLeaves : Held D → Held D → Changes → ℕ → ℕ → ℕ → ℕ → Type 0
+  abbrev pub CountsLeaves : LogState D → LogState D → Changes → ℕ → ℕ → ℕ → ℕ → Type 0
   CountsLeaves h h' c n from to count = (k : CheckpointValue) (m0 m : LogMap) → (state h'.device).keeps_model → Holds state h k m0 m
       → leaves_in (staged c m) n from to ≡ count
 
   -- whether its double root is stored, since a leaf below it is, where it has no block from a size on
-  abbrev pub TellsDouble : Held D → Held D → Changes → ℕ → ℕ → Bool → Type 0
+  abbrev pub TellsDouble : LogState D → LogState D → Changes → ℕ → ℕ → Bool → Type 0
   TellsDouble h h' c n size found = (k : CheckpointValue) (m0 m : LogMap) → (state h'.device).keeps_model → Holds state h k m0 m
       → EndsBy (staged c m) n size
       → one_if found ≡ min (leaves_in (staged c m) n 1 FILE_LEAVES) 1
 
   -- its blocks of pointers with a block at the indices from..to, and its double root, where it has no block from a size on
-  abbrev pub CountsPointers : Held D → Held D → Changes → ℕ → ℕ → ℕ → ℕ → ℕ → Type 0
+  abbrev pub CountsPointers : LogState D → LogState D → Changes → ℕ → ℕ → ℕ → ℕ → ℕ → Type 0
   CountsPointers h h' c n size from to count = (k : CheckpointValue) (m0 m : LogMap) → (state h'.device).keeps_model → Holds state h k m0 m
       → EndsBy (staged c m) n size
       → count + leaves_beside (staged c m) n from to ≡ pointers (stored_blocks (staged c m) n)
 
   -- the blocks of file n: its data blocks from..to, its inode, its leaves of pointers with a block there, and its double root
-  abbrev pub Measures : Held D → Held D → Changes → ℕ → ℕ → ℕ → Measure → Type 0
+  abbrev pub Measures : LogState D → LogState D → Changes → ℕ → ℕ → ℕ → Measure → Type 0
   Measures h h' c n from to found = (k : CheckpointValue) (m0 m : LogMap) → (state h'.device).keeps_model → Holds state h k m0 m
       → IsLogMap (staged c m) → HasMeasure (staged c m) n from to found.data_blocks found.meta_blocks

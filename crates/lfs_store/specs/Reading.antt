@@ -12,7 +12,7 @@ use Rattle.lfs_cleaner.specs.log.memory.declared.changes.Changes.{Changes}
 use Rattle.lfs_cleaner.specs.log.memory.files.declared.header.Header.{Header}
 use Rattle.lfs_cleaner.specs.log.memory.Batch.{lost, staged}
 use Rattle.lfs_cleaner.specs.log.memory.Present.{HeaderAnswer, BlockAnswer}
-use Rattle.lfs_cleaner.specs.log.Held.{Held, Holds, Reads}
+use Rattle.lfs_cleaner.specs.log.LogState.{LogState, Holds, Reads}
 use Rattle.lfs_store.specs.declared.store.Store.{Store}
 
 -- ---- what a file loses
@@ -47,24 +47,23 @@ module _ {D : Type 0} (state : D → DeviceState) where
   pub record ReadsStore (old new : Store D) : Type 0 where
     pub log : Reads state old.log new.log
     pub draft : new.draft ≡ old.draft
-    pub saved : new.log.saved ≡ old.log.saved
     pub drafted : new.drafted ≡ old.drafted
 
-  abbrev pub ReadsHeader : Held D → Held D → Changes → ℕ → Option Header → Type 0
+  abbrev pub ReadsHeader : LogState D → LogState D → Changes → ℕ → Option Header → Type 0
   ReadsHeader h h' c n found = (k : CheckpointValue) (m0 m : LogMap) → (state h'.device).keeps_model → Holds state h k m0 m
       → HeaderAnswer (staged c m) n found
 
-  abbrev pub ReadsBlock : Held D → Held D → Changes → ℕ → ℕ → List ℕ → Bool → Type 0
+  abbrev pub ReadsBlock : LogState D → LogState D → Changes → ℕ → ℕ → List ℕ → Bool → Type 0
   ReadsBlock h h' c n i out found = (k : CheckpointValue) (m0 m : LogMap) → (state h'.device).keeps_model → Holds state h k m0 m
       → BlockAnswer (staged c m) n i out found
 
   -- bytes of file n from one place to another, both at most its size
-  abbrev pub ReadsPart : Held D → Held D → Changes → ℕ → ℕ → ℕ → List ℕ → Type 0
+  abbrev pub ReadsPart : LogState D → LogState D → Changes → ℕ → ℕ → ℕ → List ℕ → Type 0
   ReadsPart h h' c n from to bytes = (k : CheckpointValue) (m0 m : LogMap) → (state h'.device).keeps_model → Holds state h k m0 m
       → (head : entry.Header) → to ≤ head.size → bytes ≡ part (object (staged c m) n head) from (to - from)
 
   -- Behind bytes that are there come so many of file n, from this place on.
-  pub record Appends (h h' : Held D) (c : Changes) (n at len : ℕ) (old new : List ℕ) : Type 0 where
+  pub record Appends (h h' : LogState D) (c : Changes) (n at len : ℕ) (old new : List ℕ) : Type 0 where
     pub long : length new ≡ length old + len
     pub kept : (j : ℕ) → j < length old → slice_index new j ≡ slice_index old j
     pub more : (k : CheckpointValue) (m0 m : LogMap) → (state h'.device).keeps_model → Holds state h k m0 m → (j : ℕ) → j < len

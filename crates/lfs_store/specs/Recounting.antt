@@ -9,7 +9,7 @@ use Rattle.lfs_cleaner.specs.log.memory.files.declared.header.Header.{Header}
 use Rattle.lfs_cleaner.specs.log.memory.Batch.{staged}
 use Rattle.lfs_cleaner.specs.log.memory.Present.{as_header}
 use Rattle.lfs_cleaner.specs.log.memory.Removing.{without_file}
-use Rattle.lfs_cleaner.specs.log.Held.{Held, Holds}
+use Rattle.lfs_cleaner.specs.log.LogState.{LogState, Holds}
 use Rattle.lfs_store.specs.declared.totals.Measure.{Measure}
 use Rattle.lfs_cleaner.specs.log.verify.declared.totals.BlockTotals.{BlockTotals}
 use Rattle.lfs_store.specs.Measuring.{Measures}
@@ -43,21 +43,21 @@ CountsUpgraded c = (m : LogMap) (t : BlockTotals) → AreTotals m t → AreTotal
 
 module _ {D : Type 0} (state : D → DeviceState) where
   -- The measure of file n takes the place of what it was before.
-  pub record Remeasures (h h' : Held D) (c : Changes) (n from to : ℕ) (before : Measure) (old new : BlockTotals) : Type 0 where
+  pub record Remeasures (h h' : LogState D) (c : Changes) (n from to : ℕ) (before : Measure) (old new : BlockTotals) : Type 0 where
     pub after : Measure
     pub measures : Measures state h h' c n from to after
     pub recounts : Recounts old new before after
 
   -- BlockTotals of the log map after one draft become those of the log map after another.
-  abbrev pub Counts : Held D → Held D → Changes → Changes → BlockTotals → BlockTotals → Type 0
+  abbrev pub Counts : LogState D → LogState D → Changes → Changes → BlockTotals → BlockTotals → Type 0
   Counts h h' c c' old new = (k : CheckpointValue) (m0 m : LogMap) → (state h'.device).keeps_model → Holds state h k m0 m
       → IsLogMap (staged c m) → IsLogMap (staged c' m) → AreTotals (staged c m) old → AreTotals (staged c' m) new
 
   -- BlockTotals of the log map become those of the log map without file n.
-  abbrev pub CountsGone : Held D → Held D → ℕ → BlockTotals → BlockTotals → Type 0
+  abbrev pub CountsGone : LogState D → LogState D → ℕ → BlockTotals → BlockTotals → Type 0
   CountsGone h h' n old new = (k : CheckpointValue) (m0 m : LogMap) → (state h'.device).keeps_model → Holds state h k m0 m
       → IsLogMap m → IsLogMap (without_file n m) → AreTotals m old → AreTotals (without_file n m) new
 
   -- a mount counts the log map that the device stands for
-  abbrev pub MountsTotals : D → Held D → BlockTotals → Type 0
+  abbrev pub MountsTotals : D → LogState D → BlockTotals → Type 0
   MountsTotals d h t = (m : LogMap) → (state h.device).keeps_model → StandsLog (state d).content m → AreTotals m t

@@ -11,7 +11,7 @@ use Rattle.lfs_cleaner.specs.log.memory.files.declared.header.Header.{Header}
 use Rattle.lfs_cleaner.specs.log.memory.Batch.{staged, FitsBatch}
 use Rattle.lfs_cleaner.specs.log.memory.Changing.{FitsHeader}
 use Rattle.lfs_cleaner.specs.log.memory.Present.{as_header}
-use Rattle.lfs_cleaner.specs.log.Held.{Held, Holds}
+use Rattle.lfs_cleaner.specs.log.LogState.{LogState, Holds}
 use Rattle.lfs_store.specs.Drafting.{IsApart, TakesBlock}
 use Rattle.lfs_store.specs.Pieces.{CutBlocks}
 use Rattle.lfs_store.specs.Writing.{SizesFile, resized}
@@ -30,7 +30,7 @@ HasNoneBehind m n len = (i : ℕ) → len / SECTOR_LEN < i → m.block n i ≡ [
 
 module _ {D : Type 0} (state : D → DeviceState) where
   -- The block of this place ends there, and no other block changes.
-  pub record ClearsTail (h h' : Held D) (c c' : Changes) (n len : ℕ) : Type 0 where
+  pub record ClearsTail (h h' : LogState D) (c c' : Changes) (n len : ℕ) : Type 0 where
     pub loss : c'.loss ≡ c.loss
     pub headers : c'.headers ≡ c.headers
     pub blocks : length c'.blocks.items ≤ length c.blocks.items + 1
@@ -42,7 +42,7 @@ module _ {D : Type 0} (state : D → DeviceState) where
         → HasNoneBehind (staged c m) n len → CutBlocks (staged c m) (staged c' m) n len
 
   -- A draft that cuts the file so, and says it in its header; it loses nothing.
-  pub record Shrinks (h h' : Held D) (c c' : Changes) (n : ℕ) (head : Header) (len : ℕ) : Type 0 where
+  pub record Shrinks (h h' : LogState D) (c c' : Changes) (n : ℕ) (head : Header) (len : ℕ) : Type 0 where
     pub loss : c'.loss ≡ c.loss
     pub headers : length c'.headers.items ≤ length c.headers.items + 1
     pub blocks : length c'.blocks.items ≤ length c.blocks.items + 1

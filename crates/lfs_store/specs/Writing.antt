@@ -16,7 +16,7 @@ use Rattle.lfs_cleaner.specs.log.memory.files.declared.header.Header.{Header}
 use Rattle.lfs_cleaner.specs.log.memory.Batch.{staged, FitsBatch}
 use Rattle.lfs_cleaner.specs.log.memory.Changing.{FitsHeader}
 use Rattle.lfs_cleaner.specs.log.memory.Present.{as_header}
-use Rattle.lfs_cleaner.specs.log.Held.{Held, Holds}
+use Rattle.lfs_cleaner.specs.log.LogState.{LogState, Holds}
 use Rattle.lfs_store.specs.Drafting.{IsApart, TakesBlock}
 use Rattle.lfs_store.specs.Pieces.{IsBeneath, WriteSoFar, CutBlocks}
 
@@ -32,12 +32,12 @@ pub record TakesWrite (c : Changes) (m : LogMap) (n : ℕ) (h : Header) (at : �
 
 module _ {D : Type 0} (state : D → DeviceState) where
   -- what the bytes of one block are laid over
-  abbrev pub ReadsBeneath : Held D → Held D → Changes → ℕ → ℕ → ℕ → List ℕ → List ℕ → Type 0
+  abbrev pub ReadsBeneath : LogState D → LogState D → Changes → ℕ → ℕ → ℕ → List ℕ → List ℕ → Type 0
   ReadsBeneath h h' c n index at w out = (k : CheckpointValue) (m0 m : LogMap) → (state h'.device).keeps_model → Holds state h k m0 m
       → IsBeneath (staged c m) n index at w out
 
   -- One block more has the bytes that lie in it.
-  pub record WritesBlock (h h' : Held D) (c c' : Changes) (n index at : ℕ) (w : List ℕ) : Type 0 where
+  pub record WritesBlock (h h' : LogState D) (c c' : Changes) (n index at : ℕ) (w : List ℕ) : Type 0 where
     pub few : length c'.blocks.items ≤ length c.blocks.items + 1
     pub headers : c'.headers ≡ c.headers
     pub loss : c'.loss ≡ c.loss
@@ -48,7 +48,7 @@ module _ {D : Type 0} (state : D → DeviceState) where
         → WriteSoFar a (staged c m) n at w index → WriteSoFar a (staged c' m) n at w (index + 1)
 
   -- All of them have.
-  pub record Writes (h h' : Held D) (c c' : Changes) (n : ℕ) (head : Header) (at : ℕ) (w : List ℕ) : Type 0 where
+  pub record Writes (h h' : LogState D) (c c' : Changes) (n : ℕ) (head : Header) (at : ℕ) (w : List ℕ) : Type 0 where
     pub loss : c'.loss ≡ c.loss
     pub headers : length c'.headers.items ≤ length c.headers.items + 1
     pub blocks : length c'.blocks.items ≤ length c.blocks.items + (div_ceil (at + length w) SECTOR_LEN - at / SECTOR_LEN)
@@ -75,7 +75,7 @@ pub record DraftsCut (c : Changes) (n len : ℕ) : Type 0 where
 
 module _ {D : Type 0} (state : D → DeviceState) where
   -- A draft that cuts the blocks of file n.
-  pub record CutsDraft (h h' : Held D) (c : Changes) (n len : ℕ) : Type 0 where
+  pub record CutsDraft (h h' : LogState D) (c : Changes) (n len : ℕ) : Type 0 where
     pub loss : LosesFrom c.loss n (div_ceil len SECTOR_LEN)
     pub headers : c.headers.items ≡ []
     pub blocks : length c.blocks.items ≤ 1
@@ -84,7 +84,7 @@ module _ {D : Type 0} (state : D → DeviceState) where
     pub file : (k : CheckpointValue) (m0 m : LogMap) → (state h'.device).keeps_model → Holds state h k m0 m → CutBlocks m (staged c m) n len
 
   -- One that gives it another size.
-  pub record SetsLen (h h' : Held D) (c : Changes) (n : ℕ) (head : Header) (len : ℕ) : Type 0 where
+  pub record SetsLen (h h' : LogState D) (c : Changes) (n : ℕ) (head : Header) (len : ℕ) : Type 0 where
     pub lost : len < head.size → LosesFrom c.loss n (div_ceil len SECTOR_LEN)
     pub kept : head.size ≤ len → c.loss ≡ Nothing
     pub headers : length c.headers.items ≤ 1

@@ -2,11 +2,10 @@
 //! was staged.
 ghost use Rattle.std.specs.Prelude.{◌≡◌, ◌<◌, ◌≤◌, ◌+◌, ◌/◌, true, false, length, IfOk, IfErr, OnOk, OnErr, IsErrOf, ◌⊎◌, MatchResult, IsTrue, IsFalse};
 ghost use Rattle.lfs_model.specs.Device.{Only, IsUntouched, Carries, LeavesOnly};
-ghost use Rattle.lfs_cleaner.specs.log.segments.Table.{clean_in};
 ghost use Rattle.lfs_cleaner.specs.log.verify.Loading.{HasTables, IsLoaded};
 ghost use Rattle.lfs_cleaner.specs.log.verify.Verified.{HasLogMap, IsRefusedLog};
 ghost use Rattle.lfs_store.specs.Accepting.{IsMountRefusal};
-ghost use Rattle.lfs_cleaner.specs.log.memory.Batch.{IsNoChange, room_for};
+ghost use Rattle.lfs_store.specs.StoreState.{IsEmpty, asked_by};
 
 use crate::draft::Draft;
 use crate::store::Store;
@@ -16,6 +15,7 @@ use lfs_cleaner::volume_log::{Log, LogFault, MountFault};
 use lfs_cleaner::{clean_once, has_quarter, make_room};
 use lfs_device::SectorDevice;
 use lfs_files::StoreFault;
+use lfs_model::limits::MOST_UNSAVED;
 use std::alloc::Global;
 
 /// The most headers that one call changes.
@@ -25,12 +25,12 @@ const MOST_HEADERS: usize = 4;
 const MOST_BLOCKS: usize = 256;
 
 impl<D: SectorDevice> Store<D> {
-    ghost use Rattle.lfs_cleaner.specs.log.Held.{AreAllSaved, Halts, IsFull, WritesEarly};
+    ghost use Rattle.lfs_cleaner.specs.log.LogState.{AreAllSaved, Halts, IsFull, Mounts, WritesEarly};
     ghost use Rattle.lfs_cleaner.specs.log.Saving.{commit_orders, orders_for};
     ghost use Rattle.lfs_cleaner.specs.log.Thresholds.{LacksReserve};
     ghost use Rattle.lfs_cleaner.specs.Room.{CleansOnce, HasQuarter, once_orders, passes_orders, room_orders};
     ghost use Rattle.lfs_store.specs.Recounting.{MountsTotals};
-    ghost use Rattle.lfs_store.specs.Accepting.{MountsStore, Readies, HasClean, HasCleanForTwo, HasRoomFor};
+    ghost use Rattle.lfs_store.specs.Accepting.{Readies, HasClean, HasCleanForTwo, HasRoomFor};
     ghost use Rattle.lfs_store.specs.Keeping.{KeepsDraft, OnlyDrafts};
     ghost use Rattle.lfs_store.specs.Outcomes.{Accepted, Cleaned, Committed, RoomMade};
 
@@ -44,12 +44,12 @@ impl<D: SectorDevice> Store<D> {
     /// device holds no log map: it is too small, holds no checkpoint, or the first stage that fails
     /// is named, one of the stages 1 to 9, or 15 where too few segments are clean.
     pub fn open(alloc: Global, device: D) -> Result<Store<D>, (MountFault, D)>
-        ensures stores { IfOk result (λ s. MountsStore D.SectorDevice.state device s.log s.log.saved) }
+        ensures stores { IfOk result (λ s. Mounts D.SectorDevice.state device s.log) }
         ensures counts { IfOk result (λ s. MountsTotals D.SectorDevice.state device s.log
             s.log.totals) }
         ensures drafted { IfOk result (λ s. s.drafted ≡ s.log.totals) }
         ensures saved { IfOk result (λ s. s.log.saved ≡ true) }
-        ensures draft { IfOk result (λ s. IsNoChange s.draft.changes) }
+        ensures draft { IfOk result (λ s. IsEmpty s.draft) }
         ensures durable { IfOk result (λ s. (D.state s.log.device).keeps_model
             → Only (D.state device).content (D.state s.log.device)) }
         ensures cause { IfErr result (λ e. (e.0 ≡ MountFault.NoMemory → ⊥)
@@ -96,12 +96,12 @@ impl<D: SectorDevice> Store<D> {
             → HasTables (D.state device).content tables }
         requires durable { (D.state device).keeps_model
             → Only (D.state device).content (D.state device) }
-        ensures stores { IfOk result (λ s. MountsStore D.SectorDevice.state device s.log s.log.saved) }
+        ensures stores { IfOk result (λ s. Mounts D.SectorDevice.state device s.log) }
         ensures counts { IfOk result (λ s. MountsTotals D.SectorDevice.state device s.log
             s.log.totals) }
         ensures drafted { IfOk result (λ s. s.drafted ≡ s.log.totals) }
         ensures saved { IfOk result (λ s. s.log.saved ≡ true) }
-        ensures draft { IfOk result (λ s. IsNoChange s.draft.changes) }
+        ensures draft { IfOk result (λ s. IsEmpty s.draft) }
         ensures refused { IfErr result (λ e. e.0 ≡ MountFault.NoMemory) }
         ensures same { MatchResult result (λ s. s.log.device ≡ device) (λ e. e.1 ≡ device) }
     {
@@ -148,7 +148,7 @@ impl<D: SectorDevice> Store<D> {
 
     /// The draft is empty: what was drafted isn't done.
     pub fn give_up(&mut self)
-        ensures draft { IsNoChange self.new.draft.changes }
+        ensures draft { IsEmpty self.new.draft }
         ensures keeps { OnlyDrafts self.old self.new }
         ensures drafted { self.new.drafted ≡ self.old.log.totals }
     {
@@ -179,11 +179,11 @@ impl<D: SectorDevice> Store<D> {
         ensures enough { OnOk result (HasQuarter self.new.log) }
         ensures told { length (D.state self.new.log.device).told
             ≤ length (D.state self.old.log.device).told
-            + room_orders (length self.old.log.memory.usage.segments) }
+            + room_orders self.old.log.segments }
         ensures passes { self.old.log.saved ≡ true
             → length (D.state self.new.log.device).told
             ≤ length (D.state self.old.log.device).told
-            + passes_orders (length self.old.log.memory.usage.segments) }
+            + passes_orders self.old.log.segments }
         ensures unsaved { (IsErrOf result LogFault.Halted → ⊥) → self.new.log.saved ≡ false
             → self.new.log ≡ self.old.log }
     {
@@ -201,7 +201,7 @@ impl<D: SectorDevice> Store<D> {
         ensures once { OnOk result (CleansOnce D.SectorDevice.state self.old.log self.new.log) }
         ensures told { length (D.state self.new.log.device).told
             ≤ length (D.state self.old.log.device).told
-            + once_orders (length self.old.log.memory.usage.segments) }
+            + once_orders self.old.log.segments }
     {
         clean_once(&mut self.log)
     }
@@ -210,8 +210,7 @@ impl<D: SectorDevice> Store<D> {
     /// than a commit asks for.
     fn write_early(&mut self) -> Result<(), LogFault>
         requires { self.old.log.halted ≡ false }
-        ensures done { OnOk result (Readies D.SectorDevice.state self.old.log self.old.log.saved
-            self.new.log self.new.log.saved) }
+        ensures done { OnOk result (Readies D.SectorDevice.state self.old.log self.new.log) }
         ensures early { OnOk result (WritesEarly D.SectorDevice.state self.old.log self.new.log) }
         ensures quiet { self.old.log.saved ≡ true → self.new.log ≡ self.old.log }
         ensures same { OnOk result (self.new.log.saved ≡ self.old.log.saved) }
@@ -222,7 +221,7 @@ impl<D: SectorDevice> Store<D> {
         ensures other { IsErrOf result LogFault.Device → ⊥ }
         ensures told { length (D.state self.new.log.device).told
             ≤ length (D.state self.old.log.device).told
-            + orders_for (length self.old.log.memory.dirty.blocks) }
+            + orders_for self.old.log.waiting }
     {
         if self.log.is_saved() {
             return Ok(());
@@ -235,19 +234,17 @@ impl<D: SectorDevice> Store<D> {
     fn find_room(&mut self) -> Result<(), LogFault>
         requires { self.old.log.halted ≡ false }
         ensures makes { RoomMade D.SectorDevice.state self.old self.new result }
-        ensures ready { OnOk result (Readies D.SectorDevice.state self.old.log self.old.log.saved
-            self.new.log self.new.log.saved) }
-        ensures room { OnOk result (self.new.log.saved ≡ false →
-            length self.new.log.memory.dirty.blocks + room_for self.new.draft.changes
-            ≤ self.new.log.memory.dirty.capacity.limit) }
-        ensures quiet { HasRoomFor self.old.log self.old.draft.changes
+        ensures ready { OnOk result (Readies D.SectorDevice.state self.old.log self.new.log) }
+        ensures room { OnOk result (self.new.log.saved ≡ false
+            → self.new.log.waiting + asked_by self.new.draft ≤ MOST_UNSAVED) }
+        ensures quiet { HasRoomFor self.old.log self.old.draft
             → self.new.log ≡ self.old.log }
         ensures lacks { IsErrOf result LogFault.Full → IsFull self.new.log }
         ensures other { IsErrOf result LogFault.Device → ⊥ }
         ensures once { OnOk result ((self.new.log ≡ self.old.log) ⊎ (HasClean self.new.log
             ⊎ ((self.new.log.saved ≡ true) × AreAllSaved self.new.log))) }
-        ensures clean { OnOk result (clean_in self.old.log.memory.usage.segments
-            ≤ clean_in self.new.log.memory.usage.segments + 8) }
+        ensures clean { OnOk result (self.old.log.clean
+            ≤ self.new.log.clean + 8) }
         ensures told { length (D.state self.new.log.device).told
             ≤ length (D.state self.old.log.device).told + commit_orders }
     {
@@ -266,7 +263,7 @@ impl<D: SectorDevice> Store<D> {
     fn check_segments(&self) -> Result<(), LogFault>
         ensures enough { OnOk result (HasClean self.now.log) }
         ensures full { IsErrOf result LogFault.Full → IsFull self.now.log }
-        ensures lacks { IsErrOf result LogFault.Full → LacksReserve self.now.log.memory.usage }
+        ensures lacks { IsErrOf result LogFault.Full → LacksReserve self.now.log.segments self.now.log.clean }
         ensures device { IsErrOf result LogFault.Device → ⊥ }
         ensures halted { IsErrOf result LogFault.Halted → ⊥ }
     {
@@ -284,11 +281,11 @@ impl<D: SectorDevice> Store<D> {
         ensures lacks { IsErrOf result LogFault.Full → IsFull self.new.log }
         ensures told { length (D.state self.new.log.device).told
             ≤ length (D.state self.old.log.device).told
-            + room_orders (length self.old.log.memory.usage.segments) }
+            + room_orders self.old.log.segments }
         ensures passes { self.old.log.saved ≡ true
             → length (D.state self.new.log.device).told
             ≤ length (D.state self.old.log.device).told
-            + passes_orders (length self.old.log.memory.usage.segments) }
+            + passes_orders self.old.log.segments }
     {
         match self.clean() {
             Ok(()) => self.check_segments(),
@@ -305,15 +302,14 @@ impl<D: SectorDevice> Store<D> {
         requires { self.old.log.halted ≡ false }
         ensures makes { RoomMade D.SectorDevice.state self.old self.new result }
         ensures enough { OnOk result (HasClean self.new.log) }
-        ensures room { OnOk result (self.new.log.saved ≡ false →
-            length self.new.log.memory.dirty.blocks + room_for self.new.draft.changes
-            ≤ self.new.log.memory.dirty.capacity.limit) }
-        ensures quiet { HasRoomFor self.old.log self.old.draft.changes → HasClean self.old.log
+        ensures room { OnOk result (self.new.log.saved ≡ false
+            → self.new.log.waiting + asked_by self.new.draft ≤ MOST_UNSAVED) }
+        ensures quiet { HasRoomFor self.old.log self.old.draft → HasClean self.old.log
             → self.new.log ≡ self.old.log }
         ensures lacks { IsErrOf result LogFault.Full → IsFull self.new.log }
         ensures told { length (D.state self.new.log.device).told
             ≤ length (D.state self.old.log.device).told
-            + room_orders (length self.old.log.memory.usage.segments) }
+            + room_orders self.old.log.segments }
         ensures one_commit { HasCleanForTwo self.old.log
             → length (D.state self.new.log.device).told
             ≤ length (D.state self.old.log.device).told + commit_orders }
@@ -327,8 +323,7 @@ impl<D: SectorDevice> Store<D> {
 
     /// Stages the draft, and leaves it as it is.
     fn stage_draft(&mut self) -> Result<(), StoreFault>
-        ensures accepts { Accepted D.SectorDevice.state self.old self.new.log self.new.log.saved
-            result }
+        ensures accepts { Accepted D.SectorDevice.state self.old self.new.log result }
         ensures drafted { self.new.drafted ≡ self.old.drafted }
     {
         if self.log.is_halted() {
@@ -359,9 +354,8 @@ impl<D: SectorDevice> Store<D> {
     /// where a call of the device failed. `Halted` once a write of the log failed, in this call or
     /// before.
     pub fn accept(&mut self) -> Result<(), StoreFault>
-        ensures accepts { Accepted D.SectorDevice.state self.old self.new.log self.new.log.saved
-            result }
-        ensures draft { IsNoChange self.new.draft.changes }
+        ensures accepts { Accepted D.SectorDevice.state self.old self.new.log result }
+        ensures draft { IsEmpty self.new.draft }
         ensures drafted { self.new.drafted ≡ self.new.log.totals }
     {
         let outcome = self.stage_draft();

@@ -7,13 +7,13 @@ use std::alloc::Global;
 
 impl<D: SectorDevice> Files for Store<D> {
     ghost use Rattle.lfs_store.specs.declared.draft.Draft.{Draft};
-    ghost use Rattle.lfs_store.specs.Seen.{StagedLog, state_of};
+    ghost use Rattle.lfs_store.specs.Seen.{StagedLog, files_of};
 
     ghost Staged = { StagedLog };
 
     ghost Draft = { Draft };
 
-    ghost state = { λ s. state_of D.SectorDevice.state s.log s.draft s.log.saved s.drafted };
+    ghost state = { λ s. files_of D.SectorDevice.state s };
 
     fn header(&mut self, number: FileNumber) -> Result<Option<Header>, LogFault> {
         Store::header(self, number)

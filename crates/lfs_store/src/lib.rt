@@ -15,6 +15,7 @@ mod recounting;
 mod shrinking;
 mod store;
 pub mod totals;
+mod volume;
 mod writing;
 
 pub use draft::Draft;

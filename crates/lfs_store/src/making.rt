@@ -25,7 +25,7 @@ fn first_links(kind: Kind) -> u32
 }
 
 impl<D: SectorDevice> Store<D> {
-    ghost use Rattle.lfs_cleaner.specs.log.Held.{IsReadFault, IsVacant, HasAll, IsRemoved, IsKept};
+    ghost use Rattle.lfs_cleaner.specs.log.LogState.{IsReadFault, IsVacant, HasAll, IsRemoved, IsKept};
     ghost use Rattle.lfs_store.specs.Accepting.{Forgets};
     ghost use Rattle.lfs_store.specs.Keeping.{DraftsUncounted, OnlyDrafts, RedraftsStore};
     ghost use Rattle.lfs_store.specs.Recounting.{Counts, CountsGone};

@@ -1,7 +1,7 @@
 //! How many blocks a file has with the draft.
 ghost use Rattle.std.specs.Prelude.{◌≡◌, ◌<◌, ◌≤◌, ◌+◌, ◌-◌, true, IfSome, IfNone, IfOk, OnErr, IsErrOf, IsTrue, IsFalse};
 ghost use Rattle.std.specs.List.{AllByRecursion};
-ghost use Rattle.lfs_cleaner.specs.log.Held.{IsReadFault};
+ghost use Rattle.lfs_cleaner.specs.log.LogState.{IsReadFault};
 ghost use Rattle.lfs_store.specs.Keeping.{ReadsLog};
 ghost use Rattle.lfs_store.specs.Measuring.{SaysStored, IsBetween, IsOff, KeepsBefore, LeavesBlocks, StoresLeaf, IsLeafRange, TellsStored, TellsLeaf, TellsDouble, CountsStored, CountsLeaves, CountsPointers};
 

@@ -1,7 +1,7 @@
 //! Bytes of a file as it is with the draft.
 ghost use Rattle.std.specs.Prelude.{◌≡◌, ◌<◌, ◌≤◌, ◌+◌, ◌%◌, true, IfOk, IfErr, OnOk, OnErr, IsErrOf, IsFalse, length};
 ghost use Rattle.lfs_model.specs.Fields.{zeros};
-ghost use Rattle.lfs_cleaner.specs.log.Held.{Reads, IsReadFault};
+ghost use Rattle.lfs_cleaner.specs.log.LogState.{Reads, IsReadFault};
 ghost use Rattle.lfs_store.specs.Keeping.{ReadsLog};
 ghost use Rattle.lfs_store.specs.Reading.{ReadsStore, ReadsBlock, ReadsPart, Appends};
 

@@ -29,7 +29,7 @@ pub fn recounted(totals: BlockTotals, before: Measure, after: Measure) -> BlockT
 }
 
 impl<D: SectorDevice> Store<D> {
-    ghost use Rattle.lfs_cleaner.specs.log.Held.{IsReadFault};
+    ghost use Rattle.lfs_cleaner.specs.log.LogState.{IsReadFault};
     ghost use Rattle.lfs_store.specs.Keeping.{OnlyCounts};
     ghost use Rattle.lfs_store.specs.Recounting.{Remeasures};
 

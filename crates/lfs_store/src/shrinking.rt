@@ -1,6 +1,6 @@
 //! A file cut in its last block, into a draft that may hold other changes.
 ghost use Rattle.std.specs.Prelude.{◌≡◌, ◌<◌, ◌≤◌, ◌+◌, ◌*◌, ◌/◌, true, IfErr, OnOk, IsErrOf};
-ghost use Rattle.lfs_cleaner.specs.log.Held.{IsReadFault};
+ghost use Rattle.lfs_cleaner.specs.log.LogState.{IsReadFault};
 
 use crate::pieces::cut_tail;
 use crate::store::Store;

@@ -12,14 +12,14 @@ use lfs_model::limits::SECTOR_LEN;
 /// A log, and the changes of the present call, which reads see.
 #[derive(Drop)]
 pub struct Store<D: SectorDevice> {
-    pub log: Log<D>,
-    pub draft: Draft,
+    pub(crate) log: Log<D>,
+    pub(crate) draft: Draft,
     /// The blocks of all files, with the draft.
-    pub drafted: BlockTotals,
+    pub(crate) drafted: BlockTotals,
 }
 
 impl<D: SectorDevice> Store<D> {
-    ghost use Rattle.lfs_cleaner.specs.log.Held.{IsReadFault};
+    ghost use Rattle.lfs_cleaner.specs.log.LogState.{IsReadFault};
     ghost use Rattle.lfs_store.specs.Reading.{ReadsStore, ReadsHeader, ReadsBlock};
 
     /// What the inode of a file says of it, if the file is there.

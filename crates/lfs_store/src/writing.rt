@@ -1,7 +1,7 @@
 //! Bytes written to a file and cut off it, into the draft.
 ghost use Rattle.std.specs.Prelude.{◌≡◌, ◌<◌, ◌≤◌, ◌+◌, ◌*◌, ◌%◌, true, length, IfErr, OnOk, OnErr, IsErrOf, IsTrue};
 ghost use Rattle.lfs_cleaner.specs.log.memory.Batch.{IsNoChange, room_for};
-ghost use Rattle.lfs_cleaner.specs.log.Held.{IsReadFault};
+ghost use Rattle.lfs_cleaner.specs.log.LogState.{IsReadFault};
 ghost use Rattle.lfs_store.specs.Drafting.{PutsHeader};
 ghost use Rattle.lfs_files.specs.Files.{asked_by_directory};
 ghost use Rattle.lfs_files.specs.Headers.{reformed};

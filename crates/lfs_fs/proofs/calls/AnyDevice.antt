@@ -7,7 +7,7 @@ use Rattle.lfs_model.specs.Call.{Rmdir, Rename, StatOf, LstatOf, Readdir, Fsync,
 use Rattle.lfs_model.specs.Call.{Refuse, changes, cleans, commits, is_ok, may_write, takes_no_memory, never_for_device}
 use Rattle.lfs_model.specs.Device.{DeviceState}
 use Rattle.lfs_model.specs.Refusal.{Refusal, NoMemory, Halted, Stuck}
-use Rattle.lfs_store.specs.log.Held.{Held, Reads}
+use Rattle.lfs_store.specs.log.LogState.{LogState, Reads}
 use Rattle.lfs_store.specs.log.Saving.{commit_orders}
 use Rattle.lfs_store.specs.cleaner.Room.{room_orders}
 use Rattle.lfs_store.specs.Accepting.{HasCleanForTwo}
@@ -101,7 +101,7 @@ commits_none ListTree free = refl
 
 module _ {D : Type 0} (state : D → DeviceState) where
   -- where nothing is told, it is no more than this
-  pub tells_none : (h h' : Held D) (most : ℕ) → (state h'.device).told ≡ (state h.device).told → TellsAtMost state h h' most
+  pub tells_none : (h h' : LogState D) (most : ℕ) → (state h'.device).told ≡ (state h.device).told → TellsAtMost state h h' most
   tells_none h h' most same = subst (λ (told : List Order). length told ≤ length (state h.device).told + most) (sym same) (omega arith)
 
   -- A call writes few checkpoints, and gives the device few orders.

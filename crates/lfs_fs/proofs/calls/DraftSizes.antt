@@ -6,7 +6,7 @@ use Rattle.lfs_files.specs.declared.fault.StoreFault.{StoreFault}
 use Rattle.lfs_files.specs.declared.fault.StoreFault.TheVariants as store
 use Rattle.lfs_files.specs.declared.header.Header.{Header}
 use Rattle.lfs_store.specs.declared.store.Store.{Store}
-use Rattle.lfs_store.specs.log.Held.{Held}
+use Rattle.lfs_store.specs.log.LogState.{LogState}
 use Rattle.lfs_store.specs.memory.declared.changes.Changes.{Changes}
 use Rattle.lfs_store.specs.memory.Batch.{room_for}
 use Rattle.lfs_store.specs.Growing.{GrowsBy}
@@ -24,7 +24,7 @@ module _ {D : Type 0} (state : D → DeviceState) (a b : Store D) where
   adds_grow h k is = record { headers = is.headers; blocks = is.blocks }
 
 -- ---- bytes of files
-module _ {D : Type 0} (state : D → DeviceState) (h h' : Held D) where
+module _ {D : Type 0} (state : D → DeviceState) (h h' : LogState D) where
   -- another length
   pub cut_fits : (c : Changes) (n : ℕ) (head : Header) (len : ℕ) → SetsLen state h h' c n head len → room_for c ≤ 456
   cut_fits c n head len is = let room = room_few c 1 1 is.headers is.blocks in omega (arith, room)

@@ -73,7 +73,7 @@ module _ {D : Type 0} (state : D → DeviceState) where
     now = still.reads.halted ∙ was
 
     segments_same : segments_of new ≡ segments_of old
-    segments_same = ap (λ (v : LogMemory). length v.usage.segments) still.reads.memory
+    segments_same = still.reads.segments
 
     still_at : (p : Point) → (state new.log.device).keeps_model → IsAt state old p
         → StepsOr (segments_of old) call p a (point_of new p.state)

@@ -6,7 +6,7 @@ use Rattle.lfs_files.specs.declared.fault.LogFault.TheVariants as log
 use Rattle.lfs_files.specs.declared.header.Header.{Header}
 use Rattle.lfs_store.specs.memory.Batch.{staged}
 use Rattle.lfs_store.specs.memory.Present.{HeaderAnswer}
-use Rattle.lfs_store.specs.log.Held.{IsReadFault}
+use Rattle.lfs_store.specs.log.LogState.{IsReadFault}
 use Rattle.lfs_store.specs.Reading.{ReadsHeader}
 use Rattle.lfs_fs.specs.declared.error.FsError.{FsError}
 use Rattle.lfs_fs.specs.declared.error.FsError.TheVariants as error

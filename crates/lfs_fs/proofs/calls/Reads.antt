@@ -4,7 +4,7 @@ use Rattle.lfs_model.specs.Call.{Answer, Call, Refuse, Room, Space, changes, cle
 use Rattle.lfs_model.specs.Device.{DeviceState, IsLawful}
 use Rattle.lfs_model.specs.Refusal.{Device, NoMemory, Refusal}
 use Rattle.lfs_model.specs.Step.{Step}
-use Rattle.lfs_store.specs.log.Held.{IsReadFault}
+use Rattle.lfs_store.specs.log.LogState.{IsReadFault}
 use Rattle.lfs_model.specs.Totals.{TotalsOfTree}
 use Rattle.lfs_fs.specs.Volume.{IsStill, Mounted, Serves, segments_of}
 use Rattle.lfs_fs.proofs.calls.AnyDevice.{IsOrdinary, memory_behaves}

@@ -11,7 +11,7 @@ use Rattle.lfs_files.specs.Files as files
 use Rattle.lfs_files.specs.Files.{Counted, WritesFile}
 use Rattle.lfs_store.specs.declared.store.Store.{Store}
 use Rattle.lfs_store.specs.log.verify.declared.totals.BlockTotals.{BlockTotals}
-use Rattle.lfs_store.specs.log.Held.{Held, Reads}
+use Rattle.lfs_store.specs.log.LogState.{LogState, Reads}
 use Rattle.lfs_store.specs.memory.Batch.{staged}
 use Rattle.lfs_store.specs.Seen.{StagedLog}
 use Rattle.lfs_store.proofs.LogReads.{reads_none}
@@ -101,10 +101,10 @@ pub still_drafted : {D : Type 0} (state : D → DeviceState) (old : Fs D) (a b :
     → files.Redrafts (files_of state a) (files_of state b)
     → IsStill state (seen old) (seen record { alloc = old.alloc; store = b; handles = old.handles })
 still_drafted {D} state old a b log saved redrafts = record {
-  reads = subst (λ (h : Held D). Reads state h b.log) log (log_redrafts state a b redrafts);
+  reads = subst (λ (h : LogState D). Reads state h b.log) log (log_redrafts state a b redrafts);
   saved = redrafts.saved ∙ saved;
-  blocks = ap (λ (t : BlockTotals). t.data_blocks) (ap totals_of redrafts.totals ∙ ap (λ (h : Held D). h.totals) log);
-  others = ap (λ (t : BlockTotals). t.meta_blocks) (ap totals_of redrafts.totals ∙ ap (λ (h : Held D). h.totals) log);
+  blocks = ap (λ (t : BlockTotals). t.data_blocks) (ap totals_of redrafts.totals ∙ ap (λ (h : LogState D). h.totals) log);
+  others = ap (λ (t : BlockTotals). t.meta_blocks) (ap totals_of redrafts.totals ∙ ap (λ (h : LogState D). h.totals) log);
   table = refl;
 }
 
@@ -112,9 +112,9 @@ still_drafted {D} state old a b log saved redrafts = record {
 pub still_logged : {D : Type 0} (state : D → DeviceState) (old new : Fs D) → new.store.log ≡ old.store.log
     → new.store.log.saved ≡ old.store.log.saved → new.handles ≡ old.handles → IsStill state (seen old) (seen new)
 still_logged {D} state old new log saved handles = record {
-  reads = subst (λ (h : Held D). Reads state old.store.log h) (sym log) (reads_none state old.store.log);
+  reads = subst (λ (h : LogState D). Reads state old.store.log h) (sym log) (reads_none state old.store.log);
   saved = saved;
-  blocks = ap (λ (h : Held D). h.totals.data_blocks) log;
-  others = ap (λ (h : Held D). h.totals.meta_blocks) log;
+  blocks = ap (λ (h : LogState D). h.totals.data_blocks) log;
+  others = ap (λ (h : LogState D). h.totals.meta_blocks) log;
   table = handles;
 }

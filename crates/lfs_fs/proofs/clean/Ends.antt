@@ -9,7 +9,7 @@ use Rattle.lfs_model.specs.Stands.{LogMap}
 use Rattle.lfs_files.specs.declared.fault.LogFault.{LogFault}
 use Rattle.lfs_files.specs.declared.fault.LogFault.TheVariants as log
 use Rattle.lfs_store.specs.cleaner.Room.{HaltsLater, IsRoomFault, once_orders, room_orders}
-use Rattle.lfs_store.specs.log.Held.{Held}
+use Rattle.lfs_store.specs.log.LogState.{LogState}
 use Rattle.lfs_store.specs.declared.store.Store.{Store}
 use Rattle.lfs_store.specs.log.verify.declared.totals.BlockTotals.{BlockTotals}
 use Rattle.lfs_store.specs.Accepting.{CannotMakeRoom, HasClean, MakesRoom, most_written}
@@ -33,12 +33,12 @@ use Rattle.lfs_fs.proofs.write.Ends.{halts_serves, still_none}
 
 module _ {D : Type 0} (state : D → DeviceState) (lawful : (d : D) → IsLawful (state d)) where
   -- one pass gives the device no more than where room is made
-  pub once_tells : (old new : Held D) → IsSegmentCount (length old.memory.usage.segments)
-      → TellsAtMost state old new (once_orders (length old.memory.usage.segments))
-      → TellsAtMost state old new (room_orders (length old.memory.usage.segments))
+  pub once_tells : (old new : LogState D) → IsSegmentCount old.segments
+      → TellsAtMost state old new (once_orders old.segments)
+      → TellsAtMost state old new (room_orders old.segments)
   once_tells old new count tells =
-      let within = once_within (length old.memory.usage.segments) count in
-      more (once_orders (length old.memory.usage.segments)) (room_orders (length old.memory.usage.segments)) within tells
+      let within = once_within old.segments count in
+      more (once_orders old.segments) (room_orders old.segments) within tells
     where
       more : (few many : ℕ) → few ≤ many → TellsAtMost state old new few → TellsAtMost state old new many
       more few many le tells = omega (arith, le, tells)

@@ -13,7 +13,7 @@ use Rattle.lfs_files.specs.Files.{FilesState}
 use Rattle.lfs_store.specs.declared.draft.Draft.{Draft}
 use Rattle.lfs_store.specs.declared.store.Store.{Store}
 use Rattle.lfs_store.specs.Seen.{StagedLog}
-use Rattle.lfs_store.specs.log.Held.{IsVacant}
+use Rattle.lfs_store.specs.log.LogState.{IsVacant}
 use Rattle.lfs_store.proofs.TreeTotals.{totals_of_tree}
 use Rattle.lfs_path.specs.declared.last.Last.{Last}
 use Rattle.lfs_entries.specs.declared.fault.EntryFault.{EntryFault}

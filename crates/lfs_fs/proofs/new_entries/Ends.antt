@@ -7,7 +7,7 @@ use Rattle.lfs_model.specs.PathText.{text_refusal}
 use Rattle.lfs_model.specs.Refusal.{Refusal}
 use Rattle.lfs_model.specs.Walk.{At}
 use Rattle.lfs_store.specs.memory.Batch.{IsNoChange}
-use Rattle.lfs_store.specs.log.Held.{Reads}
+use Rattle.lfs_store.specs.log.LogState.{Reads}
 use Rattle.lfs_store.specs.declared.draft.Draft.{Draft}
 use Rattle.lfs_store.specs.declared.store.Store.{Store}
 use Rattle.lfs_store.proofs.LogReads.{reads_more}

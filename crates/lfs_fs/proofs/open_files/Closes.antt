@@ -28,7 +28,7 @@ use Rattle.lfs_store.specs.memory.Batch.{IsNoChange}
 use Rattle.lfs_store.specs.memory.Present.{as_header}
 use Rattle.lfs_store.specs.memory.Removing.{without_file}
 use Rattle.lfs_store.specs.segments.Table.{clean_in}
-use Rattle.lfs_store.specs.log.Held.{Alters, Held, Holds, IsKept, IsReadFault, IsRemoved, Reads}
+use Rattle.lfs_store.specs.log.LogState.{Alters, LogState, Holds, IsKept, IsReadFault, IsRemoved, Reads}
 use Rattle.lfs_store.specs.Accepting.{Forgets, HasClean, Stores}
 use Rattle.lfs_store.specs.Recounting.{CountsGone}
 use Rattle.lfs_store.specs.log.Saving.{commit_orders}
@@ -164,8 +164,8 @@ module _ {D : Type 0} (state : D → DeviceState) (lawful : (d : D) → IsLawful
 
   clean_still : HasClean old.log → HasClean new.log
   clean_still clean =
-      subst (λ (x : ℕ). x / 8 + 8 ≤ clean_in new.log.memory.usage.segments) (sym alters.segments)
-      (subst (λ (c : ℕ). length old.log.memory.usage.segments / 8 + 8 ≤ c) (sym alters.clean) clean)
+      subst (λ (x : ℕ). x / 8 + 8 ≤ new.log.clean) (sym alters.segments)
+      (subst (λ (c : ℕ). old.log.segments / 8 + 8 ≤ c) (sym alters.clean) clean)
 
   pub altered_serves : Behaves state old new call a → (a ≡ Refuse Halted → ⊥) → (acknowledges call a ≡ true → ⊥)
       → ((p : Point) → (state new.log.device).keeps_model → IsAt state old p → (k : CheckpointValue) (m0 m : LogMap)
@@ -230,7 +230,7 @@ module _ {D : Type 0} (state : D → DeviceState) (lawful : (d : D) → IsLawful
   }
 
 -- what is at rest stays so where nothing is gone
-still_at_rest : {D : Type 0} (state : D → DeviceState) (h h' : Held D) → IsKept state h h' → IsAtRest h → IsAtRest h'
+still_at_rest : {D : Type 0} (state : D → DeviceState) (h h' : LogState D) → IsKept state h h' → IsAtRest h → IsAtRest h'
 still_at_rest state h h' kept rest =
     let few = kept.alters.few in
     let many = rest.many in

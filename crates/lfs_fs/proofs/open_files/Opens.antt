@@ -12,7 +12,7 @@ use Rattle.lfs_model.specs.Step.{Step}
 use Rattle.lfs_model.specs.Tree.{Handles, State, is_dir, least_handle, node}
 use Rattle.lfs_model.specs.Walk.{At, Resolve}
 use Rattle.lfs_files.specs.declared.header.Header.{Header}
-use Rattle.lfs_store.specs.log.Held.{Reads}
+use Rattle.lfs_store.specs.log.LogState.{Reads}
 use Rattle.lfs_fs.specs.declared.fs.Fs.{Fs}
 use Rattle.lfs_fs.specs.Seen.{seen}
 use Rattle.lfs_fs.specs.Volume.{IsIn, Mounted, Serves, segments_of}

@@ -13,7 +13,7 @@ use Rattle.lfs_model.proofs.Moments.{goes_on, started}
 use Rattle.lfs_model.proofs.Settled.{settled_stands}
 use Rattle.lfs_store.specs.memory.declared.memory.LogMemory.{LogMemory}
 use Rattle.lfs_store.specs.memory.Present.{Looks}
-use Rattle.lfs_store.specs.log.Held.{Reads}
+use Rattle.lfs_store.specs.log.LogState.{Reads}
 use Rattle.lfs_fs.specs.Volume.{IsStill, IsAt, IsIn, Mounted, Serves, changes_handles, segments_of}
 use Rattle.lfs_fs.proofs.calls.AnyDevice.{ok_refuses_none, opens_behaves}
 use Rattle.lfs_fs.proofs.calls.Drafts.{runs_on}
@@ -43,7 +43,7 @@ module _ {D : Type 0} (state : D → DeviceState) (old new : Mounted D) (lawful 
     still_mid = record { reads = reads; saved = saved; blocks = blocks; others = others; table = refl }
 
     segments_same : segments_of new ≡ segments_of old
-    segments_same = ap (λ (v : LogMemory). length v.usage.segments) reads.memory
+    segments_same = reads.segments
 
     -- what another table makes of a state that the volume is in
     pub record Turns (p : Point) (m : LogMap) : Type 0 where

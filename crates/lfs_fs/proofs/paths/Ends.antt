@@ -1,7 +1,7 @@
 -- A volume whose layers below were only read.
 use Rattle.std.proofs.Common.{◌≡◌, ap}
 use Rattle.lfs_model.specs.Device.{DeviceState}
-use Rattle.lfs_store.specs.log.Held.{Reads}
+use Rattle.lfs_store.specs.log.LogState.{Reads}
 use Rattle.lfs_fs.specs.declared.fs.Fs.{Fs}
 use Rattle.lfs_fs.specs.Seen.{OnlyReads}
 

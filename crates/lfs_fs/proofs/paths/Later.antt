@@ -15,7 +15,7 @@ use Rattle.lfs_files.specs.declared.fault.LogFault.TheVariants as log
 use Rattle.lfs_store.specs.declared.draft.Draft.{Draft}
 use Rattle.lfs_store.specs.memory.Batch.{IsNoChange}
 use Rattle.lfs_store.specs.memory.declared.changes.Changes.{Changes}
-use Rattle.lfs_store.specs.log.Held.{Held, Reads}
+use Rattle.lfs_store.specs.log.LogState.{LogState, Reads}
 use Rattle.lfs_store.proofs.LogReads.{held_still}
 use Rattle.lfs_path.specs.declared.last.Last.{Last}
 use Rattle.lfs_path.specs.declared.walk_fault.WalkFault.{WalkFault}
@@ -36,7 +36,7 @@ use Rattle.lfs_fs.proofs.calls.Exits.{still_in}
 use Rattle.lfs_fs.proofs.paths.Walks.{walk_ends, walked}
 
 -- what is told of a walk that ends refused, from the log before it was read
-module _ {D : Type 0} (state : D → DeviceState) (h h' h'' : Held D) (reads : Reads state h h')
+module _ {D : Type 0} (state : D → DeviceState) (h h' h'' : LogState D) (reads : Reads state h h')
     (c : Changes) (W : Tree → End → Type 0) where
   each_after : (P : LogMap → Type 0) → EachDrafted state h' h'' c P → EachDrafted state h h'' c P
   each_after P all k m0 m keeps holds = all k m0 m keeps (held_still state h h' k m0 m reads holds)

@@ -1,7 +1,7 @@
 -- A volume whose store was read by a call.
 use Rattle.std.proofs.Common.{◌≡◌, false, refl, ◌∙◌, ap}
 use Rattle.lfs_model.specs.Device.{DeviceState, IsLawful}
-use Rattle.lfs_store.specs.log.Held.{Reads}
+use Rattle.lfs_store.specs.log.LogState.{Reads}
 use Rattle.lfs_store.specs.declared.store.Store.{Store}
 use Rattle.lfs_store.specs.log.verify.declared.totals.BlockTotals.{BlockTotals}
 use Rattle.lfs_fs.specs.declared.fs.Fs.{Fs}

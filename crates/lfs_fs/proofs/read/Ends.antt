@@ -57,7 +57,7 @@ module _ {D : Type 0} (state : D → DeviceState) where
   pub begun_space : (old mid : Fs D) → IsLawful (state mid.store.log.device) → Begins old mid → (r : space.Space)
       → r.data_blocks ≡ mid.store.drafted.data_blocks → r.meta_blocks ≡ mid.store.drafted.meta_blocks
       → r.need ≡ mid.store.drafted.data_blocks + 7 * mid.store.drafted.meta_blocks + 720
-      → r.limit ≡ 47 * length mid.store.log.memory.usage.segments → Serves state (seen old) (seen mid) Space (room_of r)
+      → r.limit ≡ 47 * mid.store.log.segments → Serves state (seen old) (seen mid) Space (room_of r)
   begun_space old mid lawful begun r stored above need limit = begun_serves old mid (seen mid) Space (room_of r) begun
       (subst (λ (a : Answer). Serves state (seen mid) (seen mid) Space a) (λ i. Room (stored_is i) (above_is i) (need_is i) (sym limit i))
       (space_serves state (seen mid) (seen mid) lawful (still_none (seen mid)) (begun_running old mid begun) totals_of_tree))

@@ -4,7 +4,7 @@ use Rattle.lfs_model.specs.Call.{Done, Refuse, Sync}
 use Rattle.lfs_model.specs.Device.{DeviceState, IsLawful}
 use Rattle.lfs_files.specs.declared.fault.LogFault.{LogFault}
 use Rattle.lfs_files.specs.declared.fault.LogFault.TheVariants as log
-use Rattle.lfs_store.specs.log.Held.{Halts, IsFull}
+use Rattle.lfs_store.specs.log.LogState.{Halts, IsFull}
 use Rattle.lfs_store.specs.declared.store.Store.{Store}
 use Rattle.lfs_store.specs.log.verify.declared.totals.BlockTotals.{BlockTotals}
 use Rattle.lfs_store.specs.log.Saving.{commit_orders}

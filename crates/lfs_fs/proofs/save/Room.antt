@@ -8,7 +8,7 @@ use Rattle.lfs_model.specs.Tree.{State}
 use Rattle.lfs_model.proofs.Moments.{carries_none}
 use Rattle.lfs_model.proofs.Newest.{newest_fits}
 use Rattle.lfs_store.specs.segments.Table.{clean_in}
-use Rattle.lfs_store.specs.log.Held.{IsFull}
+use Rattle.lfs_store.specs.log.LogState.{IsFull}
 use Rattle.lfs_fs.specs.Volume.{Mounted, Runs, Serves}
 use Rattle.lfs_store.specs.log.Saving.{commit_orders}
 use Rattle.lfs_fs.proofs.calls.AnyDevice.{sync_bounded, tells_none, write_behaves}
@@ -23,11 +23,11 @@ module _ {D : Type 0} (state : D → DeviceState) (v : Mounted D) (lawful : IsLa
       let ready = r.is.ready unsaved in
       let clean = ready.0 in
       let low = ready.1 in
-      let count : IsSegmentCount (length v.log.memory.usage.segments) = subst IsSegmentCount (sym same) fits.held.fits.segments in
+      let count : IsSegmentCount v.log.segments = subst IsSegmentCount (sym same) fits.held.fits.segments in
       let eighths = count.eighths in
       let most = count.most in
       ⊎_elim
-      (λ (few : 8 * clean_in v.log.memory.usage.segments < length v.log.memory.usage.segments + 64). omega (arith, eighths, clean, few))
+      (λ (few : 8 * v.log.clean < v.log.segments + 64). omega (arith, eighths, clean, few))
       (λ (high : 2 ^ 64 - 1 ≤ v.log.number). omega (arith, low, high, most))
       full
 

@@ -31,7 +31,7 @@ use Rattle.lfs_files.specs.declared.fault.StoreFault.{StoreFault}
 use Rattle.lfs_files.specs.declared.fault.StoreFault.TheVariants as store
 use Rattle.lfs_store.specs.declared.draft.Draft.{Draft}
 use Rattle.lfs_store.specs.declared.store.Store.{Store}
-use Rattle.lfs_store.specs.log.Held.{Held}
+use Rattle.lfs_store.specs.log.LogState.{LogState}
 use Rattle.lfs_store.specs.log.verify.declared.totals.BlockTotals.{BlockTotals}
 use Rattle.lfs_store.specs.memory.declared.batch.Loss.{Loss}
 use Rattle.lfs_store.specs.memory.Batch.{FitsBatch, IsNoChange, is_lost, staged}
@@ -220,7 +220,7 @@ module _ {D : Type 0} (state : D → DeviceState) (lawful : (d : D) → IsLawful
     undrafted (store.Log log.Full) failed halted other = absurd (other refl)
     undrafted (store.Log log.Device) failed halted other =
         failed_serves state v (seen left) (Widen path) (lawful v.log.device) still_left was refl (λ k m0 m s keeps is.
-        let keeps_tried : (state tried.log.device).keeps_model = subst (λ (h : Held D). (state h.device).keeps_model) same_log keeps in
+        let keeps_tried : (state tried.log.device).keeps_model = subst (λ (h : LogState D). (state h.device).keeps_model) same_log keeps in
         let before = redrafts.looks.carries.kept_before keeps_tried in
         let there = narrow.there k m0 m s before is in
         let shaped = shape_of_volume state v k m0 m s is in
@@ -231,7 +231,7 @@ module _ {D : Type 0} (state : D → DeviceState) (lawful : (d : D) → IsLawful
           draft = sym (draft_empty a.store.draft.changes m narrow.whole.empty).0;
         } (shaped.directories n (as_header head) there narrow.directory) in
         let first = narrow.whole.still.reads.looks.carries.failures in
-        let same = ap (λ (h : Held D). (state h.device).failures) same_log in
+        let same = ap (λ (h : LogState D). (state h.device).failures) same_log in
         omega (arith, rose, first, same))
 
     pub widen_given_up : (fault : StoreFault)

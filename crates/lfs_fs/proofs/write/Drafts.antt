@@ -37,7 +37,7 @@ use Rattle.lfs_fs.proofs.volume.Headers.{file_fits}
 use Rattle.lfs_fs.proofs.volume.Map.{headers_of_volume, map_of_volume, shape_of_volume}
 use Rattle.lfs_fs.proofs.write.Lengths.{shortened_shape, shortened_map}
 use Rattle.lfs_fs.proofs.write.Ends.{opened_in, still_more, AreDrafts, draft_ends}
-use Rattle.lfs_store.specs.log.Held.{Holds}
+use Rattle.lfs_store.specs.log.LogState.{Holds}
 use Rattle.lfs_fs.proofs.open_files.Steps.{cut_all_done, shortened, written}
 use Rattle.lfs_model.specs.Step.{with_tree}
 use Rattle.lfs_fs.proofs.write.Bytes.{written_log}

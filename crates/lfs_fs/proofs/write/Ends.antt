@@ -20,7 +20,7 @@ use Rattle.lfs_store.specs.memory.declared.memory.LogMemory.{LogMemory}
 use Rattle.lfs_store.specs.memory.Batch.{FitsBatch, IsNoChange, staged}
 use Rattle.lfs_store.specs.segments.Table.{clean_in}
 use Rattle.lfs_store.specs.cleaner.Room.{HaltsLater, room_orders}
-use Rattle.lfs_store.specs.log.Held.{Held, Holds, IsReadFault, Reads}
+use Rattle.lfs_store.specs.log.LogState.{LogState, Holds, IsReadFault, Reads}
 use Rattle.lfs_files.specs.declared.fault.StoreFault.{StoreFault}
 use Rattle.lfs_files.specs.declared.fault.StoreFault.TheVariants as store
 use Rattle.lfs_store.specs.declared.store.Store.{Store}
@@ -80,9 +80,9 @@ turned_down state old new (store.Log log.Halted) e is was young totals tells ful
 module _ {D : Type 0} (state : D → DeviceState) (lawful : (d : D) → IsLawful (state d)) where
   -- ---- reads come before the draft is staged
 
-  module _ (a b : Held D) (reads : Reads state a b) where
-    same_segments : length b.memory.usage.segments ≡ length a.memory.usage.segments
-    same_segments = ap (λ (v : LogMemory). length v.usage.segments) reads.memory
+  module _ (a b : LogState D) (reads : Reads state a b) where
+    same_segments : b.segments ≡ a.segments
+    same_segments = reads.segments
 
     quiet_reads : (k : CheckpointValue) (m0 m : LogMap) → Holds state a k m0 m
         → LeavesOnly (state a.device) (state b.device) (StandsForOn k.segments m0 (dropped m))
@@ -100,11 +100,11 @@ module _ {D : Type 0} (state : D → DeviceState) (lawful : (d : D) → IsLawful
     stores_read : (saved : Bool) (k : CheckpointValue) (m0 m : LogMap) → Stores state a saved k m0 m → Stores state b saved k m0 m
     stores_read saved k m0 m stores = stores_still state a b saved k m0 m reads stores
 
-    module _ (h : Held D) where
+    module _ (h : LogState D) where
       -- what is told after the reads is told after what was before them
       pub tells_after : TellsFew state b h → TellsFew state a h
       tells_after tells = record {
-        room = told_before (room_orders (length a.memory.usage.segments))
+        room = told_before (room_orders a.segments)
             (subst (λ (n : ℕ). TellsAtMost state b h (room_orders n)) same_segments tells.room);
         one_commit = λ clean. told_before commit_orders (tells.one_commit
             (subst (λ (v : LogMemory). length v.usage.segments / 8 + 16 ≤ clean_in v.usage.segments) (sym reads.memory) clean));
@@ -252,10 +252,10 @@ module _ {D : Type 0} (state : D → DeviceState) (lawful : (d : D) → IsLawful
       (same_saved : gone.log.saved ≡ tried.log.saved) where
     still_gone : IsStill state (seen mid) (seen record { alloc = mid.alloc; store = gone; handles = mid.handles })
     still_gone = record {
-      reads = subst (λ (x : Held D). Reads state mid.store.log x) (sym same_log) reads;
+      reads = subst (λ (x : LogState D). Reads state mid.store.log x) (sym same_log) reads;
       saved = same_saved ∙ saved;
-      blocks = ap (λ (t : BlockTotals). t.data_blocks) (ap (λ (h : Held D). h.totals) same_log ∙ reads.totals);
-      others = ap (λ (t : BlockTotals). t.meta_blocks) (ap (λ (h : Held D). h.totals) same_log ∙ reads.totals);
+      blocks = ap (λ (t : BlockTotals). t.data_blocks) (ap (λ (h : LogState D). h.totals) same_log ∙ reads.totals);
+      others = ap (λ (t : BlockTotals). t.meta_blocks) (ap (λ (h : LogState D). h.totals) same_log ∙ reads.totals);
       table = refl;
     }
 
@@ -270,7 +270,7 @@ module _ {D : Type 0} (state : D → DeviceState) (lawful : (d : D) → IsLawful
         (undrafted_serves (seen old) (seen record { alloc = mid.alloc; store = gone; handles = mid.handles }) call was
         (still_more (seen old) (seen mid) (seen record { alloc = mid.alloc; store = gone; handles = mid.handles }) still still_gone) free
         takes fault
-        (λ device. subst (λ (x : Held D). IsReadFault state old.store.log x) (sym same_log)
+        (λ device. subst (λ (x : LogState D). IsReadFault state old.store.log x) (sym same_log)
         (fault_more state old.store.log mid.store.log tried.log still.reads (failed device)))
         (λ on. sym still.reads.halted ∙ halted on) other)
 

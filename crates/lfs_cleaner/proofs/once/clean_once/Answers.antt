@@ -1,6 +1,6 @@
 use Rattle.std.proofs.Common.{rules, ◌≡◌, ◌≤◌, ◌+◌, inr, length, false, refl, sym, ◌∙◌, subst, arith}
 use Rattle.std.specs.Prelude.{Err, OnOk}
-use Rattle.lfs_log.specs.Held.{Held}
+use Rattle.lfs_log.specs.LogState.{LogState}
 use Rattle.lfs_log.specs.Saving.{pass_orders}
 use Rattle.lfs_cleaner.specs.Room.{PassesWhereDue}
 use Rattle.lfs_cleaner.proofs.Onces.{keeps_due, once_behind, once_told}
@@ -56,7 +56,7 @@ returns-clause-done g c =
 
 pub returns-clause-alone : goal.returns-clause-alone
 returns-clause-alone g c all =
-    subst (λ (h : Held g.row.D.Denot). OnOk c.pass_where_due.result (PassesWhereDue g.D.SectorDevice.state h c.pass_where_due.new.log))
+    subst (λ (h : LogState g.row.D.Denot). OnOk c.pass_where_due.result (PassesWhereDue g.D.SectorDevice.state h c.pass_where_due.new.log))
     (c.commit_unsaved.ensures.quiet all)
     c.pass_where_due.ensures.done
 
@@ -83,11 +83,11 @@ returns-clause-told g c =
     once_told (length (g.D.SectorDevice.state c.args.log.now.device).told)
     (length (g.D.SectorDevice.state c.commit_unsaved.new.log.device).told)
     (length (g.D.SectorDevice.state c.pass_where_due.new.log.device).told)
-    (length c.args.log.now.memory.usage.segments) (length c.commit_unsaved.new.log.memory.usage.segments)
+    c.args.log.now.segments c.commit_unsaved.new.log.segments
     c.in-Ok.ensures.done.keeps.segments c.commit_unsaved.ensures.told c.pass_where_due.ensures.told
 
 pub returns-clause-saved : goal.returns-clause-saved
 returns-clause-saved g c all =
-    subst (λ (h : Held g.row.D.Denot). length (g.D.SectorDevice.state c.pass_where_due.new.log.device).told
-    ≤ length (g.D.SectorDevice.state h.device).told + pass_orders (length h.memory.usage.segments))
+    subst (λ (h : LogState g.row.D.Denot). length (g.D.SectorDevice.state c.pass_where_due.new.log.device).told
+    ≤ length (g.D.SectorDevice.state h.device).told + pass_orders h.segments)
     (c.commit_unsaved.ensures.quiet all) c.pass_where_due.ensures.told

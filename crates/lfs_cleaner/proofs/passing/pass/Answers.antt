@@ -24,14 +24,14 @@ returns-in_default-clause-full g c is = record {
 pub returns-clause-done : goal.returns-clause-done
 returns-clause-done g c =
     let h = c.args.log.now in
-    let limit : c.most_victims-most.result ≡ pass_limit h.memory.usage = c.most_victims-most.ensures ∙ ap pass_limit c.usage.ensures in
+    let limit : c.most_victims-most.result ≡ pass_limit h.usage = c.most_victims-most.ensures ∙ ap pass_limit c.usage.ensures in
     ok_then c.clean.result _ _ (λ cleans. record {
       victims = c.as_slice.result.now;
-      gain = carried (λ t a m x vs. AreVictims t a m vs) c.usage-2.result.now h.memory.usage c.meta.result h.totals.meta_blocks
-          c.most_victims-most.result (pass_limit h.memory.usage) c.number.result h.number _ c.as_slice.result.now
+      gain = carried (λ t a m x vs. AreVictims t a m vs) c.usage-2.result.now h.usage c.meta.result h.totals.meta_blocks
+          c.most_victims-most.result (pass_limit h.usage) c.number.result h.number _ c.as_slice.result.now
           c.usage-2.ensures c.meta.ensures limit c.number.ensures (sym c.as_slice.ensures.value) c.in-Some.ensures.some;
-      choice = carried (λ t a m x vs. IsChosen t a m x vs) c.usage-2.result.now h.memory.usage c.meta.result h.totals.meta_blocks
-          c.most_victims-most.result (pass_limit h.memory.usage) c.number.result h.number _ c.as_slice.result.now
+      choice = carried (λ t a m x vs. IsChosen t a m x vs) c.usage-2.result.now h.usage c.meta.result h.totals.meta_blocks
+          c.most_victims-most.result (pass_limit h.usage) c.number.result h.number _ c.as_slice.result.now
           c.usage-2.ensures c.meta.ensures limit c.number.ensures (sym c.as_slice.ensures.value) c.in-Some.ensures.choice;
       cleans = cleans;
     }) c.clean.ensures.done

@@ -1,6 +1,6 @@
 use Rattle.std.proofs.Common.{rules, ◌≡◌, length, false, sym, ◌∙◌, ap, arith}
 use Rattle.std.specs.Prelude.{Err}
-use Rattle.lfs_log.specs.Held.{Held}
+use Rattle.lfs_log.specs.LogState.{LogState}
 use Rattle.lfs_cleaner.proofs.RoomBounds.{fails_after, halts_after, halts_first, lacks_after, lacks_commit, on_success, passes_told}
 use Rattle.lfs_cleaner.proofs.RoomBounds.{quarter_after, quarter_none, room_told, full_else}
 use Rattle.lfs_cleaner.proofs.room.make_room.Goals as goal
@@ -64,13 +64,13 @@ returns-clause-told g c =
     room_told (length (g.D.SectorDevice.state c.args.log.now.device).told)
     (length (g.D.SectorDevice.state c.commit_unsaved.new.log.device).told)
     (length (g.D.SectorDevice.state c.pass_until_quarter.new.log.device).told)
-    (length c.args.log.now.memory.usage.segments) (length c.commit_unsaved.new.log.memory.usage.segments)
+    c.args.log.now.segments c.commit_unsaved.new.log.segments
     c.in-Ok.ensures.done.keeps.segments c.commit_unsaved.ensures.told c.pass_until_quarter.ensures.told
 
 pub returns-clause-passes : goal.returns-clause-passes
 returns-clause-passes g c all =
     passes_told (g.D.SectorDevice.state c.args.log.now.device).told (g.D.SectorDevice.state c.commit_unsaved.new.log.device).told
     (length (g.D.SectorDevice.state c.pass_until_quarter.new.log.device).told)
-    (length c.args.log.now.memory.usage.segments) (length c.commit_unsaved.new.log.memory.usage.segments)
-    c.in-Ok.ensures.done.keeps.segments (ap (λ (h : Held g.row.D.Denot). (g.D.SectorDevice.state h.device).told)
+    c.args.log.now.segments c.commit_unsaved.new.log.segments
+    c.in-Ok.ensures.done.keeps.segments (ap (λ (h : LogState g.row.D.Denot). (g.D.SectorDevice.state h.device).told)
     (c.commit_unsaved.ensures.quiet all)) c.pass_until_quarter.ensures.told

@@ -15,7 +15,7 @@ returns-in-Err-clause-full g c is =
     let lt = c.loop-test.true in
     let most = c.most_passes-most.ensures in
     let size = ap (λ (t : UsageTable). length t.segments) c.usage.ensures in
-    let le : c.loop.counter < length c.args.log.now.memory.usage.segments / 8 = omega (arith, lt, most, size) in
+    let le : c.loop.counter < c.args.log.now.segments / 8 = omega (arith, lt, most, size) in
     let refuses = c.in-Err.ensures.full (search rules) in
     let reads = keeps_reads g.D.SectorDevice.state c.loop.log c.pass.new.log (g.met.D.SectorDevice.lawful c.loop.log.device) done.running
     refuses.reads in record {
@@ -35,7 +35,7 @@ returns-in-Err-clause-device g c is =
     let lt = c.loop-test.true in
     let most = c.most_passes-most.ensures in
     let size = ap (λ (t : UsageTable). length t.segments) c.usage.ensures in
-    let le : c.loop.counter + 0 ≤ length c.args.log.now.memory.usage.segments / 8 = omega (arith, lt, most, size) in
+    let le : c.loop.counter + 0 ≤ c.args.log.now.segments / 8 = omega (arith, lt, most, size) in
     let fails = c.in-Err.ensures.device (search rules) in
     let reads = keeps_reads g.D.SectorDevice.state c.loop.log c.pass.new.log (g.met.D.SectorDevice.lawful c.loop.log.device) done.running
     fails.reads in record {
@@ -51,7 +51,7 @@ returns-in-Err-clause-halted g c is =
     let lt = c.loop-test.true in
     let most = c.most_passes-most.ensures in
     let size = ap (λ (t : UsageTable). length t.segments) c.usage.ensures in
-    let le : c.loop.counter + 0 ≤ length c.args.log.now.memory.usage.segments / 8 = omega (arith, lt, most, size) in
+    let le : c.loop.counter + 0 ≤ c.args.log.now.segments / 8 = omega (arith, lt, most, size) in
     let running : c.loop.log.halted ≡ false = done.running in
     let halts = c.in-Err.ensures.halted (search rules) (λ (is : c.loop.log.halted ≡ true). absurd (cc)) in
     halts_weaker g.D.SectorDevice.state c.args.log.now c.pass.new.log (c.loop.counter + 0) _
@@ -74,7 +74,7 @@ returns-clause-full g c is =
     let high = c.loop.auto.counter-end in
     let most = c.most_passes-most.ensures in
     let size = ap (λ (t : UsageTable). length t.segments) c.usage.ensures in
-    let all : c.loop.counter ≡ length c.args.log.now.memory.usage.segments / 8 = omega (arith, low, high, most, size) in record {
+    let all : c.loop.counter ≡ c.args.log.now.segments / 8 = omega (arith, low, high, most, size) in record {
       keeps = keeps_weaker g.D.SectorDevice.state c.args.log.now c.loop.log c.loop.counter _ c.loop.invariant.repeats.keeps
           (omega (arith, all));
       never = λ k m0 m keeps may.
@@ -98,10 +98,10 @@ returns-in-Err-clause-told g c =
     let most = c.most_passes-most.ensures in
     let size = ap (λ (t : UsageTable). length t.segments) c.usage.ensures in
     passes_most (length (g.D.SectorDevice.state c.args.log.now.device).told) (length (g.D.SectorDevice.state c.pass.new.log.device).told)
-    (c.loop.counter + 1) _ (pass_orders (length c.args.log.now.memory.usage.segments)) (omega (arith, lt, most, size))
+    (c.loop.counter + 1) _ (pass_orders c.args.log.now.segments) (omega (arith, lt, most, size))
     (pass_more (length (g.D.SectorDevice.state c.args.log.now.device).told) (length (g.D.SectorDevice.state c.loop.log.device).told)
-    (length (g.D.SectorDevice.state c.pass.new.log.device).told) c.loop.counter (length c.args.log.now.memory.usage.segments)
-    (length c.loop.log.memory.usage.segments) c.loop.invariant.repeats.keeps.segments c.loop.invariant.told c.pass.ensures.told)
+    (length (g.D.SectorDevice.state c.pass.new.log.device).told) c.loop.counter c.args.log.now.segments
+    c.loop.log.segments c.loop.invariant.repeats.keeps.segments c.loop.invariant.told c.pass.ensures.told)
 
 pub returns-then-has_quarter-clause-told : goal.returns-then-has_quarter-clause-told
 returns-then-has_quarter-clause-told g c =
@@ -109,7 +109,7 @@ returns-then-has_quarter-clause-told g c =
     let most = c.most_passes-most.ensures in
     let size = ap (λ (t : UsageTable). length t.segments) c.usage.ensures in
     passes_most (length (g.D.SectorDevice.state c.args.log.now.device).told) (length (g.D.SectorDevice.state c.loop.log.device).told)
-    c.loop.counter _ (pass_orders (length c.args.log.now.memory.usage.segments)) (omega (arith, lt, most, size)) c.loop.invariant.told
+    c.loop.counter _ (pass_orders c.args.log.now.segments) (omega (arith, lt, most, size)) c.loop.invariant.told
 
 pub returns-then-has_quarter-2-clause-told : goal.returns-then-has_quarter-2-clause-told
 returns-then-has_quarter-2-clause-told g c =
@@ -117,7 +117,7 @@ returns-then-has_quarter-2-clause-told g c =
     let most = c.most_passes-most.ensures in
     let size = ap (λ (t : UsageTable). length t.segments) c.usage.ensures in
     passes_most (length (g.D.SectorDevice.state c.args.log.now.device).told) (length (g.D.SectorDevice.state c.loop.log.device).told)
-    c.loop.counter _ (pass_orders (length c.args.log.now.memory.usage.segments)) (omega (arith, high, most, size)) c.loop.invariant.told
+    c.loop.counter _ (pass_orders c.args.log.now.segments) (omega (arith, high, most, size)) c.loop.invariant.told
 
 pub returns-clause-told : goal.returns-clause-told
 returns-clause-told g c =
@@ -125,4 +125,4 @@ returns-clause-told g c =
     let most = c.most_passes-most.ensures in
     let size = ap (λ (t : UsageTable). length t.segments) c.usage.ensures in
     passes_most (length (g.D.SectorDevice.state c.args.log.now.device).told) (length (g.D.SectorDevice.state c.loop.log.device).told)
-    c.loop.counter _ (pass_orders (length c.args.log.now.memory.usage.segments)) (omega (arith, high, most, size)) c.loop.invariant.told
+    c.loop.counter _ (pass_orders c.args.log.now.segments) (omega (arith, high, most, size)) c.loop.invariant.told

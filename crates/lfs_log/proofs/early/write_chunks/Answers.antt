@@ -40,8 +40,11 @@ pub loop-memory-preserved : goal.loop-memory-preserved
 loop-memory-preserved g c =
     let done = c.in_ok-write_chunk.ensures in
     let goes = done.done in
+    let exceeds = c.exceeds_reserve.ensures.yes (search rules) in
+    let segments = c.segments.ensures in
+    let clean = c.clean.ensures in
     let above : reserve_of (length c.loop-memory.memory.usage.segments) < clean_in c.loop-memory.memory.usage.segments =
-    c.exceeds_reserve.ensures.yes (search rules) in
+    omega (arith, exceeds, segments, clean) in
     let full : full_chunk ≤ data_count c.loop-memory.memory.dirty = c.has_data.ensures.yes (search rules) in
     let taken = done.taken in
     let size = goes.segments in

@@ -1,6 +1,6 @@
 use Rattle.std.specs.Prelude.{Result, IfErr}
 use Rattle.std.proofs.Common.{◌+◌, ◌≡◌, ◌≤◌, ℕ, subst, arith}
-use Rattle.lfs_cleaner.specs.log.Held.{IsReadFault}
+use Rattle.lfs_cleaner.specs.log.LogState.{IsReadFault}
 use Rattle.lfs_files.specs.declared.fault.StoreFault.{StoreFault}
 use Rattle.lfs_files.specs.declared.fault.StoreFault.TheVariants.{NoMemory}
 use Rattle.lfs_store.proofs.Endings.{same_exit}

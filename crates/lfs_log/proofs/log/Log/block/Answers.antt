@@ -1,6 +1,7 @@
 use Rattle.std.proofs.Common.{Bool, subst}
 use Rattle.lfs_log.specs.Versions.{number_of}
-use Rattle.lfs_log.specs.Held.{Held, ReadsBlock, ReadsLog}
+use Rattle.lfs_log.specs.LogState.{ReadsBlock, ReadsLog, LogState}
+use Rattle.lfs_log.specs.Held.{Held, seen}
 use Rattle.lfs_log.proofs.log.Log.block.Goals as goal
 use Rattle.lfs_log.proofs.Volumes.{device_fails, reads_block, looked_fails}
 
@@ -16,8 +17,8 @@ returns-in_default-clause-keeps g c =
       halted = c.self.inside.halted;
       totals = c.self.inside.totals;
     } in
-    subst (λ (h : Held g.row.D.Denot).
-    ReadsLog g.D.SectorDevice.state h (record before { device = c.read_block.new.device }) (device_fails Bool))
+    subst (λ (h : LogState g.row.D.Denot).
+    ReadsLog g.D.SectorDevice.state h (seen (record before { device = c.read_block.new.device })) (device_fails Bool))
     c.self.view_is
     (looked_fails g.D.SectorDevice.state before c.read_block.new.device c.read_block.ensures.looks.looks Bool
     c.in_default.ensures.looks.failed)
@@ -44,6 +45,6 @@ returns-clause-answer g c =
       halted = c.self.inside.halted;
       totals = c.self.inside.totals;
     } in
-    subst (λ (h : Held g.row.D.Denot).
-    ReadsBlock g.D.SectorDevice.state h after c.args.number c.args.index c.read_block.new.out c.in-Ok.stored) c.self.view_is
+    subst (λ (h : LogState g.row.D.Denot).
+    ReadsBlock g.D.SectorDevice.state h (seen after) c.args.number c.args.index c.read_block.new.out c.in-Ok.stored) c.self.view_is
     (reads_block g.D.SectorDevice.state before after c.args.number c.args.index c.read_block.new.out c.in-Ok.stored c.in-Ok.ensures.answer)

@@ -1,6 +1,7 @@
 use Rattle.std.proofs.Common.{◌+◌, true, false, refl, subst}
 use Rattle.lfs_log.specs.Versions.{number_of}
-use Rattle.lfs_log.specs.Held.{Held, Saves, Halts}
+use Rattle.lfs_log.specs.LogState.{Saves, Halts, LogState}
+use Rattle.lfs_log.specs.Held.{Held, seen}
 use Rattle.lfs_log.proofs.log.Log.commit.Goals as goal
 use Rattle.lfs_log.proofs.Volumes.{saves, halts}
 
@@ -27,7 +28,7 @@ returns-in-Ok-clause-done g c =
       halted = c.self.inside.halted;
       totals = c.self.inside.totals;
     } in
-    subst (λ (h : Held g.row.D.Denot). Saves g.D.SectorDevice.state h after) c.self.view_is
+    subst (λ (h : LogState g.row.D.Denot). Saves g.D.SectorDevice.state h (seen after)) c.self.view_is
     (saves g.D.SectorDevice.state before after (c.self.invariant.0 c.if-self.false).running.few c.in-Ok.ensures.done refl refl refl refl
     c.if-self.false)
 
@@ -54,5 +55,5 @@ returns-in-Err-clause-halted g c is ne =
       halted = true;
       totals = c.self.inside.totals;
     } in
-    subst (λ (h : Held g.row.D.Denot). Halts g.D.SectorDevice.state h after) c.self.view_is
+    subst (λ (h : LogState g.row.D.Denot). Halts g.D.SectorDevice.state h (seen after)) c.self.view_is
     (halts g.D.SectorDevice.state before after c.in-Err.ensures.stopped refl refl refl)

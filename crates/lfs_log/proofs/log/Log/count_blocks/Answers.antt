@@ -1,6 +1,7 @@
 use Rattle.std.proofs.Common.{ℕ, subst}
 use Rattle.lfs_log.specs.Versions.{number_of}
-use Rattle.lfs_log.specs.Held.{Held, CountsBlocks, ReadsLog}
+use Rattle.lfs_log.specs.LogState.{CountsBlocks, ReadsLog, LogState}
+use Rattle.lfs_log.specs.Held.{Held, seen}
 use Rattle.lfs_log.proofs.log.Log.count_blocks.Goals as goal
 use Rattle.lfs_log.proofs.StoredBlocks.{counts_blocks}
 use Rattle.lfs_log.proofs.Volumes.{device_fails, looked_fails}
@@ -17,8 +18,8 @@ returns-in_default-clause-keeps g c =
       halted = c.self.inside.halted;
       totals = c.self.inside.totals;
     } in
-    subst (λ (h : Held g.row.D.Denot).
-    ReadsLog g.D.SectorDevice.state h (record before { device = c.count_blocks.new.device }) (device_fails ℕ))
+    subst (λ (h : LogState g.row.D.Denot).
+    ReadsLog g.D.SectorDevice.state h (seen (record before { device = c.count_blocks.new.device })) (device_fails ℕ))
     c.self.view_is
     (looked_fails g.D.SectorDevice.state before c.count_blocks.new.device c.count_blocks.ensures.looks.looks ℕ
     c.in_default.ensures.looks.failed)
@@ -45,6 +46,6 @@ returns-clause-answer g c =
       halted = c.self.inside.halted;
       totals = c.self.inside.totals;
     } in
-    subst (λ (h : Held g.row.D.Denot). CountsBlocks g.D.SectorDevice.state h after c.args.number c.args.from c.args.to c.in-Ok.count)
+    subst (λ (h : LogState g.row.D.Denot). CountsBlocks g.D.SectorDevice.state h (seen after) c.args.number c.args.from c.args.to c.in-Ok.count)
     c.self.view_is
     (counts_blocks g.D.SectorDevice.state before after c.args.number c.args.from c.args.to c.in-Ok.count c.in-Ok.ensures.answer)

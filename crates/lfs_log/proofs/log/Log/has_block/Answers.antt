@@ -1,7 +1,8 @@
 use Rattle.std.proofs.Common.{Bool, subst, ◌==◌}
 use Rattle.std.specs.Prelude.{not}
 use Rattle.lfs_log.specs.Versions.{number_of}
-use Rattle.lfs_log.specs.Held.{Held, TellsBlock, ReadsLog}
+use Rattle.lfs_log.specs.LogState.{TellsBlock, ReadsLog, LogState}
+use Rattle.lfs_log.specs.Held.{Held, seen}
 use Rattle.lfs_log.proofs.log.Log.has_block.Goals as goal
 use Rattle.lfs_log.proofs.StoredBlocks.{tells_block}
 use Rattle.lfs_log.proofs.Volumes.{device_fails, looked_fails}
@@ -18,8 +19,8 @@ returns-in_default-clause-keeps g c =
       halted = c.self.inside.halted;
       totals = c.self.inside.totals;
     } in
-    subst (λ (h : Held g.row.D.Denot).
-    ReadsLog g.D.SectorDevice.state h (record before { device = c.find_block.new.device }) (device_fails Bool))
+    subst (λ (h : LogState g.row.D.Denot).
+    ReadsLog g.D.SectorDevice.state h (seen (record before { device = c.find_block.new.device })) (device_fails Bool))
     c.self.view_is
     (looked_fails g.D.SectorDevice.state before c.find_block.new.device c.find_block.ensures.looks.looks Bool
     c.in_default.ensures.looks.failed)
@@ -46,6 +47,6 @@ returns-clause-answer g c =
       halted = c.self.inside.halted;
       totals = c.self.inside.totals;
     } in
-    subst (λ (h : Held g.row.D.Denot). TellsBlock g.D.SectorDevice.state h after c.args.number c.args.index (not (c.in-Ok.address == 0)))
+    subst (λ (h : LogState g.row.D.Denot). TellsBlock g.D.SectorDevice.state h (seen after) c.args.number c.args.index (not (c.in-Ok.address == 0)))
     c.self.view_is
     (tells_block g.D.SectorDevice.state before after c.args.number c.args.index c.in-Ok.address c.in-Ok.ensures.answer)

@@ -1,7 +1,8 @@
 use Rattle.std.proofs.Common.{Bool, subst, ◌==◌}
 use Rattle.std.specs.Prelude.{not}
 use Rattle.lfs_log.specs.Versions.{number_of}
-use Rattle.lfs_log.specs.Held.{Held, TellsLeaf, ReadsLog}
+use Rattle.lfs_log.specs.LogState.{TellsLeaf, ReadsLog, LogState}
+use Rattle.lfs_log.specs.Held.{Held, seen}
 use Rattle.lfs_log.proofs.KeptRuns.{kept_still}
 use Rattle.lfs_log.proofs.log.Log.has_leaf.Goals as goal
 use Rattle.lfs_log.proofs.StoredBlocks.{tells_leaf}
@@ -19,8 +20,8 @@ returns-in_default-clause-keeps g c =
       halted = c.self.inside.halted;
       totals = c.self.inside.totals;
     } in
-    subst (λ (h : Held g.row.D.Denot).
-    ReadsLog g.D.SectorDevice.state h (record before { device = c.locate_leaf.new.device }) (device_fails Bool))
+    subst (λ (h : LogState g.row.D.Denot).
+    ReadsLog g.D.SectorDevice.state h (seen (record before { device = c.locate_leaf.new.device })) (device_fails Bool))
     c.self.view_is
     (looked_fails g.D.SectorDevice.state before c.locate_leaf.new.device c.locate_leaf.ensures.looks.looks Bool
     c.in_default.ensures.looks.failed)
@@ -47,7 +48,7 @@ returns-clause-answer g c =
       halted = c.self.inside.halted;
       totals = c.self.inside.totals;
     } in
-    subst (λ (h : Held g.row.D.Denot). TellsLeaf g.D.SectorDevice.state h after c.args.number c.args.leaf (not (c.in-Ok.address == 0)))
+    subst (λ (h : LogState g.row.D.Denot). TellsLeaf g.D.SectorDevice.state h (seen after) c.args.number c.args.leaf (not (c.in-Ok.address == 0)))
     c.self.view_is
     (tells_leaf g.D.SectorDevice.state before after c.args.number c.args.leaf c.in-Ok.address c.in-Ok.ensures.answer)
 

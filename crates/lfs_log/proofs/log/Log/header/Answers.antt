@@ -1,7 +1,8 @@
 use Rattle.std.proofs.Common.{Option, subst}
 use Rattle.lfs_memory.specs.files.declared.header.Header.{Header}
 use Rattle.lfs_log.specs.Versions.{number_of}
-use Rattle.lfs_log.specs.Held.{Held, ReadsHeader, ReadsLog}
+use Rattle.lfs_log.specs.LogState.{ReadsHeader, ReadsLog, LogState}
+use Rattle.lfs_log.specs.Held.{Held, seen}
 use Rattle.lfs_log.proofs.KeptRuns.{kept_still}
 use Rattle.lfs_log.proofs.log.Log.header.Goals as goal
 use Rattle.lfs_log.proofs.Volumes.{device_fails, reads_header, looked_fails}
@@ -18,8 +19,8 @@ returns-in_default-clause-keeps g c =
       halted = c.self.inside.halted;
       totals = c.self.inside.totals;
     } in
-    subst (λ (h : Held g.row.D.Denot).
-    ReadsLog g.D.SectorDevice.state h (record before { device = c.read_header.new.device }) (device_fails (Option Header)))
+    subst (λ (h : LogState g.row.D.Denot).
+    ReadsLog g.D.SectorDevice.state h (seen (record before { device = c.read_header.new.device })) (device_fails (Option Header)))
     c.self.view_is
     (looked_fails g.D.SectorDevice.state before c.read_header.new.device c.read_header.ensures.looks.looks
     (Option Header) c.in_default.ensures.looks.failed)
@@ -46,7 +47,7 @@ returns-clause-answer g c =
       halted = c.self.inside.halted;
       totals = c.self.inside.totals;
     } in
-    subst (λ (h : Held g.row.D.Denot). ReadsHeader g.D.SectorDevice.state h after c.args.number c.in-Ok.header) c.self.view_is
+    subst (λ (h : LogState g.row.D.Denot). ReadsHeader g.D.SectorDevice.state h (seen after) c.args.number c.in-Ok.header) c.self.view_is
     (reads_header g.D.SectorDevice.state before after c.args.number c.in-Ok.header c.in-Ok.ensures.answer)
 
 pub invariant_of-self : goal.invariant_of-self

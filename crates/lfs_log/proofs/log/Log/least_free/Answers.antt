@@ -1,6 +1,7 @@
 use Rattle.std.proofs.Common.{subst}
 use Rattle.lfs_log.specs.Versions.{number_of}
-use Rattle.lfs_log.specs.Held.{Held, IsVacant, HasAll}
+use Rattle.lfs_log.specs.LogState.{IsVacant, HasAll, LogState}
+use Rattle.lfs_log.specs.Held.{Held}
 use Rattle.lfs_memory.proofs.Going.{some_then, none_then}
 use Rattle.lfs_log.proofs.Volumes.{is_vacant, has_all}
 use Rattle.lfs_log.proofs.log.Log.least_free.Goals as goal
@@ -18,7 +19,7 @@ returns-clause-some g c =
       totals = c.self.inside.totals;
     } in
     some_then c.least_free.result _ _
-    (λ n free. subst (λ (h : Held g.row.D.Denot). IsVacant g.D.SectorDevice.state h n) c.self.view_is
+    (λ n free. subst (λ (h : LogState g.row.D.Denot). IsVacant g.D.SectorDevice.state h n) c.self.view_is
     (is_vacant g.D.SectorDevice.state held n free)) c.least_free.ensures.some
 
 pub returns-clause-none : goal.returns-clause-none
@@ -34,5 +35,5 @@ returns-clause-none g c =
       totals = c.self.inside.totals;
     } in
     none_then c.least_free.result _ _
-    (λ all. subst (λ (h : Held g.row.D.Denot). HasAll g.D.SectorDevice.state h) c.self.view_is (has_all g.D.SectorDevice.state held all))
+    (λ all. subst (λ (h : LogState g.row.D.Denot). HasAll g.D.SectorDevice.state h) c.self.view_is (has_all g.D.SectorDevice.state held all))
     c.least_free.ensures.none

@@ -1,6 +1,7 @@
 use Rattle.std.proofs.Common.{◌&&◌, Bool, ap, refl, subst}
 use Rattle.lfs_log.specs.Versions.{number_of}
-use Rattle.lfs_log.specs.Held.{Held, IsReadFault, IsRemoved, IsKept}
+use Rattle.lfs_log.specs.LogState.{IsReadFault, IsRemoved, IsKept, LogState}
+use Rattle.lfs_log.specs.Held.{Held, seen}
 use Rattle.lfs_log.proofs.Volumes.{is_removed, is_kept, read_fault}
 use Rattle.lfs_log.proofs.log.Log.remove.Goals as goal
 
@@ -26,7 +27,7 @@ returns-in_default-clause-kept g c =
       halted = c.self.inside.halted;
       totals = c.self.inside.totals;
     } in
-    subst (λ (h : Held g.row.D.Denot). IsKept g.D.SectorDevice.state h after) c.self.view_is
+    subst (λ (h : LogState g.row.D.Denot). IsKept g.D.SectorDevice.state h (seen after)) c.self.view_is
     (is_kept g.D.SectorDevice.state before after c.in_default.ensures.kept.0 refl refl c.in_default.ensures.kept.2 refl refl refl
     c.in_default.ensures.kept.1)
 
@@ -52,7 +53,7 @@ returns-in_default-clause-failed g c =
       halted = c.self.inside.halted;
       totals = c.self.inside.totals;
     } in
-    subst (λ (h : Held g.row.D.Denot). IsReadFault g.D.SectorDevice.state h after) c.self.view_is
+    subst (λ (h : LogState g.row.D.Denot). IsReadFault g.D.SectorDevice.state h (seen after)) c.self.view_is
     (read_fault g.D.SectorDevice.state before after c.in_default.ensures.failed)
 
 pub returns-clause-done : goal.returns-clause-done
@@ -77,7 +78,7 @@ returns-clause-done g c =
       halted = c.self.inside.halted;
       totals = c.args.totals;
     } in
-    subst (λ (h : Held g.row.D.Denot). IsRemoved g.D.SectorDevice.state h after c.args.number) c.self.view_is
+    subst (λ (h : LogState g.row.D.Denot). IsRemoved g.D.SectorDevice.state h (seen after) c.args.number) c.self.view_is
     (is_removed g.D.SectorDevice.state before after c.in-Ok.ensures.done.0 refl refl c.in-Ok.ensures.done.2 refl refl c.args.number
     c.requires
     (ap (λ (hidden : Bool). c.self.inside.saved && hidden) c.is_hidden-nameless.ensures) c.in-Ok.ensures.done.1)

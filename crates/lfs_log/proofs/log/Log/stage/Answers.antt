@@ -1,6 +1,7 @@
 use Rattle.std.proofs.Common.{false, refl, subst}
 use Rattle.lfs_log.specs.Versions.{number_of}
-use Rattle.lfs_log.specs.Held.{Held, IsStaged, IsRefused, IsStageFault}
+use Rattle.lfs_log.specs.LogState.{IsStaged, IsRefused, IsStageFault, LogState}
+use Rattle.lfs_log.specs.Held.{Held, seen}
 use Rattle.lfs_log.proofs.Volumes.{is_staged, is_refused, is_stage_fault}
 use Rattle.lfs_log.proofs.log.Log.stage.Goals as goal
 
@@ -27,7 +28,7 @@ returns-in-Ok-clause-done g c =
       totals = c.args.totals;
     } in
     let go = c.in-Ok.ensures.done in
-    subst (λ (h : Held g.row.D.Denot). IsStaged g.D.SectorDevice.state h after c.args.changes.now) c.self.view_is
+    subst (λ (h : LogState g.row.D.Denot). IsStaged g.D.SectorDevice.state h (seen after) c.args.changes.now) c.self.view_is
     (is_staged g.D.SectorDevice.state before after go.0 refl refl go.2 c.args.changes.now c.version_after-self-inside.ensures
     c.is_raised_after-self-inside.ensures refl go.1)
 
@@ -54,7 +55,7 @@ returns-in-Err-clause-refused g c =
       totals = c.self.inside.totals;
     } in
     let go = c.in-Err.ensures.refused in
-    subst (λ (h : Held g.row.D.Denot). IsRefused g.D.SectorDevice.state h after c.args.changes.now) c.self.view_is
+    subst (λ (h : LogState g.row.D.Denot). IsRefused g.D.SectorDevice.state h (seen after) c.args.changes.now) c.self.view_is
     (is_refused g.D.SectorDevice.state before after go.0 refl refl go.2 c.args.changes.now refl refl refl go.1)
 
 pub returns-in-Err-clause-failed : goal.returns-in-Err-clause-failed
@@ -79,5 +80,5 @@ returns-in-Err-clause-failed g c is =
       halted = c.self.inside.halted;
       totals = c.self.inside.totals;
     } in
-    subst (λ (h : Held g.row.D.Denot). IsStageFault g.D.SectorDevice.state h after c.args.changes.now) c.self.view_is
+    subst (λ (h : LogState g.row.D.Denot). IsStageFault g.D.SectorDevice.state h (seen after) c.args.changes.now) c.self.view_is
     (is_stage_fault g.D.SectorDevice.state before after c.args.changes.now (c.in-Err.ensures.failed is))

@@ -1,9 +1,10 @@
-use Rattle.std.proofs.Common.{◌≤◌, ◌*◌, true, ℕ, false, length, refl, sym, subst}
+use Rattle.std.proofs.Common.{◌≤◌, ◌*◌, true, ℕ, false, length, refl, sym, ap, subst}
 use Rattle.lfs_memory.specs.segments.Early.{AreUntaken}
 use Rattle.lfs_memory.specs.segments.Table.{clean_in}
 use Rattle.lfs_verify.proofs.Takes.{looks_none}
 use Rattle.lfs_log.specs.Versions.{number_of}
-use Rattle.lfs_log.specs.Held.{AreAllSaved, Held}
+use Rattle.lfs_log.specs.LogState.{AreAllSaved}
+use Rattle.lfs_log.specs.Held.{Held, seen}
 use Rattle.lfs_log.specs.Opening.{Opens}
 use Rattle.lfs_log.proofs.Opens.{counts_opened, many, opens, ready, untaken}
 use Rattle.lfs_log.proofs.Volumes.{mounts}
@@ -26,8 +27,8 @@ returns-in-Ok-open_memory-clause-opened g c =
       halted = false;
       totals = opened.totals;
     } in
-    let nothing : AreAllSaved after =
-    record { blocks = is.dirty; version = refl; sectors = subst AreUntaken (sym told.usage) c.requires.loaded.usage.untaken } in
+    let nothing : AreAllSaved (seen after) =
+    record { blocks = ap length is.dirty; version = refl; sectors = subst AreUntaken (sym told.usage) c.requires.loaded.usage.untaken } in
     let fresh : d.keeps_model → AreUntaken opened.memory.usage =
     untaken d d lawful lawful c.requires.durable (looks_none d lawful) c.args.tables c.requires.loaded c.requires.found opened.memory
     is.chunk is.dirty told.usage told.map in

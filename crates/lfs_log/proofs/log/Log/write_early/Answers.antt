@@ -3,7 +3,8 @@ use Rattle.lfs_memory.specs.segments.Table.{clean_in}
 use Rattle.lfs_memory.specs.declared.memory.LogMemory.{LogMemory}
 use Rattle.lfs_log.specs.Versions.{number_of}
 use Rattle.lfs_log.specs.Thresholds.{reserve_of}
-use Rattle.lfs_log.specs.Held.{Held, Halts, WritesEarly}
+use Rattle.lfs_log.specs.LogState.{Halts, WritesEarly, LogState}
+use Rattle.lfs_log.specs.Held.{Held, seen}
 use Rattle.lfs_log.proofs.EarlyWrites.{early_halts, early_waits, writes_early}
 use Rattle.lfs_log.proofs.log.Log.write_early.Goals as goal
 
@@ -23,7 +24,7 @@ returns-in-Ok-clause-done g c =
     let before = with_two c.self.inside.device c.self.inside.memory in
     let after = with_two c.write_chunks.new.device c.write_chunks.new.memory in
     let told = c.in-Ok.ensures in
-    subst (λ (h : Held g.row.D.Denot). WritesEarly g.D.SectorDevice.state h after) c.self.view_is
+    subst (λ (h : LogState g.row.D.Denot). WritesEarly g.D.SectorDevice.state h (seen after)) c.self.view_is
     (writes_early g.D.SectorDevice.state before after told.done refl refl refl refl c.if-self.false
     (⊎_elim (λ (same : (c.write_chunks.new.device ≡ c.self.inside.device) × (c.write_chunks.new.memory ≡ c.self.inside.memory)).
     inl (ap₂ with_two same.0 same.1))
@@ -54,7 +55,7 @@ returns-in-Err-clause-halted g c is ne =
       halted = true;
       totals = c.self.inside.totals;
     } in
-    subst (λ (h : Held g.row.D.Denot). Halts g.D.SectorDevice.state h after) c.self.view_is
+    subst (λ (h : LogState g.row.D.Denot). Halts g.D.SectorDevice.state h (seen after)) c.self.view_is
     (early_halts g.D.SectorDevice.state before after c.in-Err.ensures.stopped refl refl refl)
 
 pub invariant_of-self : goal.invariant_of-self

@@ -1,13 +1,13 @@
 use Rattle.std.proofs.Common.{sym, subst}
 use Rattle.lfs_cleaner.proofs.of_log.of_memory.Going.{ok_then}
-use Rattle.lfs_cleaner.specs.log.Held.{Held, Reads}
+use Rattle.lfs_cleaner.specs.log.LogState.{LogState, Reads}
 use Rattle.lfs_store.proofs.LogReads.{reads_none}
 use Rattle.lfs_store.proofs.StoreSeen.{seen_counts_reformed, seen_redraft, seen_reformed}
 use Rattle.lfs_store.proofs.files.StoreFiles.reform.Goals as goal
 
 pub returns-clause-redrafts : goal.returns-clause-redrafts
 returns-clause-redrafts g c =
-    let still = subst (λ (log : Held _). Reads g.D.SectorDevice.state c.args.self.now.log log) (sym c.reform.ensures.keeps.log)
+    let still = subst (λ (log : LogState _). Reads g.D.SectorDevice.state c.args.self.now.log log) (sym c.reform.ensures.keeps.log)
     (reads_none g.D.SectorDevice.state c.args.self.now.log) in
     seen_redraft g.D.SectorDevice.state c.args.self.now.log c.reform.new.self.log c.args.self.now.draft c.reform.new.self.draft
     c.args.self.now.log.saved c.reform.new.self.log.saved c.args.self.now.drafted c.reform.new.self.drafted
@@ -15,7 +15,7 @@ returns-clause-redrafts g c =
 
 pub returns-clause-done : goal.returns-clause-done
 returns-clause-done g c =
-    let still = subst (λ (log : Held _). Reads g.D.SectorDevice.state c.args.self.now.log log) (sym c.reform.ensures.keeps.log)
+    let still = subst (λ (log : LogState _). Reads g.D.SectorDevice.state c.args.self.now.log log) (sym c.reform.ensures.keeps.log)
     (reads_none g.D.SectorDevice.state c.args.self.now.log) in
     ok_then c.reform.result _ _
     (seen_reformed g.D.SectorDevice.state c.args.self.now.log c.reform.new.self.log c.args.self.now.draft c.reform.new.self.draft

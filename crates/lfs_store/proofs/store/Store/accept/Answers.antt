@@ -1,5 +1,5 @@
 use Rattle.std.proofs.Common.{Bool, sym, subst}
-use Rattle.lfs_cleaner.specs.log.Held.{Held}
+use Rattle.lfs_cleaner.specs.log.LogState.{LogState}
 use Rattle.lfs_store.specs.Outcomes.{Accepted}
 use Rattle.lfs_store.proofs.store.Store.accept.Goals as goal
 
@@ -8,5 +8,5 @@ returns-clause-accepts g c =
     let state = g.D.SectorDevice.state in
     let outcome = c.stage_draft-outcome.result in
     subst (λ (saved : Bool). Accepted state c.args.self.now c.give_up.new.self.log saved outcome) (sym c.give_up.ensures.keeps.saved)
-    (subst (λ (h : Held g.row.D.Denot). Accepted state c.args.self.now h c.stage_draft-outcome.new.self.log.saved outcome)
+    (subst (λ (h : LogState g.row.D.Denot). Accepted state c.args.self.now h c.stage_draft-outcome.new.self.log.saved outcome)
     (sym c.give_up.ensures.keeps.log) c.stage_draft-outcome.ensures.accepts)

@@ -1,6 +1,6 @@
 use Rattle.std.specs.Prelude.{IfErr}
 use Rattle.std.proofs.Common.{rules, ◌≡◌, subst}
-use Rattle.lfs_cleaner.specs.log.Held.{Held, IsReadFault}
+use Rattle.lfs_cleaner.specs.log.LogState.{LogState, IsReadFault}
 use Rattle.lfs_files.specs.declared.fault.StoreFault.{StoreFault}
 use Rattle.lfs_files.specs.declared.fault.StoreFault.TheVariants.{NoMemory}
 use Rattle.lfs_store.proofs.Cuttings.{cuts_even}
@@ -14,7 +14,7 @@ returns-then-len-eq0-clause-done g c =
 
 pub returns-clause-failed : goal.returns-clause-failed
 returns-clause-failed g c =
-    subst (λ (log : Held _). IfErr c.cut_last.result (λ (fault : StoreFault). (fault ≡ NoMemory → ⊥)
+    subst (λ (log : LogState _). IfErr c.cut_last.result (λ (fault : StoreFault). (fault ≡ NoMemory → ⊥)
     → IsReadFault g.D.SectorDevice.state log c.cut_last.new.self.log)) c.lose_blocks.ensures.keeps.log c.cut_last.ensures.failed
 
 pub returns-then-len-eq0-clause-redrafts : goal.returns-then-len-eq0-clause-redrafts

@@ -1,6 +1,6 @@
 use Rattle.std.proofs.Common.{rules, subst, sym}
 use Rattle.lfs_cleaner.proofs.of_log.of_memory.Going.{ok_then}
-use Rattle.lfs_cleaner.specs.log.Held.{Held}
+use Rattle.lfs_cleaner.specs.log.LogState.{LogState}
 use Rattle.lfs_store.specs.Writing.{SetsLen}
 use Rattle.lfs_store.proofs.Cuttings.{sets_shorter, sets_longer}
 use Rattle.lfs_store.proofs.Keepings.{drafts_uncounted, uncounted_drafts}
@@ -16,7 +16,7 @@ returns-then-header-len-clause-done g c =
 pub returns-clause-done : goal.returns-clause-done
 returns-clause-done g c =
     ok_then c.resize-2.result _ _
-    (λ puts. subst (λ (log : Held _). SetsLen g.D.SectorDevice.state c.args.self.now.log log c.resize-2.new.self.draft.changes
+    (λ puts. subst (λ (log : LogState _). SetsLen g.D.SectorDevice.state c.args.self.now.log log c.resize-2.new.self.draft.changes
     c.args.number.value c.args.header c.args.len) (sym c.resize-2.ensures.keeps.log)
     (sets_shorter g.D.SectorDevice.state c.args.self.now.log c.cut_blocks.new.self.log c.cut_blocks.new.self.draft.changes
     c.resize-2.new.self.draft.changes c.args.number.value c.args.header c.args.len (search rules) c.in_ok-cut_blocks.ensures.done puts))

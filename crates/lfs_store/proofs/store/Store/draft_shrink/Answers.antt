@@ -1,6 +1,6 @@
 use Rattle.std.proofs.Common.{subst, sym}
 use Rattle.lfs_cleaner.proofs.of_log.of_memory.Going.{ok_then}
-use Rattle.lfs_cleaner.specs.log.Held.{Held}
+use Rattle.lfs_cleaner.specs.log.LogState.{LogState}
 use Rattle.lfs_store.specs.Shrinking.{Shrinks}
 use Rattle.lfs_store.proofs.Shrunken.{shrinks}
 use Rattle.lfs_store.proofs.Keepings.{uncounted_drafts}
@@ -9,7 +9,7 @@ use Rattle.lfs_store.proofs.store.Store.draft_shrink.Goals as goal
 pub returns-clause-done : goal.returns-clause-done
 returns-clause-done g c =
     ok_then c.resize.result _ _
-    (λ puts. subst (λ (log : Held _). Shrinks g.D.SectorDevice.state c.args.self.now.log log c.args.self.now.draft.changes
+    (λ puts. subst (λ (log : LogState _). Shrinks g.D.SectorDevice.state c.args.self.now.log log c.args.self.now.draft.changes
     c.resize.new.self.draft.changes c.args.number.value c.args.header c.args.len) (sym c.resize.ensures.keeps.log)
     (shrinks g.D.SectorDevice.state c.args.self.now.log c.clear_tail.new.self.log c.args.self.now.draft.changes
     c.clear_tail.new.self.draft.changes c.resize.new.self.draft.changes c.args.number.value c.args.header c.args.len

@@ -1,5 +1,5 @@
 use Rattle.std.proofs.Common.{◌≡◌, ◌≤◌, ◌+◌, ◌/◌, refl, rules, ℕ, length, sym, subst}
-use Rattle.lfs_cleaner.specs.log.Held.{Held, IsReadFault}
+use Rattle.lfs_cleaner.specs.log.LogState.{LogState, IsReadFault}
 use Rattle.std.specs.Prelude.{Result, Err, IfErr}
 use Rattle.lfs_files.specs.declared.fault.StoreFault.{StoreFault}
 use Rattle.lfs_files.specs.declared.fault.StoreFault.TheVariants.{NoMemory}
@@ -48,7 +48,7 @@ loop-index-preserved g c = (
 pub returns-clause-done : goal.returns-clause-done
 returns-clause-done g c =
     ok_then c.resize.result _ _
-    (λ puts. subst (λ (log : Held _). Writes g.D.SectorDevice.state c.args.self.now.log log c.args.self.now.draft.changes
+    (λ puts. subst (λ (log : LogState _). Writes g.D.SectorDevice.state c.args.self.now.log log c.args.self.now.draft.changes
     c.resize.new.self.draft.changes c.args.number.value c.args.header c.args.at c.args.bytes.now) (sym c.resize.ensures.keeps.log)
     (written g.D.SectorDevice.state c.args.self.now.log c.loop-index.self.log c.args.self.now.draft.changes c.loop-index.self.draft.changes
     c.resize.new.self.draft.changes

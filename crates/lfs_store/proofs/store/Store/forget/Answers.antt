@@ -2,7 +2,7 @@ use Rattle.std.specs.Prelude.{Result, OnErr}
 use Rattle.std.proofs.Common.{◌∙◌, subst, sym}
 use Rattle.lfs_cleaner.specs.log.verify.declared.totals.BlockTotals.{BlockTotals}
 use Rattle.lfs_store.specs.Recounting.{CountsGone, Recounts}
-use Rattle.lfs_cleaner.specs.log.Held.{IsKept, IsReadFault}
+use Rattle.lfs_cleaner.specs.log.LogState.{IsKept, IsReadFault}
 use Rattle.lfs_files.specs.declared.fault.LogFault.{LogFault}
 use Rattle.lfs_store.proofs.Endings.{same_exit}
 use Rattle.lfs_store.proofs.Forgotten.{forgets}

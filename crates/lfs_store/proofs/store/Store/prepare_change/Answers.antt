@@ -2,7 +2,7 @@ use Rattle.std.specs.Prelude.{Result}
 use Rattle.std.proofs.Common.{rules, ◌≤◌, ◌+◌, ◌/◌, length, ap, sym, subst, arith}
 use Rattle.lfs_cleaner.specs.log.segments.Table.{clean_in}
 use Rattle.lfs_cleaner.specs.log.inodes.Blocks.{Capacity}
-use Rattle.lfs_cleaner.specs.log.Held.{Held}
+use Rattle.lfs_cleaner.specs.log.LogState.{LogState}
 use Rattle.lfs_cleaner.specs.log.memory.Batch.{room_for}
 use Rattle.lfs_cleaner.proofs.of_log.of_memory.Going.{ok_then}
 use Rattle.lfs_files.specs.declared.fault.LogFault.{LogFault}
@@ -30,9 +30,9 @@ returns-clause-room g c =
     let none = done.unsaved e in
     let fewer = none.1.fewer in
     let same = ap (λ (k : Capacity). k.limit) none.1.capacity in
-    let room : length c.find_room.new.self.log.memory.dirty.blocks + room_for c.find_segments.new.self.draft.changes
+    let room : c.find_room.new.self.log.waiting + room_for c.find_segments.new.self.draft.changes
     ≤ c.find_room.new.self.log.memory.dirty.capacity.limit =
-    subst (λ (d : Draft). length c.find_room.new.self.log.memory.dirty.blocks + room_for d.changes
+    subst (λ (d : Draft). c.find_room.new.self.log.waiting + room_for d.changes
     ≤ c.find_room.new.self.log.memory.dirty.capacity.limit) (sym c.find_segments.ensures.makes.keeps.draft)
     (c.in_ok-find_room.ensures.room none.0) in
     omega (arith, fewer, room, same))
@@ -41,8 +41,8 @@ returns-clause-room g c =
 pub returns-clause-quiet : goal.returns-clause-quiet
 returns-clause-quiet g c fits clean =
     let same = c.find_room.ensures.quiet fits in
-    let enough : length c.find_room.new.self.log.memory.usage.segments / 8 + 8 ≤ clean_in c.find_room.new.self.log.memory.usage.segments =
-    subst (λ (h : Held g.row.D.Denot). HasClean h) (sym same) clean in
+    let enough : c.find_room.new.self.log.segments / 8 + 8 ≤ c.find_room.new.self.log.clean =
+    subst (λ (h : LogState g.row.D.Denot). HasClean h) (sym same) clean in
     let lack = c.if-may_commit.ensures.no (search rules) in
     absurd (omega (arith, enough, lack))
 

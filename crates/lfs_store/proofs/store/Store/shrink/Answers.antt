@@ -4,7 +4,7 @@ use Rattle.lfs_store.specs.declared.draft.Draft.{Draft}
 use Rattle.lfs_cleaner.specs.log.verify.declared.totals.BlockTotals.{BlockTotals}
 use Rattle.lfs_store.specs.Recounting.{Counts, Remeasures}
 use Rattle.lfs_store.specs.Shrinking.{Shrinks}
-use Rattle.lfs_cleaner.specs.log.Held.{IsReadFault}
+use Rattle.lfs_cleaner.specs.log.LogState.{IsReadFault}
 use Rattle.lfs_files.specs.declared.fault.StoreFault.{StoreFault}
 use Rattle.lfs_files.specs.declared.fault.StoreFault.TheVariants.{NoMemory}
 use Rattle.lfs_store.proofs.Endings.{same_exit}

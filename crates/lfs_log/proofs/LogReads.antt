@@ -1,0 +1,112 @@
+-- What the layers above know of a log that holds a log map, and of calls that only read it.
+use Rattle.std.proofs.Common.{◌≡◌, ◌≤◌, ◌+◌, ◌*◌, ◌<◌, ℕ, refl, sym, ◌∙◌, subst, arith}
+use Rattle.lfs_model.specs.Checkpoint.{CheckpointValue, IsSegmentCount}
+use Rattle.lfs_model.specs.Content.{Content}
+use Rattle.lfs_model.specs.Crash.{StandsOn}
+use Rattle.lfs_model.specs.Device.{DeviceState, IsLawful, AllLeft, LeavesOnly}
+use Rattle.lfs_model.specs.Settled.{IsSettled}
+use Rattle.lfs_model.specs.Stands.{LogMap}
+use Rattle.lfs_model.proofs.Newest.{newest_fits}
+use Rattle.lfs_model.proofs.Settled.{settled_stands}
+use Rattle.lfs_memory.specs.declared.memory.LogMemory.{LogMemory}
+use Rattle.lfs_memory.specs.segments.Early.{AreUntaken}
+use Rattle.lfs_memory.specs.segments.Table.{UsageTable}
+use Rattle.lfs_memory.specs.Memory.{IsLog}
+use Rattle.lfs_memory.specs.Present.{Looks}
+use Rattle.lfs_memory.proofs.Looses.{loose, tight_again}
+use Rattle.lfs_memory.proofs.Presents.{looks_none, looks_quiet, looks_then, still_log}
+use Rattle.lfs_log.specs.LogState.{LogState, Holds, IsAtRest, IsReadFault, Reads}
+use Rattle.lfs_log.proofs.Unsaved.{kept_saved}
+
+module _ {D : Type 0} (state : D → DeviceState) where
+  -- ---- what is acknowledged
+  pub settled : (h : LogState D) (k : CheckpointValue) (m0 m : LogMap) → Holds state h k m0 m → IsSettled (state h.device) k m0
+  settled h k m0 m is = is.log.running.settled
+
+  pub acknowledged : (h : LogState D) (k : CheckpointValue) (m0 m : LogMap) → Holds state h k m0 m
+      → AllLeft (state h.device) (λ c. StandsOn k.segments c m0)
+  acknowledged h k m0 m is = settled_stands (state h.device) k m0 (settled h k m0 m is)
+
+  -- a log that holds a map has as many segments as a volume may have
+  pub segment_count : (h : LogState D) (k : CheckpointValue) (m0 m : LogMap) → IsLawful (state h.device) → Holds state h k m0 m
+      → IsSegmentCount h.segments
+  segment_count h k m0 m lawful is =
+      let fits = ((newest_fits (state h.device).content lawful.now).0 k).0 (settled h k m0 m is).newest in
+      subst IsSegmentCount is.segments fits.held.fits.segments
+
+  -- a device that is looked at leaves what is acknowledged
+  pub looks_leave : (h : LogState D) (d : DeviceState) (k : CheckpointValue) (m0 m : LogMap) → IsLawful (state h.device)
+      → Looks (state h.device) d → Holds state h k m0 m → LeavesOnly (state h.device) d (λ c. StandsOn k.segments c m0)
+  looks_leave h d k m0 m lawful looks is =
+      looks_quiet (state h.device) d h.inner k m0 m lawful looks (loose (state h.device) h.inner k m0 m is.log)
+
+  -- ---- calls that only read
+  pub rest_reads : (a b : LogState D) → Reads state a b → IsAtRest a → IsAtRest b
+  rest_reads a b reads rest =
+      let waiting = reads.waiting in
+      let untaken = subst AreUntaken (sym reads.usage) rest.untaken in
+      let many = rest.many in
+      let segments = reads.segments in
+      let clean = reads.clean in
+      record {
+        nothing = kept_saved a b rest.nothing (omega (arith, waiting)) reads.upgraded untaken;
+        untaken = untaken;
+        many = omega (arith, many, segments, clean);
+      }
+
+  pub held_still : (a b : LogState D) (k : CheckpointValue) (m0 m : LogMap) → Reads state a b → Holds state a k m0 m → Holds state b k m0 m
+  held_still a b k m0 m reads is = record {
+    log = subst (λ (v : LogMemory). IsLog (state b.device) v k m0 m) (sym reads.inner)
+        (let s = still_log (state a.device) (state b.device) a.inner k m0 m reads.looks (loose (state a.device) a.inner k m0 m is.log) in
+        tight_again (state b.device) a.inner k m0 m s is.log.tight);
+    segments = is.segments ∙ sym reads.segments;
+    number = is.number ∙ sym reads.number;
+    version = is.version ∙ sym reads.version;
+    running = reads.halted ∙ is.running;
+    nothing_new = λ all. is.nothing_new (sym reads.saved ∙ all);
+    rest = λ all. rest_reads a b reads (is.rest (sym reads.saved ∙ all));
+  }
+
+  pub reads_none : (a : LogState D) → Reads state a a
+  reads_none a = record {
+    looks = looks_none (state a.device);
+    halted = refl;
+    number = refl;
+    version = refl;
+    upgraded = refl;
+    saved = refl;
+    unsaved = refl;
+    totals = refl;
+    segments = refl;
+    clean = refl;
+    emptied = refl;
+    waiting = refl;
+    file_data = refl;
+    usage = refl;
+    inner = refl;
+  }
+
+  pub reads_more : (a b c : LogState D) → IsLawful (state a.device) → Reads state a b → Reads state b c → Reads state a c
+  reads_more a b c lawful one two = record {
+    looks = looks_then (state a.device) (state b.device) (state c.device) lawful one.looks two.looks;
+    halted = two.halted ∙ one.halted;
+    number = two.number ∙ one.number;
+    version = two.version ∙ one.version;
+    upgraded = two.upgraded ∙ one.upgraded;
+    saved = two.saved ∙ one.saved;
+    unsaved = two.unsaved ∙ one.unsaved;
+    totals = two.totals ∙ one.totals;
+    segments = two.segments ∙ one.segments;
+    clean = two.clean ∙ one.clean;
+    emptied = two.emptied ∙ one.emptied;
+    waiting = two.waiting ∙ one.waiting;
+    file_data = two.file_data ∙ one.file_data;
+    usage = two.usage ∙ one.usage;
+    inner = two.inner ∙ one.inner;
+  }
+
+  pub fault_more : (a b c : LogState D) → Reads state a b → IsReadFault state b c → IsReadFault state a c
+  fault_more a b c one failed k m0 m keeps is =
+      let rose = failed k m0 m keeps (held_still a b k m0 m one is) in
+      let before = one.looks.carries.failures in
+      omega (arith, rose, before)
