@@ -10,7 +10,8 @@ use Rattle.lfs_cleaner.specs.Passing.{FailsPass, IsUnfit, RefusesPass}
 use Rattle.lfs_cleaner.specs.Room.{CleansOnce, CommitsUnsaved, FailsPasses, KeepsMap, LacksPasses, MayNotMakeRoom, PassesInNeed}
 use Rattle.lfs_cleaner.specs.Room.{PassesWhereDue, once_orders, room_orders}
 use Rattle.lfs_cleaner.proofs.Rooms.{keeps_none, keeps_reads, keeps_weaker, read_fault, repeats_passes}
-use Rattle.lfs_cleaner.proofs.RoomBounds.{may_pass, passes_none, segment_count}
+use Rattle.lfs_log.proofs.LogReads.{segment_count}
+use Rattle.lfs_cleaner.proofs.RoomBounds.{may_pass, passes_none}
 
 -- ---- orders
 -- a commit, and a pass behind it

@@ -219,7 +219,7 @@ module _ {D : Type 0} (state : D → DeviceState) where
   pub makes_none : (h : LogState D) → IsLawful (state h.device) → h.halted ≡ false → MakesRoom state h h
   makes_none h lawful running = record {
     keeps = keeps_weaker state h h 0 _ (keeps_none state h lawful running) (omega arith);
-    unsaved = λ e. (e, record { number = refl; fewer = omega arith; capacity = refl; clean = λ enough. enough });
+    unsaved = λ e. (e, record { number = refl; fewer = omega arith; clean = λ enough. enough });
     all = λ e. inl e;
     rest = λ e was. was e;
   }

@@ -38,19 +38,19 @@ numbered : {D : Type 0} (state : D → DeviceState) (v : Mounted D) (p : Point) 
     → AllLeft (state v.log.device) (IsNumbered p.number)
 numbered state v p at on c left =
     let r : Runs state v p.state = at.running (sym at.halted ∙ on) in
-    let holds = r.is.stores.holds in
+    let holds = r.is.holds in
     (r.checkpoint, (holds.log.running.settled.each c left).newest, at.number ∙ sym holds.number)
 
 module _ {D : Type 0} (state : D → DeviceState) (d : D) (lawful : IsLawful (state d)) (v : Fs D) (new : Mounted D) (lines : List Line)
     (answers : List Answer)
     (finds : FindsState state d v)
-    (durable : (state v.store.log.device).keeps_model → Only (state d).content (state v.store.log.device))
-    (untouched : IsUntouched (state d) (state v.store.log.device))
-    (carries : Carries (state d) (state v.store.log.device)) (moment : LeavesOnly (state d) (state v.store.log.device) (state d).may_leave)
-    (no_failure : (state v.store.log.device).failures ≡ (state d).failures)
+    (durable : (state (seen v).log.device).keeps_model → Only (state d).content (state (seen v).log.device))
+    (untouched : IsUntouched (state d) (state (seen v).log.device))
+    (carries : Carries (state d) (state (seen v).log.device)) (moment : LeavesOnly (state d) (state (seen v).log.device) (state d).may_leave)
+    (no_failure : (state (seen v).log.device).failures ≡ (state d).failures)
     (runs : RunsLines state (seen v) new lines answers) (keeps : (state new.log.device).keeps_model)
     (rans : (p : Point) → IsAt state (seen v) p → RanAt state (seen v) new lines answers p) where
-  kept : (state v.store.log.device).keeps_model
+  kept : (state (seen v).log.device).keeps_model
   kept = runs.carries.kept_before keeps
 
   found : (s : State) × Stands (state d).content s × MountsAt state v s
@@ -64,7 +64,7 @@ module _ {D : Type 0} (state : D → DeviceState) (d : D) (lawful : IsLawful (st
   stands = stands_as (state d).content found.0 at.point.state at.same found.1
 
   -- after the mount a stop leaves it alone
-  alone : LeavesOne (state v.store.log.device) (drop_nameless at.point.state)
+  alone : LeavesOne (state (seen v).log.device) (drop_nameless at.point.state)
   alone c left =
       let same : drop_nameless at.point.state ≡ at.point.state = nothing_dropped (state d).content at.point.state stands in
       subst (Stands c) (sym same) (subst (λ (x : Content). Stands x at.point.state) (sym (durable kept c left)) stands)
@@ -78,14 +78,14 @@ module _ {D : Type 0} (state : D → DeviceState) (d : D) (lawful : IsLawful (st
   -- the volume knows the checkpoint by which the content stands
   same_checkpoint : running.checkpoint ≡ stands.checkpoint
   same_checkpoint = Some-injective running.checkpoint stands.checkpoint
-      (sym running.is.stores.holds.log.running.settled.newest ∙ ap newest untouched.content ∙ stands.found)
+      (sym running.is.holds.log.running.settled.newest ∙ ap newest untouched.content ∙ stands.found)
 
   abbrev Leaves : Content → Type 0
   Leaves = StandsForSome (at.point ∷ ran.points)
 
   -- what a stop meanwhile leaves, by what one before might have left
   moments_by : (P : Content → Type 0) → AllLeft (state d) P → LeavesOnly (state d) (state new.log.device) (λ c. P c ⊎ Leaves c)
-  moments_by P was = joined (state d) (state v.store.log.device) (state new.log.device) (state d).may_leave Leaves
+  moments_by P was = joined (state d) (state (seen v).log.device) (state new.log.device) (state d).may_leave Leaves
       (λ c. P c ⊎ Leaves c) moment (ran.moments alone)
       (λ c left. inl (was c left)) (λ c some. inr some)
 
@@ -106,8 +106,8 @@ module _ {D : Type 0} (state : D → DeviceState) (d : D) (lawful : IsLawful (st
     points = ran.points;
     segments = segments_of (seen v);
     stands = stands;
-    same_segments = running.is.stores.holds.log.segments ∙ ap (λ (k : CheckpointValue). k.segments) same_checkpoint;
-    same_number = at.at.number ∙ sym running.is.stores.holds.number ∙ ap (λ (k : CheckpointValue). k.number) same_checkpoint;
+    same_segments = running.is.holds.log.segments ∙ ap (λ (k : CheckpointValue). k.segments) same_checkpoint;
+    same_number = at.at.number ∙ sym running.is.holds.number ∙ ap (λ (k : CheckpointValue). k.number) same_checkpoint;
     running = at.at.halted ∙ at.running;
     run = ran.run;
     unstuck = runs.unstuck;
@@ -122,10 +122,10 @@ module _ {D : Type 0} (state : D → DeviceState) (d : D) (lawful : IsLawful (st
 module _ {D : Type 0} (state : D → DeviceState) (d : D) (lawful : IsLawful (state d)) (v : Fs D) (new : Mounted D) (lines : List Line)
     (answers : List Answer)
     (finds : FindsState state d v)
-    (durable : (state v.store.log.device).keeps_model → Only (state d).content (state v.store.log.device))
-    (untouched : IsUntouched (state d) (state v.store.log.device))
-    (carries : Carries (state d) (state v.store.log.device)) (moment : LeavesOnly (state d) (state v.store.log.device) (state d).may_leave)
-    (no_failure : (state v.store.log.device).failures ≡ (state d).failures) where
+    (durable : (state (seen v).log.device).keeps_model → Only (state d).content (state (seen v).log.device))
+    (untouched : IsUntouched (state d) (state (seen v).log.device))
+    (carries : Carries (state d) (state (seen v).log.device)) (moment : LeavesOnly (state d) (state (seen v).log.device) (state d).may_leave)
+    (no_failure : (state (seen v).log.device).failures ≡ (state d).failures) where
   pub uses_volume : RunsLines state (seen v) new lines answers → (state new.log.device).keeps_model
       → UsesVolume (state d) (state new.log.device) lines answers
   uses_volume runs keeps = uses_by state d lawful v new lines answers finds durable untouched carries moment no_failure runs keeps

@@ -14,10 +14,10 @@ use Rattle.lfs_fs.specs.Volume.{TellsAtMost}
 
 -- what the tree needs with the draft, and the most that it may need
 abbrev pub need_of : {D : Type 0} → Fs D → ℕ
-need_of f = f.store.drafted.data_blocks + NEED_OF_META * f.store.drafted.meta_blocks + LEAST_NEED
+need_of f = (drafted_of f.store).data_blocks + NEED_OF_META * (drafted_of f.store).meta_blocks + LEAST_NEED
 
 abbrev pub limit_of : {D : Type 0} → Fs D → ℕ
-limit_of f = NEED_OF_SEGMENT * f.store.log.segments
+limit_of f = NEED_OF_SEGMENT * (seen f).log.segments
 
 module _ {D : Type 0} (state : D → DeviceState) where
   -- The device is given no more orders than where room is made, and no more than in a commit where enough segments are clean for two.
@@ -27,31 +27,31 @@ module _ {D : Type 0} (state : D → DeviceState) where
 
   -- The draft is staged, and the totals are those with it.
   pub record StagesDraft (old new : Fs D) : Type 0 where
-    pub accepts : Accepts state old.store.log old.store.log.saved new.store.log new.store.log.saved old.store.draft.changes
-    pub totals : new.store.log.totals ≡ old.store.drafted
-    pub young : old.store.log.number < 2 ^ 62
+    pub accepts : Accepts state (seen old).log (seen new).log (draft_of old.store)
+    pub totals : (seen new).log.totals ≡ drafted_of old.store
+    pub young : (seen old).log.number < 2 ^ 62
     pub room : need_of old ≤ limit_of old
-    pub tells : TellsFew old.store.log new.store.log
+    pub tells : TellsFew (seen old).log (seen new).log
 
   -- It isn't, after room was to be made for it.
   pub record IsDeclined (old new : Fs D) : Type 0 where
-    pub declines : Declines state old.store.log old.store.log.saved new.store.log new.store.log.saved old.store.draft.changes
-    pub totals : new.store.log.totals ≡ old.store.log.totals
-    pub young : old.store.log.number < 2 ^ 62
-    pub tells : TellsFew old.store.log new.store.log
+    pub declines : Declines state (seen old).log (seen new).log (draft_of old.store)
+    pub totals : (seen new).log.totals ≡ (seen old).log.totals
+    pub young : (seen old).log.number < 2 ^ 62
+    pub tells : TellsFew (seen old).log (seen new).log
 
   -- A call of the device failed, or no room could be made, as it can where the device keeps the model.
   abbrev pub IsFailed : Fs D → Fs D → Type 0
   IsFailed old new =
-      IsAcceptFault state old.store.log old.store.log.saved new.store.log old.store.draft.changes
-      ⊎ CannotMakeRoom state old.store.log old.store.log.saved new.store.log
+      IsAcceptFault state (seen old).log (seen new).log (draft_of old.store)
+      ⊎ MayNotMakeRoom state (seen old).log (seen new).log
 
   -- Why it isn't: no other fault comes.
   abbrev pub TurnsDown : Fs D → Fs D → FsError → Type 0
   TurnsDown old new error.NoSpace = (seen new ≡ seen old) × (limit_of old < need_of old)
-  TurnsDown old new error.Worn = (seen new ≡ seen old) × (2 ^ 62 ≤ old.store.log.number) × (need_of old ≤ limit_of old)
+  TurnsDown old new error.Worn = (seen new ≡ seen old) × (2 ^ 62 ≤ (seen old).log.number) × (need_of old ≤ limit_of old)
   TurnsDown old new error.NoMemory = IsDeclined old new
   TurnsDown old new error.Device = IsDeclined old new × IsFailed old new
   TurnsDown old new error.Halted =
-      HaltsLater state old.store.log new.store.log (most_written old.store.log old.store.log.saved) × TellsFew old.store.log new.store.log
+      HaltsLater state (seen old).log (seen new).log (most_checkpoints (seen old).log) × TellsFew (seen old).log (seen new).log
   TurnsDown old new _ = ⊥

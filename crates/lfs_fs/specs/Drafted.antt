@@ -8,39 +8,31 @@ use Rattle.lfs_model.specs.Tree.{Tree}
 use Rattle.lfs_model.specs.TreeOf.{tree_in}
 use Rattle.lfs_model.specs.Walk.{End, Refused}
 use Rattle.lfs_files.specs.declared.header.Header.{Header}
-use Rattle.lfs_files.specs.Files.{FilesState}
 use Rattle.lfs_files.specs.Headers.{as_header}
 use Rattle.lfs_store.specs.declared.draft.Draft.{Draft}
-use Rattle.lfs_store.specs.declared.store.Store.{Store}
 use Rattle.lfs_store.specs.log.LogState.{LogState, Holds}
-use Rattle.lfs_store.specs.memory.Batch.{staged}
-use Rattle.lfs_store.specs.memory.declared.changes.Changes.{Changes}
-use Rattle.lfs_store.specs.Seen.{StagedLog, state_of}
+use Rattle.lfs_store.specs.StoreState.{with_draft}
 use Rattle.lfs_path.specs.declared.walk_fault.WalkFault.{WalkFault}
 use Rattle.lfs_path.specs.Telling.{ByFault}
 use Rattle.lfs_path.specs.Trees.{HasTree}
 
 module _ {D : Type 0} (state : D → DeviceState) where
-  -- a store as files with a draft
-  abbrev pub files_of : Store D → FilesState StagedLog Draft
-  files_of s = state_of state s.log s.draft s.log.saved s.drafted
-
   -- this is so of each log map that the log holds, after the draft
-  abbrev pub EachDrafted : LogState D → LogState D → Changes → (LogMap → Type 0) → Type 0
-  EachDrafted h h' c P = (k : CheckpointValue) (m0 m : LogMap) → (state h'.device).keeps_model → Holds state h k m0 m → P (staged c m)
+  abbrev pub EachDrafted : LogState D → LogState D → Draft → (LogMap → Type 0) → Type 0
+  EachDrafted h h' d P = (k : CheckpointValue) (m0 m : LogMap) → (state h'.device).keeps_model → Holds state h k m0 m → P (with_draft d m)
 
   -- a call of the device failed, where d is a directory
-  abbrev pub IsDirectoryFault : LogState D → LogState D → Changes → ℕ → Header → Type 0
+  abbrev pub IsDirectoryFault : LogState D → LogState D → Draft → ℕ → Header → Type 0
   IsDirectoryFault h h' c d head =
       EachDrafted h h' c (λ m. IsDirectory m d (as_header head) → (state h.device).failures < (state h'.device).failures)
 
   -- a walk ends there
-  abbrev pub WalksTo : LogState D → LogState D → Changes → (Tree → End → Type 0) → End → Type 0
+  abbrev pub WalksTo : LogState D → LogState D → Draft → (Tree → End → Type 0) → End → Type 0
   WalksTo h h' c W e = EachDrafted h h' c (λ m. HasTree m → W (tree_in m) e)
 
   -- it ends refused; or there is no answer, since a call of the device failed
-  abbrev pub FailsWalk : LogState D → LogState D → Changes → Type 0
+  abbrev pub FailsWalk : LogState D → LogState D → Draft → Type 0
   FailsWalk h h' c = EachDrafted h h' c (λ m. HasTree m → (state h.device).failures < (state h'.device).failures)
 
-  abbrev pub EndsRefused : LogState D → LogState D → Changes → (Tree → End → Type 0) → WalkFault → Type 0
+  abbrev pub EndsRefused : LogState D → LogState D → Draft → (Tree → End → Type 0) → WalkFault → Type 0
   EndsRefused h h' c W fault = ByFault fault (FailsWalk h h' c) (λ r. WalksTo h h' c W (Refused r))

@@ -26,25 +26,25 @@ module _ {D : Type 0} (state : D → DeviceState) where
   -- piece of a path stands.
   pub record Reaches (v : Mounted D) (old : Fs D) (path : List ℕ) (d : ℕ) (piece : Option Last) : Type 0 where
     pub still : IsStill state v (seen old)
-    pub empty : IsNoChange old.store.draft.changes
-    pub drafted : old.store.drafted ≡ old.store.log.totals
+    pub empty : IsEmpty (draft_of old.store)
+    pub drafted : drafted_of old.store ≡ (seen old).log.totals
     pub bytes : AreBytes path
     pub last : HasLast path piece
     pub walk : (k : CheckpointValue) (m0 m : LogMap) (s : State)
-        → (state old.store.log.device).keeps_model → IsIn state v k m0 m s
+        → (state (seen old).log.device).keeps_model → IsIn state v k m0 m s
         → Parent s.tree path (At d)
 
   -- The walk of a path came to directory d, where its last piece stands.
   pub record FindsPlace (old new : Fs D) (path : List ℕ) (d : ℕ) (piece : Option Last) : Type 0 where
     pub last : HasLast path piece
-    pub walks : WalksTo state old.store.log new.store.log old.store.draft.changes (EndsParent path) (At d)
+    pub walks : WalksTo state (seen old).log (seen new).log (draft_of old.store) (EndsParent path) (At d)
 
   -- It ended refused, or the log gave no answer.
   pub record FailsPlace (old new : Fs D) (path : List ℕ) (fault : FsError) : Type 0 where
     pub cause : WalkFault
     pub is : fault ≡ error_of_walk cause
-    pub ends : EndsRefused state old.store.log new.store.log old.store.draft.changes (EndsParent path) cause
-    pub halted : cause ≡ walking.Log log.Halted → old.store.log.halted ≡ true
+    pub ends : EndsRefused state (seen old).log (seen new).log (draft_of old.store) (EndsParent path) cause
+    pub halted : cause ≡ walking.Log log.Halted → (seen old).log.halted ≡ true
     pub other : cause ≡ walking.Log log.Full → ⊥
 
   -- or the path has no piece, which has a fault of its own
@@ -66,6 +66,6 @@ module _ {D : Type 0} (state : D → DeviceState) where
 
   -- It came nowhere: the volume is halted, or the path was refused, or has no piece.
   abbrev pub BeginsNowhere : Fs D → Fs D → List ℕ → FsError → FsError → Type 0
-  BeginsNowhere old new path nameless fault = ((fault ≡ error.Halted) × (new ≡ old) × (old.store.log.halted ≡ true))
+  BeginsNowhere old new path nameless fault = ((fault ≡ error.Halted) × (new ≡ old) × ((seen old).log.halted ≡ true))
       ⊎ (BeginsOnly old new path fault
       ⊎ ((fault ≡ nameless) × ((d : ℕ) × (Reaches (seen old) new path d None × IsReady new))))

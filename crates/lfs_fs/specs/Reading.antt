@@ -33,8 +33,8 @@ module _ {D : Type 0} (state : D → DeviceState) where
   pub record ReachesObject (v : Mounted D) (f : Fs D) (path : List ℕ) (follow : Bool) (n : ℕ) : Type 0 where
     pub still : IsStill state v (seen f)
     pub ready : IsReady f
-    pub drafted : f.store.drafted ≡ f.store.log.totals
-    pub walk : (k : CheckpointValue) (m0 m : LogMap) (s : State) → (state f.store.log.device).keeps_model → IsIn state v k m0 m s
+    pub drafted : drafted_of f.store ≡ (seen f).log.totals
+    pub walk : (k : CheckpointValue) (m0 m : LogMap) (s : State) → (state (seen f).log.device).keeps_model → IsIn state v k m0 m s
         → Resolve s.tree path follow (At n)
 
   -- it did so first

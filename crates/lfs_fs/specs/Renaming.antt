@@ -25,5 +25,5 @@ pub record ReachesBoth {D : Type 0} (state : D → DeviceState) (v : Mounted D) 
     (b chain : List ℕ) (to : Option Last) : Type 0 where
   pub first : Reaches state v old a da from
   pub second : Reaches state v old b (here chain) to
-  pub directories : (k : CheckpointValue) (m0 m : LogMap) (s : State) → (state old.store.log.device).keeps_model → IsIn state v k m0 m s
+  pub directories : (k : CheckpointValue) (m0 m : LogMap) (s : State) → (state (seen old).log.device).keeps_model → IsIn state v k m0 m s
       → IsChain s.tree chain

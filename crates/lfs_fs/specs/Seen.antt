@@ -19,13 +19,7 @@ use Rattle.lfs_fs.specs.Volume.{IsStill, Mounted}
 use Rattle.lfs_store.specs.memory.Batch.{IsNoChange}
 
 abbrev pub seen : {D : Type 0} → Fs D → Mounted D
-seen f = record {
-  log = f.store.log;
-  saved = f.store.log.saved;
-  blocks = f.store.log.totals.data_blocks;
-  others = f.store.log.totals.meta_blocks;
-  table = f.handles;
-}
+seen f = record { log = volume_of f.store; table = f.handles }
 
 -- the answer of a call by its result
 abbrev pub answer_by : {X : Type 0} → (X → Answer) → Result X FsError → Answer
@@ -36,19 +30,19 @@ answer_by f (Err e) = Refuse (refusal_of e)
 pub record OnlyReads {D : Type 0} (state : D → DeviceState) (old new : Fs D) : Type 0 where
   pub still : IsStill state (seen old) (seen new)
   pub draft : new.store.draft ≡ old.store.draft
-  pub drafted : new.store.drafted ≡ old.store.drafted
+  pub drafted : drafted_of new.store ≡ drafted_of old.store
 
 -- A call may draft: the volume isn't halted, and nothing is drafted.
 pub record IsReady {D : Type 0} (f : Fs D) : Type 0 where
-  pub running : f.store.log.halted ≡ false
-  pub empty : IsNoChange f.store.draft.changes
+  pub running : (seen f).log.halted ≡ false
+  pub empty : IsEmpty (draft_of f.store)
 
 -- A call begins: the volume isn't halted, and nothing is drafted.
 pub record Begins {D : Type 0} (old new : Fs D) : Type 0 where
-  pub running : old.store.log.halted ≡ false
+  pub running : (seen old).log.halted ≡ false
   pub same : seen new ≡ seen old
-  pub empty : IsNoChange new.store.draft.changes
-  pub drafted : new.store.drafted ≡ new.store.log.totals
+  pub empty : IsEmpty (draft_of new.store)
+  pub drafted : drafted_of new.store ≡ (seen new).log.totals
 
 -- why a handle gives no file: it isn't open
 abbrev pub GivesNone : Handles → ℕ → FsError → Type 0
@@ -57,13 +51,13 @@ GivesNone table handle fault = (fault ≡ error.BadHandle) × (find nat_cmp hand
 module _ {D : Type 0} (state : D → DeviceState) where
   -- the header of an object, where the log holds a log map
   abbrev pub HasHeader : Fs D → Fs D → ℕ → Header → Type 0
-  HasHeader old new n header = (k : CheckpointValue) (m0 m : LogMap) → (state new.store.log.device).keeps_model
-      → Holds state old.store.log k m0 m → (staged old.store.draft.changes m).header n ≡ Some (as_header header)
+  HasHeader old new n header = (k : CheckpointValue) (m0 m : LogMap) → (state (seen new).log.device).keeps_model
+      → Holds state (seen old).log k m0 m → (with_draft (draft_of old.store) m).header n ≡ Some (as_header header)
 
   -- why there is none: a commit failed; or a call of the device did, or no object has the number
   abbrev pub LacksHeader : Fs D → Fs D → ℕ → FsError → Type 0
-  LacksHeader old new n fault = ((fault ≡ error.Halted) × (old.store.log.halted ≡ true))
+  LacksHeader old new n fault = ((fault ≡ error.Halted) × ((seen old).log.halted ≡ true))
       ⊎ ((fault ≡ error.Device)
-      × ((k : CheckpointValue) (m0 m : LogMap) → (state new.store.log.device).keeps_model → Holds state old.store.log k m0 m
-      → ((state old.store.log.device).failures < (state new.store.log.device).failures)
-      ⊎ ((staged old.store.draft.changes m).header n ≡ None)))
+      × ((k : CheckpointValue) (m0 m : LogMap) → (state (seen new).log.device).keeps_model → Holds state (seen old).log k m0 m
+      → ((state (seen old).log.device).failures < (state (seen new).log.device).failures)
+      ⊎ ((with_draft (draft_of old.store) m).header n ≡ None)))

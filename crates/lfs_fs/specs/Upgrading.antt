@@ -17,17 +17,17 @@ module _ {D : Type 0} (state : D → DeviceState) where
   -- It walked a path whole, and came to object n. The volume is as before, and nothing is drafted.
   pub record ReachesWhole (v : Mounted D) (old : Fs D) (path : List ℕ) (n : ℕ) : Type 0 where
     pub still : IsStill state v (seen old)
-    pub empty : IsNoChange old.store.draft.changes
-    pub drafted : old.store.drafted ≡ old.store.log.totals
+    pub empty : IsEmpty (draft_of old.store)
+    pub drafted : drafted_of old.store ≡ (seen old).log.totals
     pub walk : (k : CheckpointValue) (m0 m : LogMap) (s : State)
-        → (state old.store.log.device).keeps_model → IsIn state v k m0 m s
+        → (state (seen old).log.device).keeps_model → IsIn state v k m0 m s
         → Resolve s.tree path true (At n)
 
   -- The object has this header: it is a directory of the first form, and the volume isn't of version 1.
   pub record ReachesNarrow (v : Mounted D) (old : Fs D) (path : List ℕ) (n : ℕ) (head : Header) : Type 0 where
     pub whole : ReachesWhole v old path n
     pub there : (k : CheckpointValue) (m0 m : LogMap) (s : State)
-        → (state old.store.log.device).keeps_model → IsIn state v k m0 m s
+        → (state (seen old).log.device).keeps_model → IsIn state v k m0 m s
         → m.header n ≡ Some (as_header head)
     pub directory : head.kind ≡ kind.Directory
     pub narrow : head.form ≡ 0

@@ -19,12 +19,9 @@ use Rattle.lfs_store.specs.cleaner.Room.{room_orders}
 use Rattle.lfs_store.specs.Accepting.{Stores, HasClean, HasCleanForTwo}
 use Rattle.lfs_model.specs.Totals.{IsCounted}
 
--- a volume between two calls: its log, whether all of it is saved, its data blocks and its other blocks, and the table of open files
+-- a volume between two calls: what is seen of its log, and the table of open files
 pub record Mounted (D : Type 0) : Type 0 where
   pub log : LogState D
-  pub saved : Bool
-  pub blocks : ℕ
-  pub others : ℕ
   pub table : Handles
 
 -- the number of its segments
@@ -97,14 +94,14 @@ module _ {D : Type 0} (state : D → DeviceState) where
 
   -- The volume is in state s: its log has the log map of s, over one that is a tree's, which the acknowledged checkpoint stands for.
   pub record IsIn (v : Mounted D) (k : CheckpointValue) (m0 m : LogMap) (s : State) : Type 0 where
-    pub stores : Stores state v.log v.saved k m0 m
+    pub holds : Holds state v.log k m0 m
     pub map : IsLogMap m
     pub log : IsLogOf (segments_of v) m s
     pub handles : s.handles ≡ v.table
-    pub counted : IsCounted m v.blocks v.others
+    pub counted : IsCounted m v.log.totals.data_blocks v.log.totals.meta_blocks
     pub acknowledged : IsTree (segments_of v) m0
     -- what isn't saved can be saved: the change began below the last number, and room was made for it
-    pub ready : v.saved ≡ false → HasClean v.log × (v.log.number ≤ 2 ^ 62 + segments_of v / 8)
+    pub ready : v.log.saved ≡ false → HasClean v.log × (v.log.number ≤ 2 ^ 62 + segments_of v / 8)
 
   -- there are such log maps
   pub record Runs (v : Mounted D) (s : State) : Type 0 where
@@ -128,9 +125,6 @@ module _ {D : Type 0} (state : D → DeviceState) where
   -- A volume whose log was only read.
   pub record IsStill (old new : Mounted D) : Type 0 where
     pub reads : Reads state old.log new.log
-    pub saved : new.saved ≡ old.saved
-    pub blocks : new.blocks ≡ old.blocks
-    pub others : new.others ≡ old.others
     pub table : new.table ≡ old.table
 
   -- What holds of a call over any device, beside what follows once it answered Halted.

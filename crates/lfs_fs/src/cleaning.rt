@@ -62,7 +62,7 @@ impl<D: SectorDevice> Fs<D> {
     {
         self.begin()?;
         self.check_worn()?;
-        self.store.log.are_tables_whole();
+        self.store.has_segment_count();
         self.store.clean_once()?;
         Ok(())
     }

@@ -11,8 +11,8 @@ use lfs_entries::EntryFault;
 impl<D: SectorDevice> Fs<D> {
     /// Accepts what a call drafted, or gives it up where the draft isn't whole.
     pub(crate) fn finish(&mut self, drafted: Result<(), EntryFault>) -> Result<(), FsError>
-        requires running { self.old.store.log.halted ≡ false }
-        requires room { OnOk drafted (room_for self.old.store.draft.changes ≤ 456) }
+        requires running { (seen self.old).log.halted ≡ false }
+        requires room { OnOk drafted (asked_by (draft_of self.old.store) ≤ 456) }
         ensures ends { Finishes D.SectorDevice.state self.old self.new drafted result }
         ensures rest { self.new.handles ≡ self.old.handles }
     {

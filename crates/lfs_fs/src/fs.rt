@@ -33,10 +33,10 @@ impl<D: SectorDevice> Fs<D> {
     pub(crate) fn begin(&mut self) -> Result<(), FsError>
         ensures done { OnOk result (Begins self.old self.new) }
         ensures same { OnErr result (self.new ≡ self.old) }
-        ensures halted { OnErr result (self.old.store.log.halted ≡ true) }
+        ensures halted { OnErr result ((seen self.old).log.halted ≡ true) }
         ensures fault { IfErr result (λ fault. fault ≡ FsError.Halted) }
     {
-        if self.store.log.is_halted() {
+        if self.store.is_halted() {
             return Err(FsError::Halted);
         }
         self.store.give_up();
@@ -70,11 +70,11 @@ impl<D: SectorDevice> Fs<D> {
 
     /// Refuses a change past the last checkpoint number at which the volume is changed.
     pub(crate) fn check_worn(&self) -> Result<(), FsError>
-        ensures young { OnOk result (self.now.store.log.number < 2 ^ 62) }
-        ensures old { OnErr result (2 ^ 62 ≤ self.now.store.log.number) }
+        ensures young { OnOk result ((seen self.now).log.number < 2 ^ 62) }
+        ensures old { OnErr result (2 ^ 62 ≤ (seen self.now).log.number) }
         ensures fault { IfErr result (λ fault. fault ≡ FsError.Worn) }
     {
-        if self.store.log.number() >= WORN {
+        if self.store.number() >= WORN {
             return Err(FsError::Worn);
         }
         Ok(())
@@ -87,7 +87,7 @@ impl<D: SectorDevice> Fs<D> {
         ensures need { result.need ≡ totals.data_blocks + NEED_OF_META * totals.meta_blocks
             + LEAST_NEED }
         ensures limit { result.limit ≡ NEED_OF_SEGMENT
-            * self.now.store.log.segments }
+            * (seen self.now).log.segments }
     {
         let data_blocks = u64::from(totals.data_blocks);
         let meta_blocks = u64::from(totals.meta_blocks);
@@ -95,25 +95,25 @@ impl<D: SectorDevice> Fs<D> {
             data_blocks,
             meta_blocks,
             need: data_blocks + NEED_OF_META * meta_blocks + LEAST_NEED,
-            limit: NEED_OF_SEGMENT * u64::from(self.store.log.segments()),
+            limit: NEED_OF_SEGMENT * u64::from(self.store.segments()),
         }
     }
 
     /// Makes the drafted changes whole, where the volume has the space for them. Commits come
     /// before the changes, never within.
     pub(crate) fn accept(&mut self) -> Result<(), FsError>
-        requires running { self.old.store.log.halted ≡ false }
-        requires room { room_for self.old.store.draft.changes ≤ 456 }
+        requires running { (seen self.old).log.halted ≡ false }
+        requires room { asked_by (draft_of self.old.store) ≤ 456 }
         ensures done { OnOk result (StagesDraft D.SectorDevice.state self.old self.new) }
         ensures refused { IfErr result (TurnsDown D.SectorDevice.state self.old self.new) }
         ensures fits { IfErr result (λ fault. fault ≡ FsError.NoMemory
-            → (self.old.store.log.saved ≡ true → IsAtRest self.old.store.log) → ⊥) }
+            → ((seen self.old).log.saved ≡ true → IsAtRest (seen self.old).log) → ⊥) }
         ensures rest { self.new.handles ≡ self.old.handles }
-        ensures told { length (D.state self.new.store.log.device).told
-            ≤ length (D.state self.old.store.log.device).told
-            + room_orders self.old.store.log.segments }
+        ensures told { length (D.state (seen self.new).log.device).told
+            ≤ length (D.state (seen self.old).log.device).told
+            + room_orders (seen self.old).log.segments }
     {
-        let space = self.space_of(self.store.drafted);
+        let space = self.space_of(self.store.drafted());
         if space.need > space.limit {
             self.store.give_up();
             return Err(FsError::NoSpace);

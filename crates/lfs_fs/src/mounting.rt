@@ -48,9 +48,9 @@ impl<D: SectorDevice> Fs<D> {
     pub fn mount(alloc: Global, device: D) -> Result<Fs<D>, (MountFault, D)>
         ensures mounts { IfOk result (λ fs. MountsFs D.SectorDevice.state device fs) }
         ensures only { IfOk result (λ fs. FindsState D.SectorDevice.state device fs) }
-        ensures durable { IfOk result (λ fs. (D.state fs.store.log.device).keeps_model
-            → Only (D.state device).content (D.state fs.store.log.device)) }
-        ensures no_failure { IfOk result (λ fs. (D.state fs.store.log.device).failures
+        ensures durable { IfOk result (λ fs. (D.state (seen fs).log.device).keeps_model
+            → Only (D.state device).content (D.state (seen fs).log.device)) }
+        ensures no_failure { IfOk result (λ fs. (D.state (seen fs).log.device).failures
             ≡ (D.state device).failures) }
         ensures cause { IfErr result (λ e. (e.0 ≡ MountFault.NoMemory → ⊥)
             → IsMountFault (D.state device) (D.state e.1) e.0) }
@@ -58,13 +58,13 @@ impl<D: SectorDevice> Fs<D> {
         ensures below_all { IsBelowAll (D.state device)
             → result ≡ Err (record { 0 = MountFault.TooSmall; 1 = device }) }
         ensures untouched { MatchResult result
-            (λ fs. IsUntouched (D.state device) (D.state fs.store.log.device))
+            (λ fs. IsUntouched (D.state device) (D.state (seen fs).log.device))
             (λ e. IsUntouched (D.state device) (D.state e.1)) }
         ensures carries { MatchResult result
-            (λ fs. Carries (D.state device) (D.state fs.store.log.device))
+            (λ fs. Carries (D.state device) (D.state (seen fs).log.device))
             (λ e. Carries (D.state device) (D.state e.1)) }
         ensures any_moment { MatchResult result
-            (λ fs. LeavesOnly (D.state device) (D.state fs.store.log.device)
+            (λ fs. LeavesOnly (D.state device) (D.state (seen fs).log.device)
             (D.state device).may_leave) (λ e. LeavesOnly (D.state device) (D.state e.1)
             (D.state device).may_leave) }
     {
@@ -88,28 +88,28 @@ impl<D: SectorDevice> Fs<D> {
 
     /// The device as it is, to look at.
     pub fn device(&self) -> &D
-        ensures { result.now ≡ self.now.store.log.device }
+        ensures { result.now ≡ (seen self.now).log.device }
     {
-        self.store.log.device()
+        self.store.device()
     }
 
     /// The acknowledged checkpoint's number.
     pub fn checkpoint(&self) -> u64
-        ensures { result ≡ self.now.store.log.number }
+        ensures { result ≡ (seen self.now).log.number }
     {
-        self.store.log.number()
+        self.store.number()
     }
 
     /// How many blocks live in each segment, and hold it.
     pub fn usage(&self) -> &Usage
-        ensures { result.now ≡ self.now.store.log.usage }
+        ensures { result.now ≡ (seen self.now).log.usage }
     {
-        self.store.log.usage()
+        self.store.usage()
     }
 
     /// The device as it is. What wasn't saved is gone.
     pub fn into_device(self) -> D
-        ensures { result ≡ self.store.log.device }
+        ensures { result ≡ (seen self).log.device }
     {
         self.store.into_device()
     }
@@ -121,9 +121,9 @@ impl<D: TendedDevice> Fs<D> {
 
     /// Tends to the device, of which the volume sees nothing.
     pub fn tend(&mut self)
-        ensures tended { D.tends self.old.store.log.device self.new.store.log.device }
+        ensures tended { D.tends (seen self.old).log.device (seen self.new).log.device }
         ensures still { IsStill D.SectorDevice.state (seen self.old) (seen self.new) }
     {
-        self.store.log.tend();
+        self.store.tend();
     }
 }

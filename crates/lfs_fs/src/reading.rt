@@ -98,7 +98,7 @@ impl<D: SectorDevice> Fs<D> {
             (answer_by room_of result) }
     {
         self.begin()?;
-        Ok(self.space_of(self.store.drafted))
+        Ok(self.space_of(self.store.drafted()))
     }
 
     /// The version of the volume's layout: 1 or 2.
@@ -111,6 +111,6 @@ impl<D: SectorDevice> Fs<D> {
             (answer_by FormatVersion result) }
     {
         self.begin()?;
-        Ok(self.store.log.version())
+        Ok(self.store.version())
     }
 }

@@ -27,7 +27,7 @@ impl<D: SectorDevice> Fs<D> {
             (answer_by (λ _. Done) result) }
     {
         self.begin()?;
-        if self.store.log.version() == 2 {
+        if self.store.version() == 2 {
             return self.check_worn();
         }
         self.store.upgrade();
@@ -61,7 +61,7 @@ impl<D: SectorDevice> Fs<D> {
         if !is_directory(header.kind) {
             return Err(FsError::NotDir);
         }
-        if self.store.log.version() == 1 {
+        if self.store.version() == 1 {
             return Err(FsError::Inval);
         }
         if header.form != FIRST_FORM {

@@ -53,7 +53,7 @@ impl<D: SectorDevice> Fs<D> {
         requires bytes { 0 < length bytes.now }
         requires end { at + length bytes.now ≤ LARGEST_FILE }
         requires ready { IsReady self.old }
-        requires counted { self.old.store.drafted ≡ self.old.store.log.totals }
+        requires counted { drafted_of self.old.store ≡ (seen self.old).log.totals }
         requires most { length bytes.now ≤ LONGEST_TRANSFER }
         ensures { (handle : ℕ) → find nat_cmp handle self.old.handles ≡ Some number.value
             → length bytes.now ≤ LONGEST_TRANSFER
@@ -91,7 +91,7 @@ impl<D: SectorDevice> Fs<D> {
     fn cut_file(&mut self, number: FileNumber, len: u32) -> Result<(), FsError>
         requires most { len ≤ LARGEST_FILE }
         requires ready { IsReady self.old }
-        requires counted { self.old.store.drafted ≡ self.old.store.log.totals }
+        requires counted { drafted_of self.old.store ≡ (seen self.old).log.totals }
         ensures { (handle : ℕ) → find nat_cmp handle self.old.handles ≡ Some number.value
             → Serves D.SectorDevice.state (seen self.old) (seen self.new) (Truncate handle len)
             (answer_by (λ _. Done) result) }

@@ -1,5 +1,5 @@
 -- What the layers above know of a log that holds a log map, and of calls that only read it.
-use Rattle.std.proofs.Common.{◌≡◌, ◌≤◌, ◌+◌, ◌*◌, ◌<◌, ℕ, refl, sym, ◌∙◌, subst, arith}
+use Rattle.std.proofs.Common.{◌≡◌, ◌≤◌, ◌+◌, ◌*◌, ◌<◌, ℕ, false, length, refl, sym, ◌∙◌, ap, subst, arith}
 use Rattle.lfs_model.specs.Checkpoint.{CheckpointValue, IsSegmentCount}
 use Rattle.lfs_model.specs.Content.{Content}
 use Rattle.lfs_model.specs.Crash.{StandsOn}
@@ -15,7 +15,7 @@ use Rattle.lfs_memory.specs.Memory.{IsLog}
 use Rattle.lfs_memory.specs.Present.{Looks}
 use Rattle.lfs_memory.proofs.Looses.{loose, tight_again}
 use Rattle.lfs_memory.proofs.Presents.{looks_none, looks_quiet, looks_then, still_log}
-use Rattle.lfs_log.specs.LogState.{LogState, Holds, IsAtRest, IsReadFault, Reads}
+use Rattle.lfs_log.specs.LogState.{LogState, Holds, IsAtRest, IsReadFault, IsWhole, Reads}
 use Rattle.lfs_log.proofs.Unsaved.{kept_saved}
 
 module _ {D : Type 0} (state : D → DeviceState) where
@@ -27,12 +27,16 @@ module _ {D : Type 0} (state : D → DeviceState) where
       → AllLeft (state h.device) (λ c. StandsOn k.segments c m0)
   acknowledged h k m0 m is = settled_stands (state h.device) k m0 (settled h k m0 m is)
 
-  -- a log that holds a map has as many segments as a volume may have
+  -- a log that holds a map has as many segments as a volume may have, and so has each that isn't halted
   pub segment_count : (h : LogState D) (k : CheckpointValue) (m0 m : LogMap) → IsLawful (state h.device) → Holds state h k m0 m
       → IsSegmentCount h.segments
   segment_count h k m0 m lawful is =
       let fits = ((newest_fits (state h.device).content lawful.now).0 k).0 (settled h k m0 m is).newest in
       subst IsSegmentCount is.segments fits.held.fits.segments
+
+  pub whole_count : (h : LogState D) → IsWhole h → h.halted ≡ false → IsSegmentCount h.segments
+  whole_count h whole running =
+      subst IsSegmentCount (sym (whole.segments ∙ ap (λ (t : UsageTable). length t.segments) whole.usage)) (whole.memory running).count
 
   -- a device that is looked at leaves what is acknowledged
   pub looks_leave : (h : LogState D) (d : DeviceState) (k : CheckpointValue) (m0 m : LogMap) → IsLawful (state h.device)

@@ -53,7 +53,7 @@ pub record IsQuiet (call : Call) : Type 0 where
 module _ {D : Type 0} (state : D → DeviceState) where
   -- What holds of each state that the volume may be in, where the device keeps the model until then.
   abbrev pub In : Mounted D → Fs D → (LogMap → State → Type 0) → Type 0
-  In v f P = (k : CheckpointValue) (m0 m : LogMap) (s : State) → (state f.store.log.device).keeps_model → IsIn state v k m0 m s → P m s
+  In v f P = (k : CheckpointValue) (m0 m : LogMap) (s : State) → (state (seen f).log.device).keeps_model → IsIn state v k m0 m s → P m s
 
   -- a volume's files are read
   abbrev pub ReadsTo : Fs D → Store D → Type 0

@@ -76,7 +76,7 @@ module _ {D : Type 0} (state : D → DeviceState) where
     }
 
     -- ---- a draft is staged
-    module _ (c : Changes) (done : Accepts state old.log old.saved new.log new.saved c) (low : old.log.number < 2 ^ 62) (a : Answer)
+    module _ (c : Changes) (done : Accepts state old.log new.log c) (low : old.log.number < 2 ^ 62) (a : Answer)
         (fine : a ≡ Refuse Halted → ⊥) (none : acknowledges call a ≡ true → ⊥) where
       -- what the draft makes of a state that the volume is in
       pub record Drafts (p : Point) (m : LogMap) : Type 0 where
@@ -94,34 +94,34 @@ module _ {D : Type 0} (state : D → DeviceState) where
           let log = map_dropped state old new keeps lawful after carries k m0 m p.state is in record {
             next = drafts.next;
             runs = runs_over state old new k m0 m p.state is (staged c m) drafts.next
-                (done.stores k m0 m keeps is.stores drafts.fits log) segments drafts.map drafts.handles drafts.counted
+                (done.holds k m0 m keeps is.holds drafts.fits log) segments drafts.map drafts.handles drafts.counted
                 (λ e. (done.enough, (let o = done.saves.few in let size = segments in omega (arith, o, low, size))));
             steps = drafts.steps;
-            moment = done.moment k m0 m keeps is.stores log;
+            moment = done.moment k m0 m keeps is.holds log;
             saves = λ e. absurd (none e);
           }))
 
     -- ---- a commit is done
-    module _ (rest : IsRest old new) (done : Commits state old.log old.saved new.log) (saved : new.saved ≡ true) where
-      over : (k : CheckpointValue) (m0 m : LogMap) → (state new.log.device).keeps_model → (stores : Stores state old.log old.saved k m0 m)
-          → IsLogMap (dropped m) → StoresOver state k.segments m0 m new.log new.saved m
+    module _ (rest : IsRest old new) (done : Commits state old.log new.log) (saved : new.saved ≡ true) where
+      over : (k : CheckpointValue) (m0 m : LogMap) → (state new.log.device).keeps_model → (stores : Holds state old.log k m0 m)
+          → IsLogMap (dropped m) → HoldsNext state k.segments m0 m new.log m
       over k m0 m keeps stores log =
-          let next = done.stores k m0 m keeps stores log in
-          let before = stores.holds.log.segments in
+          let next = done.holds k m0 m keeps stores log in
+          let before = holds.log.segments in
           let now = next.1.holds.log.segments in
           record {
             checkpoint = next.0;
             acknowledged = dropped m;
             either = inr refl;
             same = sym now ∙ done.segments ∙ before;
-            stores = subst (λ (b : Bool). Stores state new.log b next.0 (dropped m) m) (sym saved) next.1;
+            stores = subst (λ (b : Bool). Holds state new.log next.0 (dropped m) m) (sym saved) next.1;
           }
 
       -- what a stop leaves then is the state without its nodes of no name
       left_one : (k : CheckpointValue) (m0 m : LogMap) (s : State) → IsIn state old k m0 m s → (state new.log.device).keeps_model
           → IsLogMap (dropped m) → LeavesOne (state new.log.device) (drop_nameless s)
       left_one k m0 m s is keeps log c left = stands_dropped k.segments c m s
-          (subst (λ (n : ℕ). IsLogOf n m s) is.stores.holds.log.segments is.log) (done.left k m0 m keeps is.stores log c left)
+          (subst (λ (n : ℕ). IsLogOf n m s) is.holds.log.segments is.log) (done.left k m0 m keeps is.holds log c left)
 
       pub commits_by : (a : Answer) → (a ≡ Refuse Halted → ⊥) → Behaves state old new call a
           → ((p : Point) → (state new.log.device).keeps_model → IsAt state old p
@@ -129,16 +129,16 @@ module _ {D : Type 0} (state : D → DeviceState) where
       commits_by a fine behaves each = runs_on a fine behaves done.running (λ p keeps at k m0 m is. (
           let log = map_dropped state old new keeps lawful after carries k m0 m p.state is in record {
             next = p.state;
-            runs = runs_over state old new k m0 m p.state is m p.state (over k m0 m keeps is.stores log) segments
+            runs = runs_over state old new k m0 m p.state is m p.state (over k m0 m keeps is.holds log) segments
                 (map_of_volume state old k m0 m p.state is)
                 (is.handles ∙ sym rest.table) (counted_still old new m rest is.counted) (λ e. absurd (let s = saved in cc));
             steps = each p keeps at;
-            moment = done.moment k m0 m keeps is.stores log;
+            moment = done.moment k m0 m keeps is.holds log;
             saves = λ e. left_one k m0 m p.state is keeps log;
           }))
 
     -- ---- it isn't
-    module _ (c : Changes) (rest : IsRest old new) (declines : Declines state old.log old.saved new.log new.saved c)
+    module _ (c : Changes) (rest : IsRest old new) (declines : Declines state old.log new.log c)
         (low : old.log.number < 2 ^ 62) (r : Refusal) (fine : r ≡ Halted → ⊥) where
       not_halted : Refuse r ≡ Refuse Halted → ⊥
       not_halted e = fine (cc)
@@ -150,7 +150,7 @@ module _ {D : Type 0} (state : D → DeviceState) where
           let both = each p keeps at k m0 m is in
           let log = map_dropped state old new keeps lawful after carries k m0 m p.state is in record {
             next = p.state;
-            runs = runs_over state old new k m0 m p.state is m p.state (declines.stores k m0 m keeps is.stores both.0 log) segments
+            runs = runs_over state old new k m0 m p.state is m p.state (declines.holds k m0 m keeps is.holds both.0 log) segments
                 (map_of_volume state old k m0 m p.state is)
                 (is.handles ∙ sym rest.table) (counted_still old new m rest is.counted)
                 (λ e. (
@@ -159,6 +159,6 @@ module _ {D : Type 0} (state : D → DeviceState) where
                       omega (arith, o, low, size)),
                 ));
             steps = both.1;
-            moment = declines.moment k m0 m keeps is.stores log;
+            moment = declines.moment k m0 m keeps is.holds log;
             saves = λ e. absurd (not_acknowledged call r e);
           }))

@@ -39,8 +39,8 @@ module _ {D : Type 0} (state : D → DeviceState) where
   pub still_in : (old new : Mounted D) (k : CheckpointValue) (m0 m : LogMap) (s : State) → IsStill state old new → IsIn state old k m0 m s
       → IsIn state new k m0 m s
   still_in old new k m0 m s still is = record {
-    stores = subst (λ (b : Bool). Stores state new.log b k m0 m) (sym still.saved)
-        (stores_still state old.log new.log old.saved k m0 m still.reads is.stores);
+    stores = subst (λ (b : Bool). Holds state new.log k m0 m) (sym still.saved)
+        (stores_still state old.log new.log old.saved k m0 m still.reads is.holds);
     map = is.map;
     log = subst (λ (n : ℕ). IsLogOf n m s) same is.log;
     handles = is.handles ∙ sym still.table;
@@ -169,7 +169,7 @@ module _ {D : Type 0} (state : D → DeviceState) where
     N = segments_of old
 
     same_count : N ≡ k.segments
-    same_count = is.stores.holds.log.segments
+    same_count = is.holds.log.segments
 
     log_by : IsLogOf k.segments m s
     log_by = subst (λ (n : ℕ). IsLogOf n m s) same_count is.log
@@ -180,7 +180,7 @@ module _ {D : Type 0} (state : D → DeviceState) where
     pub leaves_by : (ss : List State) → LeavesOnly (state old.log.device) (state new.log.device) (StandsForOn k.segments m0 (dropped m))
         → LeavesStates (state old.log.device) (state new.log.device) (drop_nameless s ∷ ss)
     leaves_by ss leaves =
-        leaves_states (state old.log.device) lawful (carries.kept_before keeps) k m0 is.stores.holds.log.running.settled
+        leaves_states (state old.log.device) lawful (carries.kept_before keeps) k m0 is.holds.log.running.settled
         (subst (λ (n : ℕ). IsTree n m0) same_count is.acknowledged)
         (state new.log.device) m s log_by ss leaves
 

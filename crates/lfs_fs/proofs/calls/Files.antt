@@ -68,7 +68,7 @@ module _ {D : Type 0} (state : D → DeviceState) where
   pub record IsBegun (v : Mounted D) (f : Fs D) : Type 0 where
     pub still : IsStill state v (seen f)
     pub ready : IsReady f
-    pub drafted : f.store.drafted ≡ f.store.log.totals
+    pub drafted : drafted_of f.store ≡ (seen f).log.totals
 
   pub begun_at : (v : Mounted D) (f : Fs D) (path : List ℕ) (d : ℕ) (piece : Option Last) → Reaches state v f path d piece → IsReady f
       → IsBegun v f
@@ -76,7 +76,7 @@ module _ {D : Type 0} (state : D → DeviceState) where
 
 -- ---- the path of a call has no last piece
 module _ {D : Type 0} (state : D → DeviceState) (lawful : (d : D) → IsLawful (state d)) (v : Mounted D) (f : Fs D) (path : List ℕ) (d : ℕ)
-    (reached : Reaches state v f path d None) (running : f.store.log.halted ≡ false) where
+    (reached : Reaches state v f path d None) (running : (seen f).log.halted ≡ false) where
   pub nameless : (call : Call) → cleans call ≡ false → (r : Refusal) → IsOrdinary (Refuse r)
       → ((s : State) → Sound (segments_of v) s → Parent s.tree path (At d) → no_last path ≡ true
       → Step (segments_of v) s call (Refuse r) s)
@@ -99,12 +99,12 @@ module _ {D : Type 0} (state : D → DeviceState) (lawful : (d : D) → IsLawful
   has_now k m0 m s is = record {
     checkpoint = k;
     acknowledged = m0;
-    holds = (still_in state v (seen f) k m0 m s begun.still is).stores.holds;
-    draft = sym (draft_empty f.store.draft.changes m begun.ready.empty).0;
+    holds = (still_in state v (seen f) k m0 m s begun.still is).holds;
+    draft = sym (draft_empty (draft_of f.store) m begun.ready.empty).0;
   }
 
   pub fits_now : (m : LogMap) → (files_of state f.store).fits m
-  fits_now m = (draft_empty f.store.draft.changes m begun.ready.empty).1
+  fits_now m = (draft_empty (draft_of f.store) m begun.ready.empty).1
 
   pub counted_now : (k : CheckpointValue) (m0 m : LogMap) (s : State) → IsIn state v k m0 m s
       → AreCounted m (files_of state f.store).drafted
@@ -120,7 +120,7 @@ module _ {D : Type 0} (state : D → DeviceState) (lawful : (d : D) → IsLawful
   }
 
   -- in a state, at the last piece of the path
-  pub reached_in : (path : List ℕ) (d : ℕ) (l : Last) → Reaches state v f path d (Some l) → (state f.store.log.device).keeps_model
+  pub reached_in : (path : List ℕ) (d : ℕ) (l : Last) → Reaches state v f path d (Some l) → (state (seen f).log.device).keeps_model
       → (k : CheckpointValue) (m0 m : LogMap) (s : State) → IsIn state v k m0 m s → IsReached (segments_of v) m s path d l
   reached_in path d l reached keeps k m0 m s is = record {
     map = map_of_volume state v k m0 m s is;
@@ -133,7 +133,7 @@ module _ {D : Type 0} (state : D → DeviceState) (lawful : (d : D) → IsLawful
   module _ (store : Store D) where
     -- What holds of each state that the volume may be in, where its device keeps the model up to the end.
     abbrev pub InEach : (LogMap → State → Type 0) → Type 0
-    InEach P = (k : CheckpointValue) (m0 m : LogMap) (s : State) → (state store.log.device).keeps_model → IsIn state v k m0 m s → P m s
+    InEach P = (k : CheckpointValue) (m0 m : LogMap) (s : State) → (state (volume_of store).device).keeps_model → IsIn state v k m0 m s → P m s
 
     -- what is told of files holds in a state
     pub told : (P : LogMap → Type 0) → telling.InEach (files_of state f.store) (files_of state store) P → InEach (λ m s. P m)
@@ -144,7 +144,7 @@ module _ {D : Type 0} (state : D → DeviceState) (lawful : (d : D) → IsLawful
 
     -- a call of the device failed since the volume's call began
     abbrev pub Rose : Type 0
-    Rose = (state v.log.device).failures < (state store.log.device).failures
+    Rose = (state v.log.device).failures < (state (volume_of store).device).failures
 
     module _ (still : IsStill state (seen f) (seen after)) where
       pub still_after : IsStill state v (seen after)
@@ -152,10 +152,10 @@ module _ {D : Type 0} (state : D → DeviceState) (lawful : (d : D) → IsLawful
 
       -- where something is so, a call of the device failed
       pub rose_where : (P : LogMap → Type 0) → telling.InEach (files_of state f.store) (files_of state store)
-          (λ m. P m → (state f.store.log.device).failures < (state store.log.device).failures)
+          (λ m. P m → (state (seen f).log.device).failures < (state (volume_of store).device).failures)
           → InEach (λ m s. P m → Rose)
       rose_where P fails k m0 m s keeps is holds =
-          let rose : (state f.store.log.device).failures < (state store.log.device).failures =
+          let rose : (state (seen f).log.device).failures < (state (volume_of store).device).failures =
           fails m m keeps (has_now k m0 m s is) holds in
           let before = begun.still.reads.looks.carries.failures in
           omega (arith, rose, before)
@@ -223,7 +223,7 @@ module _ {D : Type 0} (state : D → DeviceState) (lawful : (d : D) → IsLawful
       -- memory takes a draft of so many headers and blocks
       pub takes_draft : (headers blocks : ℕ) → 2 * headers + 4 * blocks ≤ 452
           → GrowsDirectory (files_of state f.store) (files_of state store) headers blocks → room_for store.draft.changes ≤ 456
-      takes_draft headers blocks few grows = grown_fits f.store.draft.changes store.draft.changes headers blocks few begun.ready.empty
+      takes_draft headers blocks few grows = grown_fits (draft_of f.store) store.draft.changes headers blocks few begun.ready.empty
           (adds_grow state f.store store headers blocks grows)
 
       module _ (call : Call) (change : changes call ≡ true) (free : never_for_device call ≡ false)
@@ -259,7 +259,7 @@ module _ {D : Type 0} (state : D → DeviceState) (lawful : (d : D) → IsLawful
 
           -- the answer, and the open files
           abbrev pub EndsWith : Answer → Handles → Type 0
-          EndsWith x table = (k : CheckpointValue) (m0 m : LogMap) (s : State) (keeps : (state store.log.device).keeps_model)
+          EndsWith x table = (k : CheckpointValue) (m0 m : LogMap) (s : State) (keeps : (state (volume_of store).device).keeps_model)
               (is : IsIn state v k m0 m s) → ((makes k m0 m s keeps is).answer ≡ x) × ((makes k m0 m s keeps is).next.handles ≡ table)
 
           -- it is staged, or it isn't; the open files stay

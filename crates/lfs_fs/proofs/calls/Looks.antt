@@ -16,20 +16,20 @@ use Rattle.lfs_fs.specs.Seen.{HasHeader, LacksHeader}
 
 module _ {D : Type 0} (state : D → DeviceState) (old new : Fs D) (n : ℕ) where
   pub has_header : (found : Option Header) (h : Header) → found ≡ Some h
-      → ReadsHeader state old.store.log new.store.log old.store.draft.changes n found → HasHeader state old new n h
+      → ReadsHeader state (seen old).log (seen new).log (draft_of old.store) n found → HasHeader state old new n h
   has_header found h is answer k m0 m keeps holds =
-      subst (λ (o : Option Header). HeaderAnswer (staged old.store.draft.changes m) n o) is (answer k m0 m keeps holds)
+      subst (λ (o : Option Header). HeaderAnswer (with_draft (draft_of old.store) m) n o) is (answer k m0 m keeps holds)
 
-  pub has_none : (found : Option Header) → found ≡ None → ReadsHeader state old.store.log new.store.log old.store.draft.changes n found
+  pub has_none : (found : Option Header) → found ≡ None → ReadsHeader state (seen old).log (seen new).log (draft_of old.store) n found
       → LacksHeader state old new n error.Device
   has_none found is answer = inr (
     refl,
     λ k m0 m keeps holds.
-        inr (subst (λ (o : Option Header). HeaderAnswer (staged old.store.draft.changes m) n o) is (answer k m0 m keeps holds)),
+        inr (subst (λ (o : Option Header). HeaderAnswer (with_draft (draft_of old.store) m) n o) is (answer k m0 m keeps holds)),
   )
 
-  pub has_fault : (fault : LogFault) (e : FsError) → e ≡ error_of_log fault → (fault ≡ log.Halted → old.store.log.halted ≡ true)
-      → (fault ≡ log.Full → ⊥) → IsReadFault state old.store.log new.store.log → LacksHeader state old new n e
+  pub has_fault : (fault : LogFault) (e : FsError) → e ≡ error_of_log fault → (fault ≡ log.Halted → (seen old).log.halted ≡ true)
+      → (fault ≡ log.Full → ⊥) → IsReadFault state (seen old).log (seen new).log → LacksHeader state old new n e
   has_fault log.Device e is halted other failed = inr (is, λ k m0 m keeps holds. inl (failed k m0 m keeps holds))
   has_fault log.Halted e is halted other failed = inl (is, halted refl)
   has_fault log.Full e is halted other failed = absurd (other refl)

@@ -20,7 +20,7 @@ module _ {D : Type 0} (state : D → DeviceState) (old new : Mounted D) (call : 
   -- a call of the device failed
   pub fault_serves : never_for_device call ≡ false → IsReadFault state old.log new.log → Serves state old new call (Refuse Device)
   fault_serves free fault = served_still state old new call (Refuse Device) lawful still was tt (λ p keeps here k m0 m is. (
-      let rose = fault k m0 m keeps is.stores.holds in
+      let rose = fault k m0 m keeps is.holds in
       inr (Device, refl, (free, (let f = here.failures in omega (arith, f, rose))), refl)))
       (not_acknowledged call Device)
 

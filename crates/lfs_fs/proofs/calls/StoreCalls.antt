@@ -96,8 +96,8 @@ module _ {D : Type 0} (state : D → DeviceState) (a b : Store D) where
     }
 
 -- a volume whose store was changed no more than its draft, from where it has the same log and totals
-pub still_drafted : {D : Type 0} (state : D → DeviceState) (old : Fs D) (a b : Store D) → a.log ≡ old.store.log
-    → a.log.saved ≡ old.store.log.saved
+pub still_drafted : {D : Type 0} (state : D → DeviceState) (old : Fs D) (a b : Store D) → a.log ≡ (seen old).log
+    → a.log.saved ≡ (seen old).log.saved
     → files.Redrafts (files_of state a) (files_of state b)
     → IsStill state (seen old) (seen record { alloc = old.alloc; store = b; handles = old.handles })
 still_drafted {D} state old a b log saved redrafts = record {
@@ -109,10 +109,10 @@ still_drafted {D} state old a b log saved redrafts = record {
 }
 
 -- a volume whose log is as it was
-pub still_logged : {D : Type 0} (state : D → DeviceState) (old new : Fs D) → new.store.log ≡ old.store.log
-    → new.store.log.saved ≡ old.store.log.saved → new.handles ≡ old.handles → IsStill state (seen old) (seen new)
+pub still_logged : {D : Type 0} (state : D → DeviceState) (old new : Fs D) → (seen new).log ≡ (seen old).log
+    → (seen new).log.saved ≡ (seen old).log.saved → new.handles ≡ old.handles → IsStill state (seen old) (seen new)
 still_logged {D} state old new log saved handles = record {
-  reads = subst (λ (h : LogState D). Reads state old.store.log h) (sym log) (reads_none state old.store.log);
+  reads = subst (λ (h : LogState D). Reads state (seen old).log h) (sym log) (reads_none state (seen old).log);
   saved = saved;
   blocks = ap (λ (h : LogState D). h.totals.data_blocks) log;
   others = ap (λ (h : LogState D). h.totals.meta_blocks) log;

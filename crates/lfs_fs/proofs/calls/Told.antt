@@ -28,10 +28,10 @@ use Rattle.lfs_fs.proofs.calls.Files.{rose_where, still_ready, with_store}
 -- a volume with these open files
 abbrev pub with_open : {D : Type 0} → Fs D → Handles → Mounted D
 with_open f table = record {
-  log = f.store.log;
-  saved = f.store.log.saved;
-  blocks = f.store.log.totals.data_blocks;
-  others = f.store.log.totals.meta_blocks;
+  log = (seen f).log;
+  saved = (seen f).log.saved;
+  blocks = (seen f).log.totals.data_blocks;
+  others = (seen f).log.totals.meta_blocks;
   table = table;
 }
 

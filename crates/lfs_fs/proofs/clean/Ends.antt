@@ -54,7 +54,7 @@ module _ {D : Type 0} (state : D → DeviceState) (lawful : (d : D) → IsLawful
   module _ (old new : Mounted D) (was : old.log.halted ≡ false) (rest : IsRest state old new) (low : old.log.number < 2 ^ 62)
       (tells : TellsAtMost state old.log new.log (room_orders (segments_of old))) where
     -- the log map is as it was, and what isn't saved after it wasn't before
-    module _ (room : MakesRoom state old.log old.saved new.log new.saved) where
+    module _ (room : MakesRoom state old.log new.log) where
       ready : new.saved ≡ false → (old.saved ≡ false → HasClean old.log × (old.log.number ≤ 2 ^ 62 + segments_of old / 8))
           → HasClean new.log × (new.log.number ≤ 2 ^ 62 + segments_of new / 8)
       ready e before =
@@ -79,11 +79,11 @@ module _ {D : Type 0} (state : D → DeviceState) (lawful : (d : D) → IsLawful
           record {
             next = p.state;
             runs = runs_over state old new k m0 m p.state is m p.state
-                (room_stores state old.log old.saved new.log new.saved room k m0 m keeps is.stores log) room.keeps.segments
+                (room_stores state old.log old.saved new.log new.saved room k m0 m keeps is.holds log) room.keeps.segments
                 (map_of_volume state old k m0 m p.state is) (is.handles ∙ sym rest.table)
                 (counted_still state old new m rest is.counted) (λ e. ready e is.ready);
             steps = steps p keeps at k m0 m is;
-            moment = room.keeps.moment k m0 m keeps is.stores.holds log;
+            moment = room.keeps.moment k m0 m keeps is.holds log;
             saves = λ e. absurd (cc);
           }))
 
@@ -94,20 +94,20 @@ module _ {D : Type 0} (state : D → DeviceState) (lawful : (d : D) → IsLawful
       -- a call of the device failed
       pub clean_failed_serves : IsRoomFault state old.log new.log → Serves state old new Clean (Refuse Device)
       clean_failed_serves failed = ends_by (Refuse Device) (λ e. cc) (λ e. cc) (λ p keeps at k m0 m is.
-          let rose = failed k m0 m keeps is.stores.holds
+          let rose = failed k m0 m keeps is.holds
           (map_dropped state old new keeps (lawful old.log.device) (lawful new.log.device) room.keeps.carries k m0 m p.state is) in
           inr (Device, refl, (refl, (let f = at.failures in omega (arith, f, rose))), refl))
 
       -- there is room where the device keeps the model
       pub clean_full_serves : old.log.totals.data_blocks ≡ old.blocks → old.log.totals.meta_blocks ≡ old.others
-          → CannotMakeRoom state old.log old.saved new.log → Serves state old new Clean (Refuse Device)
+          → MayNotMakeRoom state old.log new.log → Serves state old new Clean (Refuse Device)
       clean_full_serves stored above cannot = ends_by (Refuse Device) (λ e. cc) (λ e. cc) (λ p keeps at k m0 m is.
           absurd (cannot k m0 m keeps (has_room state old (lawful old.log.device) stored above low k m0 m p.state is)))
 
   -- ---- the call
-  module _ (old : Fs D) (store : Store D) (was : old.store.log.halted ≡ false) (totals : store.log.totals ≡ old.store.log.totals)
-      (low : old.store.log.number < 2 ^ 62)
-      (tells : TellsAtMost state old.store.log store.log (room_orders (segments_of (seen old)))) where
+  module _ (old : Fs D) (store : Store D) (was : (seen old).log.halted ≡ false) (totals : (volume_of store).totals ≡ (seen old).log.totals)
+      (low : (seen old).log.number < 2 ^ 62)
+      (tells : TellsAtMost state (seen old).log (volume_of store) (room_orders (segments_of (seen old)))) where
     abbrev new : Fs D
     new = record { alloc = old.alloc; store = store; handles = old.handles }
 
@@ -118,30 +118,30 @@ module _ {D : Type 0} (state : D → DeviceState) (lawful : (d : D) → IsLawful
       table = refl;
     }
 
-    pub cleaned_serves : MakesRoom state old.store.log old.store.log.saved store.log store.log.saved
+    pub cleaned_serves : MakesRoom state (seen old).log (volume_of store)
         → Serves state (seen old) (seen new) Clean Done
     cleaned_serves room = clean_done_serves (seen old) (seen new) was rest low tells room
 
-    clean_fault : (fault : LogFault) → (fault ≡ log.Full → MakesRoom state old.store.log old.store.log.saved store.log store.log.saved)
-        → (fault ≡ log.Full → CannotMakeRoom state old.store.log old.store.log.saved store.log)
-        → (fault ≡ log.Device → MakesRoom state old.store.log old.store.log.saved store.log store.log.saved)
-        → (fault ≡ log.Device → IsRoomFault state old.store.log store.log)
-        → (fault ≡ log.Halted → HaltsLater state old.store.log store.log (most_written old.store.log old.store.log.saved))
+    clean_fault : (fault : LogFault) → (fault ≡ log.Full → MakesRoom state (seen old).log (volume_of store))
+        → (fault ≡ log.Full → MayNotMakeRoom state (seen old).log (volume_of store))
+        → (fault ≡ log.Device → MakesRoom state (seen old).log (volume_of store))
+        → (fault ≡ log.Device → IsRoomFault state (seen old).log (volume_of store))
+        → (fault ≡ log.Halted → HaltsLater state (seen old).log (volume_of store) (most_checkpoints (seen old).log))
         → Serves state (seen old) (seen new) Clean (Refuse (refusal_of (error_of_log fault)))
     clean_fault log.Full full never kept failed halted =
         clean_full_serves (seen old) (seen new) was rest low tells (full refl) refl refl (never refl)
     clean_fault log.Device full never kept failed halted =
         clean_failed_serves (seen old) (seen new) was rest low tells (kept refl) (failed refl)
     clean_fault log.Halted full never kept failed halted =
-        halts_serves state lawful (seen old) (seen new) Clean was refl refl (most_written old.store.log old.store.log.saved)
-        (written_most D old.store.log old.store.log.saved) (λ few. clean_bounded state (seen old) (seen new) few tells) (halted refl)
+        halts_serves state lawful (seen old) (seen new) Clean was refl refl (most_checkpoints (seen old).log)
+        (written_most D (seen old).log (seen old).log.saved) (λ few. clean_bounded state (seen old) (seen new) few tells) (halted refl)
 
     pub clean_fails : (fault : LogFault) (e : FsError) → e ≡ error_of_log fault
-        → (fault ≡ log.Full → MakesRoom state old.store.log old.store.log.saved store.log store.log.saved)
-        → (fault ≡ log.Full → CannotMakeRoom state old.store.log old.store.log.saved store.log)
-        → (fault ≡ log.Device → MakesRoom state old.store.log old.store.log.saved store.log store.log.saved)
-        → (fault ≡ log.Device → IsRoomFault state old.store.log store.log)
-        → (fault ≡ log.Halted → HaltsLater state old.store.log store.log (most_written old.store.log old.store.log.saved))
+        → (fault ≡ log.Full → MakesRoom state (seen old).log (volume_of store))
+        → (fault ≡ log.Full → MayNotMakeRoom state (seen old).log (volume_of store))
+        → (fault ≡ log.Device → MakesRoom state (seen old).log (volume_of store))
+        → (fault ≡ log.Device → IsRoomFault state (seen old).log (volume_of store))
+        → (fault ≡ log.Halted → HaltsLater state (seen old).log (volume_of store) (most_checkpoints (seen old).log))
         → Serves state (seen old) (seen new) Clean (Refuse (refusal_of e))
     clean_fails fault e is full never kept failed halted =
         subst (λ (x : FsError). Serves state (seen old) (seen new) Clean (Refuse (refusal_of x))) (sym is)

@@ -65,7 +65,7 @@ module _ {D : Type 0} (state : D → DeviceState) (lawful : (d : D) → IsLawful
 
 -- what holds in each state that the volume may be in, where its device keeps the model up to here
 abbrev Each : {D : Type 0} → (D → DeviceState) → Fs D → Fs D → (LogMap → State → Type 0) → Type 0
-Each state old f P = (k : CheckpointValue) (m0 m : LogMap) (s : State) → (state f.store.log.device).keeps_model
+Each state old f P = (k : CheckpointValue) (m0 m : LogMap) (s : State) → (state (seen f).log.device).keeps_model
     → IsIn state (seen old) k m0 m s → P m s
 
 -- ---- then the second path is walked

@@ -49,24 +49,24 @@ state_found c t has =
 
 -- ---- the volume behind it
 module _ {D : Type 0} (state : D → DeviceState) (d d' : D) (lawful : IsLawful (state d)) (looks : Looks (state d) (state d')) (v : Fs D)
-    (same : v.store.log.device ≡ d')
-    (stores : MountsStore state d' v.store.log v.store.log.saved) (counts : MountsTotals state d' v.store.log v.store.log.totals)
+    (same : (seen v).log.device ≡ d')
+    (stores : Mounts state d' (seen v).log) (counts : MountsTotals state d' (seen v).log (seen v).log.totals)
     (durable : (state d').keeps_model → Only (state d).content (state d')) where
-  stores_first : MountsStore state d v.store.log v.store.log.saved
+  stores_first : Mounts state d (seen v).log
   stores_first =
-      subst (λ (c : Content). (m : LogMap) → (state v.store.log.device).keeps_model → (is : StandsLog c m)
-      → Stores state v.store.log v.store.log.saved is.checkpoint m m) looks.untouched.content stores
+      subst (λ (c : Content). (m : LogMap) → (state (seen v).log.device).keeps_model → (is : StandsLog c m)
+      → Holds state (seen v).log is.checkpoint m m) looks.untouched.content stores
 
-  counts_first : MountsTotals state d v.store.log v.store.log.totals
+  counts_first : MountsTotals state d (seen v).log (seen v).log.totals
   counts_first =
-      subst (λ (c : Content). (m : LogMap) → (state v.store.log.device).keeps_model → StandsLog c m → AreTotals m v.store.log.totals)
+      subst (λ (c : Content). (m : LogMap) → (state (seen v).log.device).keeps_model → StandsLog c m → AreTotals m (seen v).log.totals)
       looks.untouched.content counts
 
   -- all that was there is durable
-  pub durable_now : (state v.store.log.device).keeps_model → Only (state d).content (state v.store.log.device)
+  pub durable_now : (state (seen v).log.device).keeps_model → Only (state d).content (state (seen v).log.device)
   durable_now = subst (λ (x : D). (state x).keeps_model → Only (state d).content (state x)) (sym same) durable
 
-  module _ (saved : v.store.log.saved ≡ true) (closed : v.handles ≡ []) where
+  module _ (saved : (seen v).log.saved ≡ true) (closed : v.handles ≡ []) where
     -- the volume is in the state that the content stands for
     pub mounts_fs : MountsFs state d v
     mounts_fs s keeps is = record {

@@ -16,14 +16,14 @@ use Rattle.lfs_fs.proofs.calls.Exits.{point_of}
 
 -- ---- a mount
 
-module _ {D : Type 0} (state : D → DeviceState) (d : D) (v : Mounted D) (mounts : MountsStore state d v.log v.saved)
+module _ {D : Type 0} (state : D → DeviceState) (d : D) (v : Mounted D) (mounts : Mounts state d v.log)
     (keeps : (state v.log.device).keeps_model) (s : State)
     (is : Stands (state d).content s) (all : AllByRecursion IsSector (state d).content) where
   -- the log map that the device stands for
   abbrev found_log : StandsLog (state d).content is.log
   found_log = record { checkpoint = is.checkpoint; newest = is.found; stands = is.stands }
 
-  found_stores : Stores state v.log v.saved is.checkpoint is.log is.log
+  found_stores : Holds state v.log is.checkpoint is.log is.log
   found_stores = mounts is.log keeps found_log
 
   -- it isn't halted

@@ -39,7 +39,7 @@ use Rattle.lfs_fs.proofs.paths.Named.{links_are}
 use Rattle.lfs_fs.proofs.volume.Nodes.{need_shaped}
 
 module _ {D : Type 0} (state : D → DeviceState) (lawful : (d : D) → IsLawful (state d)) {old f : Fs D} {path : List ℕ} {d : ℕ} {l : Last}
-    (begins : BeginsAt state old f path d l) (of : NewCall old.store.log.version (segments_of (seen old)) path d) (ruled : Store D)
+    (begins : BeginsAt state old f path d l) (of : NewCall (seen old).log.version (segments_of (seen old)) path d) (ruled : Store D)
     (head : Header) (rule : RuleTold (files_of state f.store) (files_of state ruled) d l of.is_mkdir (Ok head))
     (few : makes_directory of.kind ≡ true → head.links < MOST_LINKS) (n : ℕ) (vacant : IsVacant state ruled.log n)
     (allowed : Asked d f.handles head.links (λ s. of.own s ≡ false)) (store : Store D)

@@ -42,13 +42,13 @@ bytes_of [] fits = tt
 bytes_of (x ∷ xs) fits = (let first = (fits 0).fits in omega (arith, first), bytes_of xs (λ i. fits (suc i)))
 
 module _ {D : Type 0} (state : D → DeviceState) (lawful : (d : D) → IsLawful (state d)) (old begun : Fs D) (begins : Begins old begun)
-    (store : Store D) (reads : Reads state begun.store.log store.log)
-    (saved : store.log.saved ≡ begun.store.log.saved) (totals : store.log.totals ≡ begun.store.log.totals)
+    (store : Store D) (reads : Reads state (seen begun).log (volume_of store))
+    (saved : (volume_of store).saved ≡ (seen begun).log.saved) (totals : (volume_of store).totals ≡ (seen begun).log.totals)
     (draft : store.draft ≡ begun.store.draft)
-    (drafted : store.drafted ≡ begun.store.drafted) where
+    (drafted : store.drafted ≡ drafted_of begun.store) where
   -- the call came to the directory of the last piece
   pub reaches : (p : List ℕ) → AreBytes p → (d : ℕ) → (piece : Option Last) → HasLast p piece
-      → WalksTo state begun.store.log store.log begun.store.draft.changes (EndsParent p) (At d)
+      → WalksTo state (seen begun).log (volume_of store) (draft_of begun.store) (EndsParent p) (At d)
       → Reaches state (seen begun) (record { alloc = begun.alloc; store = store; handles = begun.handles }) p d piece
   reaches p bytes d piece last walks = record {
     still = still;
@@ -56,14 +56,14 @@ module _ {D : Type 0} (state : D → DeviceState) (lawful : (d : D) → IsLawful
     drafted = drafted ∙ begins.drafted ∙ sym totals;
     bytes = bytes;
     last = last;
-    walk = walked state (seen begun) _ (lawful begun.store.log.device) still was begun.store.draft.changes begins.empty (EndsParent p)
+    walk = walked state (seen begun) _ (lawful (seen begun).log.device) still was (draft_of begun.store) begins.empty (EndsParent p)
         (At d) walks;
   }
     where
       still : IsStill state (seen begun) (seen (record { alloc = begun.alloc; store = store; handles = begun.handles }))
       still = still_read state lawful old begun begins store reads saved totals
 
-      was : begun.store.log.halted ≡ false
+      was : (seen begun).log.halted ≡ false
       was = was_running state lawful old begun begins store reads saved totals
 
 -- ---- a link's text that is refused
@@ -72,6 +72,6 @@ module _ {D : Type 0} (state : D → DeviceState) (lawful : (d : D) → IsLawful
   pub text_ends : (text path : List ℕ) (r : Refusal) → text_refusal text ≡ Some r
       → Serves state (seen begun) (seen begun) (Symlink text path) (Refuse r)
   text_ends text path r bad =
-      refused_serves state (seen begun) (seen begun) (Symlink text path) (lawful begun.store.log.device) (only_none state begun).still
+      refused_serves state (seen begun) (seen begun) (Symlink text path) (lawful (seen begun).log.device) (only_none state begun).still
       (ap (λ (v : Mounted D). v.log.halted) begins.same ∙ begins.running) r (text_ordinary text r bad) refl
       (λ k m0 m s keeps is. symlink_bad_text (segments_of (seen begun)) s path text is.log.sound.named r bad)

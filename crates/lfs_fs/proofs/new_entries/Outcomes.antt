@@ -34,7 +34,7 @@ use Rattle.lfs_fs.proofs.volume.Directories.{least_number, no_least}
 use Rattle.lfs_fs.proofs.volume.Map.{map_of_volume, version_of_volume}
 
 module _ {D : Type 0} (state : D → DeviceState) (lawful : (d : D) → IsLawful (state d)) {old f : Fs D} {path : List ℕ} {d : ℕ} {l : Last}
-    (begins : BeginsAt state old f path d l) (of : NewCall old.store.log.version (segments_of (seen old)) path d) (store : Store D) where
+    (begins : BeginsAt state old f path d l) (of : NewCall (seen old).log.version (segments_of (seen old)) path d) (store : Store D) where
   abbrev N : ℕ
   N = segments_of (seen old)
 
@@ -73,12 +73,12 @@ module _ {D : Type 0} (state : D → DeviceState) (lawful : (d : D) → IsLawful
         new_own of s (version_of_volume state (seen old) k m0 m s is) g.at.walk g.taken
         (asked (λ s. of.own s ≡ true) own k m0 m s keeps is))
 
-    holds_in : (k : CheckpointValue) (m0 m : LogMap) (s : State) → IsIn state (seen old) k m0 m s → Holds state store.log k m0 m
+    holds_in : (k : CheckpointValue) (m0 m : LogMap) (s : State) → IsIn state (seen old) k m0 m s → Holds state (volume_of store) k m0 m
     holds_in k m0 m s is =
-        (still_in state (seen old) (seen (with_store f store)) k m0 m s (read state lawful begins store reads).still is).stores.holds
+        (still_in state (seen old) (seen (with_store f store)) k m0 m s (read state lawful begins store reads).still is).holds
 
     -- no number is free
-    pub number_refused : Asked d f.handles head.links (λ s. of.own s ≡ false) → HasAll state store.log
+    pub number_refused : Asked d f.handles head.links (λ s. of.own s ≡ false) → HasAll state (volume_of store)
         → Serves state (seen old) (seen (with_store f store)) of.call (Refuse refusals.NoNumber)
     number_refused allowed all = refused refusals.NoNumber tt (λ k m0 m s keeps is.
         let g = entering k m0 m s keeps is in
@@ -87,7 +87,7 @@ module _ {D : Type 0} (state : D → DeviceState) (lawful : (d : D) → IsLawful
         (no_least N m s (map_of_volume state (seen old) k m0 m s is) (all k m0 m (holds_in k m0 m s is))))
 
     -- the call makes the object
-    pub may_make : (makes_directory of.kind ≡ true → head.links < MOST_LINKS) → (n : ℕ) → IsVacant state store.log n
+    pub may_make : (makes_directory of.kind ≡ true → head.links < MOST_LINKS) → (n : ℕ) → IsVacant state (volume_of store) n
         → (drafted : Store D) → files.Redrafts (files_of state store) (files_of state drafted)
         → calls.InEach state lawful (seen old) (with_store f store) (read state lawful begins store reads) drafted (IsNew of l head n)
     may_make few n vacant drafted redrafts k m0 m s after is =

@@ -69,7 +69,7 @@ module _ {D : Type 0} (state : D → DeviceState) (lawful : (d : D) → IsLawful
   at k m0 m s keeps is =
       reached_in state lawful (seen old) f begun path d l begins.reached (reads.looks.carries.kept_before keeps) k m0 m s is
 
-  pub see : (k : CheckpointValue) (m0 m : LogMap) (s : State) → (state store.log.device).keeps_model → IsIn state (seen old) k m0 m s
+  pub see : (k : CheckpointValue) (m0 m : LogMap) (s : State) → (state (volume_of store).device).keeps_model → IsIn state (seen old) k m0 m s
       → (P : LogMap → Type 0) → telling.InEach (files_of state f.store) (files_of state store) P → P m
   see k m0 m s keeps is P each = told state lawful (seen old) f begun store P each k m0 m s keeps is
 

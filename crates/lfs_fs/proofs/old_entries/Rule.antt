@@ -27,7 +27,7 @@ use Rattle.lfs_fs.proofs.paths.Named.{holder}
 module _ {D : Type 0} (state : D → DeviceState) (lawful : (d : D) → IsLawful (state d)) (v : Mounted D) (f : Fs D) (path : List ℕ) (d : ℕ)
     (call : Call) (of : OldCall (segments_of v) path d call) (memory : takes_no_memory call ≡ false) where
   -- a path without a piece
-  pub no_piece_perm : Reaches state v f path d None → f.store.log.halted ≡ false → Serves state v (seen f) call (Refuse refusals.Perm)
+  pub no_piece_perm : Reaches state v f path d None → (seen f).log.halted ≡ false → Serves state v (seen f) call (Refuse refusals.Perm)
   no_piece_perm reached running = nameless state lawful v f path d reached running call of.unclean refusals.Perm tt
       (λ s sound walk says. old_dots (segments_of v) s path d call (of.checks s sound walk)
       (ap (λ (b : Bool). b || last_dots path) says))

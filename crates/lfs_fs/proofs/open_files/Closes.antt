@@ -156,7 +156,7 @@ module _ {D : Type 0} (state : D → DeviceState) (lawful : (d : D) → IsLawful
     pub next : State
     pub present : LogMap
     pub saved : new.saved ≡ old.saved
-    pub stores : Stores state new.log new.saved k m0 present
+    pub stores : Holds state new.log k m0 present
     pub map : IsMapOf (segments_of old) present next
     pub handles : next.handles ≡ new.table
     pub counted : IsCounted present new.blocks new.others
@@ -180,7 +180,7 @@ module _ {D : Type 0} (state : D → DeviceState) (lawful : (d : D) → IsLawful
           saved = m0;
           present = does.present;
           is = record {
-            stores = does.stores;
+            stores = does.holds;
             map = does.map.map;
             log = (subst (λ (l : ℕ). IsMapOf l does.present does.next) (sym alters.segments) does.map).log;
             handles = does.handles;
@@ -287,7 +287,7 @@ module _ {D : Type 0} (state : D → DeviceState) (lawful : (d : D) → IsLawful
           → (g : Header) × (m.header n ≡ Some g) × (g.links ≡ links)) where
         pub close_removes : ((k : CheckpointValue) (m0 m : LogMap) (s : State) → (state new.log.device).keeps_model
             → IsIn state old k m0 m s → is_nameless m n ≡ true → new.saved ≡ old.saved)
-            → IsRemoved state old.log new.log n → Forgets state old.log old.saved new.log n
+            → IsRemoved state old.log new.log n → Forgets state old.log new.log n
             → ((k : CheckpointValue) (m0 m : LogMap) → (state new.log.device).keeps_model → Holds state old.log k m0 m → IsLogMap m
             → IsLogMap (without_file n m) → IsCounted m old.blocks old.others → IsCounted (without_file n m) new.blocks new.others)
             → Serves state old new (Close h) Done
@@ -307,11 +307,11 @@ module _ {D : Type 0} (state : D → DeviceState) (lawful : (d : D) → IsLawful
               next = closed (segments_of old) p.state h (without nat_cmp n p.state.tree);
               present = without_file n m;
               saved = saved k m0 m p.state keeps is hidden;
-              stores = subst (λ (b : Bool). Stores state new.log b k m0 (without_file n m)) (sym (saved k m0 m p.state keeps is hidden))
-                  (forgets k m0 m keeps is.stores hidden);
+              stores = subst (λ (b : Bool). Holds state new.log k m0 (without_file n m)) (sym (saved k m0 m p.state keeps is hidden))
+                  (forgets k m0 m keeps is.holds hidden);
               map = next_map;
               handles = closed_handles p.state is.handles;
-              counted = counted k m0 m keeps is.stores.holds is.map next_map.map is.counted;
+              counted = counted k m0 m keeps is.holds is.map next_map.map is.counted;
               steps = inl
                   (close_goes (segments_of old) p.state h n open_is no_name no_other, never_worn (segments_of old) (Close h) p refl refl);
             }))
@@ -327,20 +327,20 @@ module _ {D : Type 0} (state : D → DeviceState) (lawful : (d : D) → IsLawful
           present = m;
           saved = saved;
           stores = record {
-            holds = kept.holds k m0 m keeps is.stores.holds;
-            nothing_new = λ e. is.stores.nothing_new (sym saved ∙ e);
-            rest = λ e. still_at_rest state old.log new.log kept (is.stores.rest (sym saved ∙ e));
+            holds = kept.holds k m0 m keeps is.holds;
+            nothing_new = λ e. is.holds.nothing_new (sym saved ∙ e);
+            rest = λ e. still_at_rest state old.log new.log kept (is.holds.rest (sym saved ∙ e));
           };
           map = map_of_volume state old k m0 m p.state is;
           handles = is.handles ∙ sym table;
           counted = record { stored = blocks ∙ is.counted.stored; above = others ∙ is.counted.above };
-          steps = (let rose = fault k m0 m keeps is.stores.holds in
+          steps = (let rose = fault k m0 m keeps is.holds in
               inr (Device, refl, (refl, (let f = here.failures in omega (arith, f, rose))), refl));
         })
 
 -- ---- the ends of the function
 
-module _ {D : Type 0} (state : D → DeviceState) (lawful : (d : D) → IsLawful (state d)) (old : Fs D) (was : old.store.log.halted ≡ false)
+module _ {D : Type 0} (state : D → DeviceState) (lawful : (d : D) → IsLawful (state d)) (old : Fs D) (was : (seen old).log.halted ≡ false)
     (h n : ℕ) (opens : find nat_cmp h old.handles ≡ Some n) where
   -- a volume with another store, and without the handle
   abbrev pub with_parts : Store D → Handles → Fs D
@@ -354,17 +354,17 @@ module _ {D : Type 0} (state : D → DeviceState) (lawful : (d : D) → IsLawful
       → Serves state (seen old) (seen (with_parts old.store handles)) (Close h) Done
   close_shared handles table some =
       close_keeps state lawful (seen old) (seen (with_parts old.store handles)) was h n opens table refl
-      (reads_none state old.store.log) refl refl
+      (reads_none state (seen old).log) refl refl
       (λ k m0 m s keeps is. open_stays (names s.tree n) (opened (without nat_cmp h s.handles) n)
       (subst (λ hs. opened (without nat_cmp h hs) n ≡ 0 → ⊥) (sym is.handles) some))
 
   -- its header was read
-  module _ (mid : Fs D) (empty : IsNoChange old.store.draft.changes) (reads : OnlyReads state old mid) (head : headers.Header)
+  module _ (mid : Fs D) (empty : IsEmpty (draft_of old.store)) (reads : OnlyReads state old mid) (head : headers.Header)
       (has : HasHeader state old mid n head) where
-    there : (k : CheckpointValue) (m0 m : LogMap) (s : State) → (state mid.store.log.device).keeps_model → IsIn state (seen old) k m0 m s
+    there : (k : CheckpointValue) (m0 m : LogMap) (s : State) → (state (seen mid).log.device).keeps_model → IsIn state (seen old) k m0 m s
         → m.header n ≡ Some (as_header head)
     there k m0 m s keeps is =
-        header_there state old mid (Close h) (lawful old.store.log.device) was empty reads refl n head has k m0 m s keeps is
+        header_there state old mid (Close h) (lawful (seen old).log.device) was empty reads refl n head has k m0 m s keeps is
 
     -- the handle is closed as it was then
     abbrev IsClosedNow : Handles → Type 0
@@ -388,23 +388,23 @@ module _ {D : Type 0} (state : D → DeviceState) (lawful : (d : D) → IsLawful
     module _ (store : Store D) where
       pub close_last : (handles : Handles) → IsClosedNow handles → head.links ≤ 0
           → opened (without nat_cmp h old.handles) n ≡ 0
-          → IsRemoved state mid.store.log store.log n → CountsGone state mid.store.log store.log n mid.store.log.totals store.log.totals
+          → IsRemoved state (seen mid).log (volume_of store) n → CountsGone state (seen mid).log (volume_of store) n (seen mid).log.totals (volume_of store).totals
           → Serves state (seen old) (seen (with_parts store handles)) (Close h) Done
       close_last handles table none shut gone counts =
-          let all = removed_more state old.store.log mid.store.log store.log n (lawful old.store.log.device) reads.still.reads gone in
+          let all = removed_more state (seen old).log (seen mid).log (volume_of store) n (lawful (seen old).log.device) reads.still.reads gone in
           close_removes state lawful (seen old) (seen (with_parts store handles)) was h n opens
           (closed_then handles table) head.links (omega (arith, none)) shut
           (λ k m0 m s keeps is. (as_header head, there k m0 m s (gone.alters.looks.carries.kept_before keeps) is, refl))
-          (λ k m0 m s keeps is off. all.nameless k m0 m keeps is.stores.holds off)
-          all (forgets state old.store.log store.log old.store.log.saved n all)
+          (λ k m0 m s keeps is off. all.nameless k m0 m keeps is.holds off)
+          all (forgets state (seen old).log (volume_of store) (seen old).log.saved n all)
           (λ k m0 m keeps holds map map' counted.
-          counts k m0 m keeps (held_still state old.store.log mid.store.log k m0 m reads.still.reads holds) map map'
+          counts k m0 m keeps (held_still state (seen old).log (seen mid).log k m0 m reads.still.reads holds) map map'
           record { stored = reads.still.blocks ∙ counted.stored; above = reads.still.others ∙ counted.above })
 
       -- a call of the device failed
-      pub close_faults : (fault : LogFault) (e : FsError) → e ≡ error_of_log fault → IsKept state mid.store.log store.log
-          → IsReadFault state mid.store.log store.log → store.log.totals ≡ mid.store.log.totals
-          → (fault ≡ log.Halted → mid.store.log.halted ≡ true) → (fault ≡ log.Full → ⊥)
+      pub close_faults : (fault : LogFault) (e : FsError) → e ≡ error_of_log fault → IsKept state (seen mid).log (volume_of store)
+          → IsReadFault state (seen mid).log (volume_of store) → (volume_of store).totals ≡ (seen mid).log.totals
+          → (fault ≡ log.Halted → (seen mid).log.halted ≡ true) → (fault ≡ log.Full → ⊥)
           → Serves state (seen old) (seen (with_parts store mid.handles)) (Close h) (Refuse (refusal_of e))
       close_faults fault e is kept failed totals halted full =
           subst (λ (x : FsError). Serves state (seen old) (seen (with_parts store mid.handles)) (Close h) (Refuse (refusal_of x))) (sym is)
@@ -412,12 +412,12 @@ module _ {D : Type 0} (state : D → DeviceState) (lawful : (d : D) → IsLawful
         where
           device : Serves state (seen old) (seen (with_parts store mid.handles)) (Close h) (Refuse Device)
           device = close_fails state lawful (seen old) (seen (with_parts store mid.handles)) was h n opens (kept.saved ∙ reads.still.saved)
-              (kept_more state old.store.log mid.store.log store.log (lawful old.store.log.device) reads.still.reads kept)
-              (fault_more state old.store.log mid.store.log store.log reads.still.reads failed)
+              (kept_more state (seen old).log (seen mid).log (volume_of store) (lawful (seen old).log.device) reads.still.reads kept)
+              (fault_more state (seen old).log (seen mid).log (volume_of store) reads.still.reads failed)
               (ap (λ (t : BlockTotals). t.data_blocks) totals ∙ reads.still.blocks) (ap (λ (t : BlockTotals). t.meta_blocks) totals
               ∙ reads.still.others) reads.still.table
 
-          by : (x : LogFault) → (x ≡ log.Halted → mid.store.log.halted ≡ true) → (x ≡ log.Full → ⊥)
+          by : (x : LogFault) → (x ≡ log.Halted → (seen mid).log.halted ≡ true) → (x ≡ log.Full → ⊥)
               → Serves state (seen old) (seen (with_parts store mid.handles)) (Close h) (Refuse (refusal_of (error_of_log x)))
           by log.Device halted full = device
           by log.Halted halted full = absurd (let on = halted refl in let off = reads.still.reads.halted ∙ was in cc)

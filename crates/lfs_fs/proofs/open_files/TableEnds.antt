@@ -31,7 +31,7 @@ module _ {D : Type 0} (state : D → DeviceState) (old new : Mounted D) (lawful 
       looks.carries looks.time (λ c left. here c (looks.untouched.crash c left))
     where
       here : AllLeft (state old.log.device) (StandsForOn k.segments m0 (dropped m))
-      here c left = inl (settled_stands (state old.log.device) k m0 is.stores.holds.log.running.settled c left)
+      here c left = inl (settled_stands (state old.log.device) k m0 is.holds.log.running.settled c left)
 
   -- ---- the table alone
   module _ (call : Call) (a : Answer) (reads : Reads state old.log new.log) (saved : new.saved ≡ old.saved)
@@ -67,7 +67,7 @@ module _ {D : Type 0} (state : D → DeviceState) (old new : Mounted D) (lawful 
             saved = m0;
             present = m;
             is = record {
-              stores = now.stores;
+              stores = now.holds;
               map = now.map;
               log = (subst (λ (l : ℕ). IsMapOf l m turns.next) (sym segments_same) turns.map).log;
               handles = turns.handles;

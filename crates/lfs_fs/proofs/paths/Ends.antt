@@ -6,9 +6,9 @@ use Rattle.lfs_fs.specs.declared.fs.Fs.{Fs}
 use Rattle.lfs_fs.specs.Seen.{OnlyReads}
 
 module _ {D : Type 0} (state : D → DeviceState) where
-  pub store_reads : (old new : Fs D) → Reads state old.store.log new.store.log → new.store.draft ≡ old.store.draft
-      → new.store.log.saved ≡ old.store.log.saved → new.store.log.totals ≡ old.store.log.totals
-      → new.store.drafted ≡ old.store.drafted → new.handles ≡ old.handles → OnlyReads state old new
+  pub store_reads : (old new : Fs D) → Reads state (seen old).log (seen new).log → new.store.draft ≡ old.store.draft
+      → (seen new).log.saved ≡ (seen old).log.saved → (seen new).log.totals ≡ (seen old).log.totals
+      → drafted_of new.store ≡ drafted_of old.store → new.handles ≡ old.handles → OnlyReads state old new
   store_reads old new reads draft saved totals drafted handles = record {
     still = record {
       reads = reads;

@@ -60,15 +60,15 @@ module _ {D : Type 0} (state : D → DeviceState) (h h' h'' : LogState D) (reads
 
 module _ {D : Type 0} (state : D → DeviceState) (lawful : (d : D) → IsLawful (state d))
     (v : Mounted D) (mid next : Fs D) (still : IsStill state v (seen mid))
-    (was : v.log.halted ≡ false) (empty : IsNoChange mid.store.draft.changes)
+    (was : v.log.halted ≡ false) (empty : IsEmpty (draft_of mid.store))
     (only : OnlyReads state mid next) where
   still_next : IsStill state v (seen next)
   still_next = still_more state v (seen mid) (seen next) (lawful v.log.device) still only.still
 
   -- the call came to the directory of the path's last piece
-  pub later_reaches : mid.store.drafted ≡ mid.store.log.totals → (p : List ℕ) → AreBytes p → (d : ℕ)
+  pub later_reaches : drafted_of mid.store ≡ (seen mid).log.totals → (p : List ℕ) → AreBytes p → (d : ℕ)
       → (piece : Option Last) → HasLast p piece
-      → WalksTo state mid.store.log next.store.log mid.store.draft.changes (EndsParent p) (At d)
+      → WalksTo state (seen mid).log (seen next).log (draft_of mid.store) (EndsParent p) (At d)
       → Reaches state v next p d piece
   later_reaches counted p bytes d piece last walks = record {
     still = still_next;
@@ -77,8 +77,8 @@ module _ {D : Type 0} (state : D → DeviceState) (lawful : (d : D) → IsLawful
     bytes = bytes;
     last = last;
     walk = λ k m0 m s keeps is.
-        walked state (seen mid) (seen next) (lawful mid.store.log.device) only.still
-        (still.reads.halted ∙ was) mid.store.draft.changes empty (EndsParent p) (At d) walks
+        walked state (seen mid) (seen next) (lawful (seen mid).log.device) only.still
+        (still.reads.halted ∙ was) (draft_of mid.store) empty (EndsParent p) (At d) walks
         k m0 m s keeps (still_in state v (seen mid) k m0 m s still is);
   }
 
@@ -86,16 +86,16 @@ module _ {D : Type 0} (state : D → DeviceState) (lawful : (d : D) → IsLawful
   pub later_refused : (W : Tree → End → Type 0) (call : Call) → never_for_device call ≡ false
       → cleans call ≡ false → takes_no_memory call ≡ false
       → ((k : CheckpointValue) (m0 m : LogMap) (s : State)
-      → (state next.store.log.device).keeps_model → IsIn state v k m0 m s → (r : Refusal)
+      → (state (seen next).log.device).keeps_model → IsIn state v k m0 m s → (r : Refusal)
       → W s.tree (Refused r) → Step (segments_of v) s call (Refuse r) s)
       → (fault : WalkFault) (e : FsError) → e ≡ error_of_walk fault
-      → EndsRefused state mid.store.log next.store.log mid.store.draft.changes W fault
-      → (fault ≡ walk.Log log.Halted → mid.store.log.halted ≡ true)
+      → EndsRefused state (seen mid).log (seen next).log (draft_of mid.store) W fault
+      → (fault ≡ walk.Log log.Halted → (seen mid).log.halted ≡ true)
       → (fault ≡ walk.Log log.Full → ⊥)
       → Serves state v (seen next) call (Refuse (refusal_of e))
   later_refused W call free unclean memory steps fault e is ends halted other =
       subst (λ (f : FsError). Serves state v (seen next) call (Refuse (refusal_of f))) (sym is)
-      (walk_ends state v (seen next) (lawful v.log.device) still_next was mid.store.draft.changes
+      (walk_ends state v (seen next) (lawful v.log.device) still_next was (draft_of mid.store)
       empty W call free unclean memory steps fault (λ on. sym still.reads.halted ∙ halted on) other
-      (refused_after state v.log mid.store.log next.store.log still.reads mid.store.draft.changes W
+      (refused_after state v.log (seen mid).log (seen next).log still.reads (draft_of mid.store) W
       fault ends))

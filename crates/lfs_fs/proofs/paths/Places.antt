@@ -75,7 +75,7 @@ module _ {D : Type 0} (state : D → DeviceState) (lawful : (d : D) → IsLawful
 
   -- where the walk of the path is refused, so is the call
   abbrev pub IsRefusedBy : Call → Type 0
-  IsRefusedBy call = (k : CheckpointValue) (m0 m : LogMap) (s : State) → (state new.store.log.device).keeps_model
+  IsRefusedBy call = (k : CheckpointValue) (m0 m : LogMap) (s : State) → (state (seen new).log.device).keeps_model
       → IsIn state (seen old) k m0 m s → (r : Refusal) → EndsParent path s.tree (Refused r)
       → Step (segments_of (seen old)) s call (Refuse r) s
 
@@ -90,11 +90,11 @@ module _ {D : Type 0} (state : D → DeviceState) (lawful : (d : D) → IsLawful
 
     -- what it serves where the path has no piece is its own
     pub nowhere_serves : (nameless fault : FsError) → BeginsNowhere state old new path nameless fault
-        → ((d : ℕ) → Reaches state (seen old) new path d None → new.store.log.halted ≡ false
+        → ((d : ℕ) → Reaches state (seen old) new path d None → (seen new).log.halted ≡ false
         → Serves state (seen old) (seen new) call (Refuse (refusal_of nameless)))
         → Serves state (seen old) (seen new) call (Refuse (refusal_of fault))
     nowhere_serves nameless fault none named = ⊎_elim
-        (λ halts. halted_serves state old new call fault (lawful old.store.log.device) halts.1 halts.2 halts.0)
+        (λ halts. halted_serves state old new call fault (lawful (seen old).log.device) halts.1 halts.2 halts.0)
         (λ began. ⊎_elim
         (λ only. path_fails fault only)
         (λ lacks. subst (λ (f : FsError). Serves state (seen old) (seen new) call (Refuse (refusal_of f))) (sym lacks.0)

@@ -9,8 +9,8 @@ use Rattle.lfs_fs.specs.Seen.{Begins, seen}
 use Rattle.lfs_fs.specs.Volume.{IsStill, Mounted}
 
 module _ {D : Type 0} (state : D → DeviceState) (lawful : (d : D) → IsLawful (state d)) where
-  module _ (old begun : Fs D) (begins : Begins old begun) (store : Store D) (reads : Reads state begun.store.log store.log)
-      (saved : store.log.saved ≡ begun.store.log.saved) (totals : store.log.totals ≡ begun.store.log.totals) where
+  module _ (old begun : Fs D) (begins : Begins old begun) (store : Store D) (reads : Reads state (seen begun).log (volume_of store))
+      (saved : (volume_of store).saved ≡ (seen begun).log.saved) (totals : (volume_of store).totals ≡ (seen begun).log.totals) where
     -- a volume whose store was read
     abbrev pub read : Fs D
     read = record { alloc = begun.alloc; store = store; handles = begun.handles }
@@ -24,5 +24,5 @@ module _ {D : Type 0} (state : D → DeviceState) (lawful : (d : D) → IsLawful
       table = refl;
     }
 
-    pub was_running : begun.store.log.halted ≡ false
+    pub was_running : (seen begun).log.halted ≡ false
     was_running = ap (λ (v : Mounted D). v.log.halted) begins.same ∙ begins.running

@@ -49,7 +49,7 @@ module _ {D : Type 0} (state : D → DeviceState) (old new : Mounted D) (lawful 
   pub walked : (e : End) → WalksTo state old.log new.log c W e → (k : CheckpointValue) (m0 m : LogMap) (s : State)
       → (state new.log.device).keeps_model → IsIn state old k m0 m s → W s.tree e
   walked e walks k m0 m s keeps is = subst (λ (t : Tree). W t e) (tree_drafted state old k m0 m s is c none)
-      (walks k m0 m keeps is.stores.holds (walked_drafted state old k m0 m s is c none))
+      (walks k m0 m keeps is.holds (walked_drafted state old k m0 m s is c none))
 
   -- a walk without an end refuses the call
   module _ (call : Call) (free : never_for_device call ≡ false) (unclean : cleans call ≡ false) (memory : takes_no_memory call ≡ false)
@@ -75,6 +75,6 @@ module _ {D : Type 0} (state : D → DeviceState) (old new : Mounted D) (lawful 
     walk_ends (walk.Log log.Full) halted other ends = absurd (other refl)
     walk_ends (walk.Log log.Device) halted other ends =
         served_still state old new call (Refuse Device) lawful still was tt (λ p keeps here k m0 m is. (
-        let rose = ends k m0 m keeps is.stores.holds (walked_drafted state old k m0 m p.state is c none) in
+        let rose = ends k m0 m keeps is.holds (walked_drafted state old k m0 m p.state is c none) in
         inr (Device, refl, (free, (let f = here.failures in omega (arith, f, rose))), refl)))
         (not_acknowledged call Device)

@@ -37,8 +37,8 @@ module _ {D : Type 0} (state : D → DeviceState) where
   still_none v = record { reads = reads_none state v.log; saved = refl; blocks = refl; others = refl; table = refl }
 
   -- a call of a halted volume doesn't begin
-  pub halted_serves : (old new : Fs D) (call : Call) (fault : FsError) → IsLawful (state old.store.log.device) → new ≡ old
-      → old.store.log.halted ≡ true → fault ≡ error.Halted
+  pub halted_serves : (old new : Fs D) (call : Call) (fault : FsError) → IsLawful (state (seen old).log.device) → new ≡ old
+      → (seen old).log.halted ≡ true → fault ≡ error.Halted
       → Serves state (seen old) (seen new) call (Refuse (refusal_of fault))
   halted_serves old new call fault lawful same halted is =
       subst (λ (f : FsError). Serves state (seen old) (seen new) call (Refuse (refusal_of f))) (sym is)
@@ -51,34 +51,34 @@ module _ {D : Type 0} (state : D → DeviceState) where
   begun_serves old mid new call a begun = subst (λ (v : Mounted D). Serves state v new call a) begun.same
 
   -- then it isn't halted
-  pub begun_running : (old mid : Fs D) → Begins old mid → mid.store.log.halted ≡ false
+  pub begun_running : (old mid : Fs D) → Begins old mid → (seen mid).log.halted ≡ false
   begun_running old mid begun = ap (λ (v : Mounted D). v.log.halted) begun.same ∙ begun.running
 
-  pub begun_space : (old mid : Fs D) → IsLawful (state mid.store.log.device) → Begins old mid → (r : space.Space)
-      → r.data_blocks ≡ mid.store.drafted.data_blocks → r.meta_blocks ≡ mid.store.drafted.meta_blocks
-      → r.need ≡ mid.store.drafted.data_blocks + 7 * mid.store.drafted.meta_blocks + 720
-      → r.limit ≡ 47 * mid.store.log.segments → Serves state (seen old) (seen mid) Space (room_of r)
+  pub begun_space : (old mid : Fs D) → IsLawful (state (seen mid).log.device) → Begins old mid → (r : space.Space)
+      → r.data_blocks ≡ (drafted_of mid.store).data_blocks → r.meta_blocks ≡ (drafted_of mid.store).meta_blocks
+      → r.need ≡ (drafted_of mid.store).data_blocks + 7 * (drafted_of mid.store).meta_blocks + 720
+      → r.limit ≡ 47 * (seen mid).log.segments → Serves state (seen old) (seen mid) Space (room_of r)
   begun_space old mid lawful begun r stored above need limit = begun_serves old mid (seen mid) Space (room_of r) begun
       (subst (λ (a : Answer). Serves state (seen mid) (seen mid) Space a) (λ i. Room (stored_is i) (above_is i) (need_is i) (sym limit i))
       (space_serves state (seen mid) (seen mid) lawful (still_none (seen mid)) (begun_running old mid begun) totals_of_tree))
     where
-      blocks : mid.store.drafted.data_blocks ≡ mid.store.log.totals.data_blocks
+      blocks : (drafted_of mid.store).data_blocks ≡ (seen mid).log.totals.data_blocks
       blocks = ap (λ t. t.data_blocks) begun.drafted
 
-      others : mid.store.drafted.meta_blocks ≡ mid.store.log.totals.meta_blocks
+      others : (drafted_of mid.store).meta_blocks ≡ (seen mid).log.totals.meta_blocks
       others = ap (λ t. t.meta_blocks) begun.drafted
 
-      stored_is : mid.store.log.totals.data_blocks ≡ r.data_blocks
+      stored_is : (seen mid).log.totals.data_blocks ≡ r.data_blocks
       stored_is = sym (stored ∙ blocks)
 
-      above_is : mid.store.log.totals.meta_blocks ≡ r.meta_blocks
+      above_is : (seen mid).log.totals.meta_blocks ≡ r.meta_blocks
       above_is = sym (above ∙ others)
 
-      need_is : mid.store.log.totals.data_blocks + 7 * mid.store.log.totals.meta_blocks + 720 ≡ r.need
+      need_is : (seen mid).log.totals.data_blocks + 7 * (seen mid).log.totals.meta_blocks + 720 ≡ r.need
       need_is = omega (arith, need, blocks, others)
 
-  pub begun_version : (old mid : Fs D) → IsLawful (state mid.store.log.device) → Begins old mid → (version : ℕ)
-      → version ≡ mid.store.log.version → Serves state (seen old) (seen mid) Version (FormatVersion version)
+  pub begun_version : (old mid : Fs D) → IsLawful (state (seen mid).log.device) → Begins old mid → (version : ℕ)
+      → version ≡ (seen mid).log.version → Serves state (seen old) (seen mid) Version (FormatVersion version)
   begun_version old mid lawful begun version told = begun_serves old mid (seen mid) Version (FormatVersion version) begun
       (told_serves state (seen mid) (seen mid) Version lawful (still_none (seen mid)) (begun_running old mid begun)
       (FormatVersion version) tt refl refl refl (λ k m0 m s keeps is.
@@ -114,13 +114,13 @@ module _ {D : Type 0} (state : D → DeviceState) (old new : Mounted D) (call : 
 
 -- ---- where an object is there
 
-module _ {D : Type 0} (state : D → DeviceState) (old new : Fs D) (call : Call) (lawful : IsLawful (state old.store.log.device))
-    (was : old.store.log.halted ≡ false) (empty : IsNoChange old.store.draft.changes)
+module _ {D : Type 0} (state : D → DeviceState) (old new : Fs D) (call : Call) (lawful : IsLawful (state (seen old).log.device))
+    (was : (seen old).log.halted ≡ false) (empty : IsEmpty (draft_of old.store))
     (reads : OnlyReads state old new) (free : never_for_device call ≡ false) where
   abbrev pub InEnd : (LogMap → State → Type 0) → Type 0
   InEnd P = AfterEach state (seen old) (seen new) call lawful reads.still was P
 
   -- a header of the draft is that of the log map
   pub header_there : (n : ℕ) (head : Header) → HasHeader state old new n head → InEnd (λ m s. m.header n ≡ Some (as_header head))
-  header_there n head there k m0 m s keeps is = ap (λ (x : LogMap). x.header n) (sym (no_change old.store.draft.changes m empty))
-      ∙ there k m0 m keeps is.stores.holds
+  header_there n head there k m0 m s keeps is = ap (λ (x : LogMap). x.header n) (sym (no_change (draft_of old.store) m empty))
+      ∙ there k m0 m keeps is.holds

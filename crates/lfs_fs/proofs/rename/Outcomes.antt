@@ -144,7 +144,7 @@ module _ {D : Type 0} (state : D → DeviceState) (lawful : (d : D) → IsLawful
           stays k m0 m s keeps is = same_step (files_of state f.store) (files_of state store) (here_in k m0 m s keeps is)
               (λ P all. told state lawful v f begun store P all k m0 m s keeps is) same
 
-          pub same_ends : (r : Result (Unit {0}) FsError) → OnOk r (store.log.number < 2 ^ 62) → OnErr r (2 ^ 62 ≤ store.log.number)
+          pub same_ends : (r : Result (Unit {0}) FsError) → OnOk r ((volume_of store).number < 2 ^ 62) → OnErr r (2 ^ 62 ≤ (volume_of store).number)
               → IfErr r (λ e. e ≡ error.Worn) → Serves state v (seen now) (Rename a b) (answer_by (λ _. Done) r)
           same_ends (Ok u) young aged is = served_still state v (seen now) (Rename a b) Done (lawful v.log.device)
               (still_after state lawful v f begun store still) was tt

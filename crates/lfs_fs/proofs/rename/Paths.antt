@@ -79,7 +79,7 @@ module _ {D : Type 0} (state : D → DeviceState) (lawful : (d : D) → IsLawful
   -- the second isn't walked to its end
   pub second_ends : (cause : WalkFault) (e : FsError) → e ≡ error_of_walk cause
       → TellsRefusal (files_of state f.store) (files_of state store) HasTree (EndsParent b) cause
-      → (cause ≡ walk.Log log.Halted → f.store.log.halted ≡ true)
+      → (cause ≡ walk.Log log.Halted → (seen f).log.halted ≡ true)
       → (cause ≡ walk.Log log.Full → ⊥)
       → Serves state v (seen (with_store f store)) (Rename a b) (Refuse (refusal_of e))
   second_ends cause e is ends =

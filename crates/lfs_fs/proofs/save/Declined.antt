@@ -18,7 +18,7 @@ use Rattle.lfs_fs.proofs.calls.Exits.{map_dropped}
 
 module _ {D : Type 0} (state : D → DeviceState) (old new : Mounted D) (lawful : IsLawful (state old.log.device))
     (after : IsLawful (state new.log.device)) where
-  pub sync_serves : IsRest state old new → Commits state old.log old.saved new.log → new.saved ≡ true
+  pub sync_serves : IsRest state old new → Commits state old.log new.log → new.saved ≡ true
       → TellsAtMost state old.log new.log commit_orders → Serves state old new Sync Done
   sync_serves rest done saved tells =
       commits_by state old new Sync lawful after done.carries done.segments done.was_running later rest done saved Done (λ e. cc)
@@ -44,8 +44,8 @@ module _ {D : Type 0} (state : D → DeviceState) (old new : Mounted D) (lawful 
 
 module _ {D : Type 0} (state : D → DeviceState) (old new : Mounted D) (call : Call) (lawful : IsLawful (state old.log.device))
     (after : IsLawful (state new.log.device)) (was : old.log.halted ≡ false)
-    (later : old.log.number ≤ new.log.number) (c : Changes) (rest : IsRest state old new) (declines : Declines state old.log old.saved
-    new.log new.saved c) (low : old.log.number < 2 ^ 62) (fits : InEach state old (λ m s. FitsBatch m c))
+    (later : old.log.number ≤ new.log.number) (c : Changes) (rest : IsRest state old new) (declines : Declines state old.log
+    new.log c) (low : old.log.number < 2 ^ 62) (fits : InEach state old (λ m s. FitsBatch m c))
     (bounded : IsBounded state old new call) where
   -- memory has no room
   pub no_room_serves : changes call ≡ true → takes_no_memory call ≡ false → Serves state old new call (Refuse NoMemory)
@@ -56,12 +56,12 @@ module _ {D : Type 0} (state : D → DeviceState) (old new : Mounted D) (call : 
       (fits k m0 m p.state (declines.carries.kept_before keeps) is, inr (NoMemory, refl, takes, refl)))
 
   -- a call of the device failed
-  pub accept_fault_serves : changes call ≡ true → never_for_device call ≡ false → IsAcceptFault state old.log old.saved new.log c
+  pub accept_fault_serves : changes call ≡ true → never_for_device call ≡ false → IsAcceptFault state old.log new.log c
       → Serves state old new call (Refuse Device)
   accept_fault_serves change free fault =
       declines_by state old new call lawful after declines.carries declines.segments was later c rest declines low Device (λ e. cc)
       (write_behaves state old new call (Refuse Device) (change_writes call change) rest.table (λ e. cc) (λ never e. absurd (cc)) bounded)
       (λ p keeps at k m0 m is. (
       let fit = fits k m0 m p.state (declines.carries.kept_before keeps) is in
-      let rose = fault k m0 m keeps is.stores fit (map_dropped state old new keeps lawful after declines.carries k m0 m p.state is) in
+      let rose = fault k m0 m keeps is.holds fit (map_dropped state old new keeps lawful after declines.carries k m0 m p.state is) in
       (fit, inr (Device, refl, (free, (let f = at.failures in omega (arith, f, rose))), refl))))

@@ -21,26 +21,26 @@ use Rattle.lfs_fs.proofs.save.Declined.{sync_serves}
 use Rattle.lfs_fs.proofs.save.Room.{full_serves}
 use Rattle.lfs_fs.proofs.write.Ends.{halts_serves}
 
-pub not_halted : {D : Type 0} (f : Fs D) → f.store.log.halted ≡ false → f.store.log.halted ≡ true → ⊥
+pub not_halted : {D : Type 0} (f : Fs D) → (seen f).log.halted ≡ false → (seen f).log.halted ≡ true → ⊥
 not_halted f was halted = cc
 
 module _ {D : Type 0} (state : D → DeviceState) (lawful : (d : D) → IsLawful (state d)) (old : Fs D) (store : Store D)
-    (was : old.store.log.halted ≡ false) (totals : store.log.totals ≡ old.store.log.totals)
-    (tells : TellsAtMost state old.store.log store.log commit_orders) where
+    (was : (seen old).log.halted ≡ false) (totals : (volume_of store).totals ≡ (seen old).log.totals)
+    (tells : TellsAtMost state (seen old).log (volume_of store) commit_orders) where
   abbrev new : Fs D
   new = record { alloc = old.alloc; store = store; handles = old.handles }
 
-  pub sync_done_serves : Commits state old.store.log old.store.log.saved store.log → store.log.saved ≡ true
+  pub sync_done_serves : Commits state (seen old).log (volume_of store) → (volume_of store).saved ≡ true
       → Serves state (seen old) (seen new) Sync Done
-  sync_done_serves done saved = sync_serves state (seen old) (seen new) (lawful old.store.log.device) (lawful store.log.device)
+  sync_done_serves done saved = sync_serves state (seen old) (seen new) (lawful (seen old).log.device) (lawful (volume_of store).device)
       (record {
         blocks = ap (λ (t : BlockTotals). t.data_blocks) totals;
         others = ap (λ (t : BlockTotals). t.meta_blocks) totals;
         table = refl;
       }) done saved tells
 
-  module _ (kept : store.log.saved ≡ old.store.log.saved) where
-    same_seen : store.log ≡ old.store.log → seen new ≡ seen old
+  module _ (kept : (volume_of store).saved ≡ (seen old).log.saved) where
+    same_seen : (volume_of store) ≡ (seen old).log → seen new ≡ seen old
     same_seen same = λ i. record {
       log = same i;
       saved = kept i;
@@ -49,19 +49,19 @@ module _ {D : Type 0} (state : D → DeviceState) (lawful : (d : D) → IsLawful
       table = old.handles;
     }
 
-    sync_fault : (fault : LogFault) → (fault ≡ log.Full → (store.log ≡ old.store.log) × IsFull old.store.log) → (fault ≡ log.Full
-        → old.store.log.saved ≡ false) → (fault ≡ log.Halted → Halts state old.store.log store.log) → (fault ≡ log.Device → ⊥)
+    sync_fault : (fault : LogFault) → (fault ≡ log.Full → ((volume_of store) ≡ (seen old).log) × IsFull (seen old).log) → (fault ≡ log.Full
+        → (seen old).log.saved ≡ false) → (fault ≡ log.Halted → Halts state (seen old).log (volume_of store)) → (fault ≡ log.Device → ⊥)
         → Serves state (seen old) (seen new) Sync (Refuse (refusal_of (error_of_log fault)))
     sync_fault log.Full full unsaved halted device =
         subst (λ (v : Mounted D). Serves state (seen old) v Sync (Refuse (refusal_of (error_of_log log.Full))))
-        (sym (same_seen (full refl).0)) (full_serves state (seen old) (lawful old.store.log.device) was (unsaved refl) (full refl).1)
+        (sym (same_seen (full refl).0)) (full_serves state (seen old) (lawful (seen old).log.device) was (unsaved refl) (full refl).1)
     sync_fault log.Halted full unsaved halted device = halts_serves state lawful (seen old) (seen new) Sync was refl refl 0 (omega arith)
-        (λ few. sync_bounded state (seen old) (seen new) few tells) (halts_at_once state old.store.log store.log (halted refl))
+        (λ few. sync_bounded state (seen old) (seen new) few tells) (halts_at_once state (seen old).log (volume_of store) (halted refl))
     sync_fault log.Device full unsaved halted device = absurd (device refl)
 
     pub sync_fails : (fault : LogFault) (e : FsError) → e ≡ error_of_log fault
-        → (fault ≡ log.Full → (store.log ≡ old.store.log) × IsFull old.store.log) → (fault ≡ log.Full → old.store.log.saved ≡ false)
-        → (fault ≡ log.Halted → Halts state old.store.log store.log) → (fault ≡ log.Device → ⊥)
+        → (fault ≡ log.Full → ((volume_of store) ≡ (seen old).log) × IsFull (seen old).log) → (fault ≡ log.Full → (seen old).log.saved ≡ false)
+        → (fault ≡ log.Halted → Halts state (seen old).log (volume_of store)) → (fault ≡ log.Device → ⊥)
         → Serves state (seen old) (seen new) Sync (Refuse (refusal_of e))
     sync_fails fault e is full unsaved halted device = subst (λ (x : FsError).
         Serves state (seen old) (seen new) Sync (Refuse (refusal_of x))) (sym is) (sync_fault fault full unsaved halted device)

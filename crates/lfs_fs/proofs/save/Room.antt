@@ -17,9 +17,9 @@ module _ {D : Type 0} (state : D → DeviceState) (v : Mounted D) (lawful : IsLa
     (unsaved : v.saved ≡ false) (full : IsFull v.log) where
   never_full : (s : State) → Runs state v s → ⊥
   never_full s r =
-      let settled = r.is.stores.holds.log.running.settled in
+      let settled = r.is.holds.log.running.settled in
       let fits = ((newest_fits (state v.log.device).content lawful.now).0 r.checkpoint).0 settled.newest in
-      let same = r.is.stores.holds.log.segments in
+      let same = r.is.holds.log.segments in
       let ready = r.is.ready unsaved in
       let clean = ready.0 in
       let low = ready.1 in

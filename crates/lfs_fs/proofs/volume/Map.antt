@@ -24,7 +24,7 @@ use Rattle.lfs_fs.proofs.paths.Steps.{open_file, with_handle}
 module _ {D : Type 0} (state : D → DeviceState) (v : Mounted D) (k : CheckpointValue) (m0 m : LogMap) (s : State)
     (is : IsIn state v k m0 m s) where
   pub map_of_volume : IsMapOf (segments_of v) m s
-  map_of_volume = let running = is.stores.holds.log.running in record {
+  map_of_volume = let running = is.holds.log.running in record {
     map = is.map;
     long = laid_long (state v.log.device).content m running.memory _ running.laid;
     log = is.log;
@@ -32,11 +32,11 @@ module _ {D : Type 0} (state : D → DeviceState) (v : Mounted D) (k : Checkpoin
 
   -- the version that the log has
   pub version_of_volume : s.version ≡ v.log.version
-  version_of_volume = is.log.version ∙ is.stores.holds.version
+  version_of_volume = is.log.version ∙ is.holds.version
 
   -- its headers are those of inodes
   pub headers_of_volume : (n : ℕ) (h : Header) → m.header n ≡ Some h → IsHeaderOf n h
-  headers_of_volume = let running = is.stores.holds.log.running in laid_headers (state v.log.device).content m running.memory _ running.laid
+  headers_of_volume = let running = is.holds.log.running in laid_headers (state v.log.device).content m running.memory _ running.laid
 
   pub shape_of_volume : IsShaped m
   shape_of_volume = shape_of (segments_of v) m s map_of_volume headers_of_volume
@@ -52,7 +52,7 @@ module _ {D : Type 0} (state : D → DeviceState) (old new : Mounted D) (k : Che
       (λ (e : next ≡ dropped m). subst (IsTree (segments_of old)) (sym e) (dropped_tree (segments_of old) m s is.log).tree)
       either
 
-  pub runs_over : (m' : LogMap) (next : State) → StoresOver state k.segments m0 m new.log new.saved m' → segments_of new ≡ segments_of old
+  pub runs_over : (m' : LogMap) (next : State) → HoldsNext state k.segments m0 m new.log m' → segments_of new ≡ segments_of old
       → IsMapOf (segments_of old) m' next
       → next.handles ≡ new.table → IsCounted m' new.blocks new.others
       → (new.saved ≡ false → HasClean new.log × (new.log.number ≤ 2 ^ 62 + segments_of new / 8)) → Runs state new next
@@ -61,7 +61,7 @@ module _ {D : Type 0} (state : D → DeviceState) (old new : Mounted D) (k : Che
     saved = over.acknowledged;
     present = m';
     is = record {
-      stores = over.stores;
+      stores = over.holds;
       map = map.map;
       log = (subst (λ (n : ℕ). IsMapOf n m' next) (sym same) map).log;
       handles = handles;

@@ -117,10 +117,10 @@ module _ {D : Type 0} (state : D → DeviceState) (lawful : (d : D) → IsLawful
     }
 
     pub header_in : (head : Header) → HasHeader state old mid n head → (k : CheckpointValue) (m0 m : LogMap) (s : State)
-        → (state mid.store.log.device).keeps_model → IsIn state v k m0 m s → m.header n ≡ Some (as_header head)
+        → (state (seen mid).log.device).keeps_model → IsIn state v k m0 m s → m.header n ≡ Some (as_header head)
     header_in head has k m0 m s keeps is =
-        ap (λ (x : LogMap). x.header n) (sym (draft_empty old.store.draft.changes m reached.empty).0)
-        ∙ has k m0 m keeps (held_still state v.log old.store.log k m0 m reached.still.reads is.stores.holds)
+        ap (λ (x : LogMap). x.header n) (sym (draft_empty (draft_of old.store) m reached.empty).0)
+        ∙ has k m0 m keeps (held_still state v.log (seen old).log k m0 m reached.still.reads is.holds)
 
     -- an object that is there has one, unless a call of the device failed
     pub headerless : (fault : FsError) → LacksHeader state old mid n fault
@@ -129,19 +129,19 @@ module _ {D : Type 0} (state : D → DeviceState) (lawful : (d : D) → IsLawful
         (λ halted. absurd (let on = sym reached.still.reads.halted ∙ halted.1 in let off = was in cc))
         (λ failed. subst (λ (e : FsError). Serves state v (seen mid) (Widen path) (Refuse (refusal_of e))) (sym failed.0)
         (failed_serves state v (seen mid) (Widen path) (lawful v.log.device) whole_later.still was refl (λ k m0 m s keeps is. ⊎_elim
-        (λ (rose : (state old.store.log.device).failures < (state mid.store.log.device).failures).
+        (λ (rose : (state (seen old).log.device).failures < (state (seen mid).log.device).failures).
         (let before = reached.still.reads.looks.carries.failures in omega (arith, before, rose)))
         (λ none. absurd (resolved_there (segments_of v) s is.log.sound path true n (whole_later.walk k m0 m s keeps is)
         (no_header_none (segments_of v) m s is.log n
-        (ap (λ (x : LogMap). x.header n) (sym (draft_empty old.store.draft.changes m reached.empty).0) ∙ none))))
-        (failed.1 k m0 m keeps (held_still state v.log old.store.log k m0 m reached.still.reads is.stores.holds)))))
+        (ap (λ (x : LogMap). x.header n) (sym (draft_empty (draft_of old.store) m reached.empty).0) ∙ none))))
+        (failed.1 k m0 m keeps (held_still state v.log (seen old).log k m0 m reached.still.reads is.holds)))))
         lacks
 
   -- ---- what the header says
   module _ (old : Fs D) (reached : ReachesWhole state v old path n) (head : Header)
-      (there : (k : CheckpointValue) (m0 m : LogMap) (s : State) → (state old.store.log.device).keeps_model → IsIn state v k m0 m s
+      (there : (k : CheckpointValue) (m0 m : LogMap) (s : State) → (state (seen old).log.device).keeps_model → IsIn state v k m0 m s
       → m.header n ≡ Some (as_header head)) where
-    module _ (k : CheckpointValue) (m0 m : LogMap) (s : State) (keeps : (state old.store.log.device).keeps_model)
+    module _ (k : CheckpointValue) (m0 m : LogMap) (s : State) (keeps : (state (seen old).log.device).keeps_model)
         (is : IsIn state v k m0 m s) where
       fits_header : IsHeaderOf n (as_header head)
       fits_header = headers_of_volume state v k m0 m s is n (as_header head) (there k m0 m s keeps is)
@@ -212,7 +212,7 @@ module _ {D : Type 0} (state : D → DeviceState) (lawful : (d : D) → IsLawful
 
     undrafted : (fault : StoreFault)
         → ((fault ≡ store.NoMemory → ⊥) → IsDirectoryFault (files_of state a.store) (files_of state tried) n head)
-        → (fault ≡ store.Log log.Halted → a.store.log.halted ≡ true)
+        → (fault ≡ store.Log log.Halted → (seen a).log.halted ≡ true)
         → (fault ≡ store.Log log.Full → ⊥) → Serves state v (seen left) (Widen path) (Refuse (refusal_of (error_of_store fault)))
     undrafted store.NoMemory failed halted other = memory_serves state v (seen left) (Widen path) (lawful v.log.device) still_left was refl
     undrafted (store.Log log.Halted) failed halted other =
@@ -227,8 +227,8 @@ module _ {D : Type 0} (state : D → DeviceState) (lawful : (d : D) → IsLawful
         let rose = failed (λ e. cc) m m keeps_tried record {
           checkpoint = k;
           acknowledged = m0;
-          holds = held_still state v.log a.store.log k m0 m narrow.whole.still.reads is.stores.holds;
-          draft = sym (draft_empty a.store.draft.changes m narrow.whole.empty).0;
+          holds = held_still state v.log (seen a).log k m0 m narrow.whole.still.reads is.holds;
+          draft = sym (draft_empty (draft_of a.store) m narrow.whole.empty).0;
         } (shaped.directories n (as_header head) there narrow.directory) in
         let first = narrow.whole.still.reads.looks.carries.failures in
         let same = ap (λ (h : LogState D). (state h.device).failures) same_log in
@@ -236,7 +236,7 @@ module _ {D : Type 0} (state : D → DeviceState) (lawful : (d : D) → IsLawful
 
     pub widen_given_up : (fault : StoreFault)
         → ((fault ≡ store.NoMemory → ⊥) → IsDirectoryFault (files_of state a.store) (files_of state tried) n head)
-        → (fault ≡ store.Log log.Halted → a.store.log.halted ≡ true)
+        → (fault ≡ store.Log log.Halted → (seen a).log.halted ≡ true)
         → (fault ≡ store.Log log.Full → ⊥) → (e : FsError) → e ≡ error_of_store fault
         → Serves state v (seen left) (Widen path) (Refuse (refusal_of e))
     widen_given_up fault failed halted other e is = subst (λ (x : FsError). Serves state v (seen left) (Widen path) (Refuse (refusal_of x)))
@@ -257,7 +257,7 @@ module _ {D : Type 0} (state : D → DeviceState) (lawful : (d : D) → IsLawful
     still = still_more state lawful v (seen a) (seen ready) reached.still (still_drafted state a a.store b refl refl redrafts)
 
     module _ (keeps : (state b.log.device).keeps_model) (k : CheckpointValue) (m0 m : LogMap) (s : State) (is : IsIn state v k m0 m s) where
-      before : (state a.store.log.device).keeps_model
+      before : (state (seen a).log.device).keeps_model
       before = redrafts.looks.carries.kept_before keeps
 
       there : m.header n ≡ Some (as_header head)
@@ -280,8 +280,8 @@ module _ {D : Type 0} (state : D → DeviceState) (lawful : (d : D) → IsLawful
       has = record {
         checkpoint = k;
         acknowledged = m0;
-        holds = held_still state v.log a.store.log k m0 m reached.still.reads is.stores.holds;
-        draft = sym (draft_empty a.store.draft.changes m reached.empty).0;
+        holds = held_still state v.log (seen a).log k m0 m reached.still.reads is.holds;
+        draft = sym (draft_empty (draft_of a.store) m reached.empty).0;
       }
 
       widened_map : HasWidened (files_of state b) m m n head
@@ -346,7 +346,7 @@ module _ {D : Type 0} (state : D → DeviceState) (lawful : (d : D) → IsLawful
       -- ---- the totals
       counted : AreTotals (staged b.draft.changes m) b.drafted
       counted =
-          let totals : AreTotals m a.store.log.totals =
+          let totals : AreTotals m (seen a).log.totals =
           record { stored = reached.still.blocks ∙ is.counted.stored; above = reached.still.others ∙ is.counted.above } in
           subst (λ (x : LogMap). AreTotals x b.drafted) widened_map.has.draft
           (counts m m m' keeps has widened_map.has record { map = is.map; there = there } (map_here.long n) directory known kept
@@ -388,7 +388,7 @@ module _ {D : Type 0} (state : D → DeviceState) (lawful : (d : D) → IsLawful
             (is.log.version ∙ sym widened_map.file.only.version) tree links_are
 
       fits_here : FitsBatch m b.draft.changes
-      fits_here = widens.fits m m has (draft_empty a.store.draft.changes m reached.empty).1 record {
+      fits_here = widens.fits m m has (draft_empty (draft_of a.store) m reached.empty).1 record {
         staged = λ none. absurd (let some = there in cc);
         there = there;
         header = wide_fits n head fits is_narrow.directory;

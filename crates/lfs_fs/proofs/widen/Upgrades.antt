@@ -105,23 +105,23 @@ raised_map N m s is = record {
 -- ---- upgrade
 
 module _ {D : Type 0} (state : D → DeviceState) (lawful : (d : D) → IsLawful (state d)) (old mid : Fs D) (begun : Begins old mid) where
-  running : mid.store.log.halted ≡ false
+  running : (seen mid).log.halted ≡ false
   running = begun_running state old mid begun
 
   same_state : (s : State) → s.version ≡ 2 → upgraded s ≡ s
   same_state s two = ap (λ (n : ℕ). record { tree = s.tree; handles = s.handles; version = n }) (sym two)
 
   -- the volume has version 2
-  pub upgrade_nothing : mid.store.log.version ≡ 2 → {X : Type 0} (r : Result X FsError) → OnOk r (mid.store.log.number < 2 ^ 62)
-      → OnErr r (2 ^ 62 ≤ mid.store.log.number) → IfErr r (λ fault. fault ≡ error.Worn)
+  pub upgrade_nothing : (seen mid).log.version ≡ 2 → {X : Type 0} (r : Result X FsError) → OnOk r ((seen mid).log.number < 2 ^ 62)
+      → OnErr r (2 ^ 62 ≤ (seen mid).log.number) → IfErr r (λ fault. fault ≡ error.Worn)
       → Serves state (seen mid) (seen mid) Upgrade (answer_by (λ _. Done) r)
   upgrade_nothing two =
       nothing_ends state lawful (seen mid) (seen mid) (still_logged state mid mid refl refl refl) running Upgrade refl (λ e. cc)
       (λ k m0 m s keeps is. subst (λ (x : State). Step (segments_of (seen mid)) s Upgrade Done x)
       (same_state s (version_of_volume state (seen mid) k m0 m s is ∙ two)) (upgrade_step (segments_of (seen mid)) s))
 
-  module _ (b : Store D) (same_log : b.log ≡ mid.store.log) (same_saved : b.log.saved ≡ mid.store.log.saved)
-      (same_drafted : b.drafted ≡ mid.store.drafted)
+  module _ (b : Store D) (same_log : b.log ≡ (seen mid).log) (same_saved : b.log.saved ≡ (seen mid).log.saved)
+      (same_drafted : b.drafted ≡ drafted_of mid.store)
       (drafts : DraftsUpgrade b.draft.changes) (counts : CountsUpgraded b.draft.changes) where
     abbrev ready : Fs D
     ready = record { alloc = mid.alloc; store = b; handles = mid.handles }
@@ -136,7 +136,7 @@ module _ {D : Type 0} (state : D → DeviceState) (lawful : (d : D) → IsLawful
 
       totals : AreTotals (staged b.draft.changes m) b.drafted
       totals = subst (λ (t : BlockTotals). AreTotals (staged b.draft.changes m) t) (sym (same_drafted ∙ begun.drafted))
-          (counts m mid.store.log.totals record { stored = is.counted.stored; above = is.counted.above })
+          (counts m (seen mid).log.totals record { stored = is.counted.stored; above = is.counted.above })
 
       headers : (n : ℕ) (h : Header) → (staged b.draft.changes m).header n ≡ Some h → m.header n ≡ Some h
       headers n h there = ap (λ (x : LogMap). x.header n) (sym (drafts.map m)) ∙ there

@@ -45,36 +45,36 @@ use Rattle.lfs_fs.proofs.calls.Steps.{pwrite_ends}
 
 module _ {D : Type 0} (state : D → DeviceState) (lawful : (d : D) → IsLawful (state d)) (old mid ready : Fs D) (h n : ℕ)
     (opens : find nat_cmp h old.handles ≡ Some n)
-    (was : old.store.log.halted ≡ false) (empty : IsNoChange old.store.draft.changes) (even : old.store.drafted ≡ old.store.log.totals)
+    (was : (seen old).log.halted ≡ false) (empty : IsEmpty (draft_of old.store)) (even : drafted_of old.store ≡ (seen old).log.totals)
     (only : OnlyReads state old mid) (head : Header) (has : HasHeader state old mid n head)
     (drafts : IsStill state (seen mid) (seen ready)) where
   abbrev c : Changes
-  c = ready.store.draft.changes
+  c = (draft_of ready.store)
 
   still : IsStill state (seen old) (seen ready)
   still = still_more state lawful (seen old) (seen mid) (seen ready) only.still drafts
 
-  none_drafted : IsNoChange mid.store.draft.changes
+  none_drafted : IsEmpty (draft_of mid.store)
   none_drafted = subst (λ (d : Draft). IsNoChange d.changes) (sym only.draft) empty
 
-  same_map : (m : LogMap) → staged mid.store.draft.changes m ≡ m
-  same_map m = (draft_empty mid.store.draft.changes m none_drafted).0
+  same_map : (m : LogMap) → with_draft (draft_of mid.store) m ≡ m
+  same_map m = (draft_empty (draft_of mid.store) m none_drafted).0
 
-  same_totals : old.store.log.totals ≡ mid.store.drafted
+  same_totals : (seen old).log.totals ≡ drafted_of mid.store
   same_totals = sym even ∙ sym only.drafted
 
   -- ---- where the device keeps the model to the end, and the volume is in a state
-  module _ (keeps : (state ready.store.log.device).keeps_model) (k : CheckpointValue) (m0 m : LogMap) (s : State)
+  module _ (keeps : (state (seen ready).log.device).keeps_model) (k : CheckpointValue) (m0 m : LogMap) (s : State)
       (is : IsIn state (seen old) k m0 m s) where
-    kept : (state mid.store.log.device).keeps_model
+    kept : (state (seen mid).log.device).keeps_model
     kept = drafts.reads.looks.carries.kept_before keeps
 
-    in_mid : Holds state mid.store.log k m0 m
-    in_mid = held_still state old.store.log mid.store.log k m0 m only.still.reads is.stores.holds
+    in_mid : Holds state (seen mid).log k m0 m
+    in_mid = held_still state (seen old).log (seen mid).log k m0 m only.still.reads is.holds
 
     header_here : m.header n ≡ Some (as_header head)
     header_here = subst (λ (x : LogMap). x.header n ≡ Some (as_header head))
-        (draft_empty old.store.draft.changes m empty).0 (has k m0 m kept is.stores.holds)
+        (draft_empty (draft_of old.store) m empty).0 (has k m0 m kept is.holds)
 
     file : find nat_cmp h s.handles ≡ Some n
     file = ap (find nat_cmp h) is.handles ∙ opens
@@ -98,23 +98,23 @@ module _ {D : Type 0} (state : D → DeviceState) (lawful : (d : D) → IsLawful
     is_file = sym (ap (λ (x : entry.Header). x.kind) head_is) ∙ opened.kind
 
     -- the totals with the draft are those of its log map
-    module _ (log : IsLogMap (staged c m)) (counts : Counts state mid.store.log ready.store.log
-        mid.store.draft.changes c mid.store.drafted ready.store.drafted) where
-      counted_here : IsCounted (staged c m) ready.store.drafted.data_blocks
-          ready.store.drafted.meta_blocks
+    module _ (log : IsLogMap (staged c m)) (counts : Counts state (seen mid).log (seen ready).log
+        (draft_of mid.store) c drafted_of mid.store drafted_of ready.store) where
+      counted_here : IsCounted (staged c m) (drafted_of ready.store).data_blocks
+          (drafted_of ready.store).meta_blocks
       counted_here = counts k m0 m keeps in_mid (subst IsLogMap (sym (same_map m)) is.map) log
-          (subst (λ (x : LogMap). AreTotals x mid.store.drafted) (sym (same_map m))
+          (subst (λ (x : LogMap). AreTotals x drafted_of mid.store) (sym (same_map m))
           (subst (λ (t : BlockTotals). AreTotals m t) same_totals is.counted))
 
   -- ---- the calls
   module _ (new : Fs D) (rest : new.handles ≡ ready.handles) {X : Type 0} (r : Result X FsError)
       (done : OnOk r (StagesDraft state ready new)) (down : IfErr r (TurnsDown state ready new))
-      (counts : Counts state mid.store.log ready.store.log mid.store.draft.changes c
-      mid.store.drafted ready.store.drafted) where
+      (counts : Counts state (seen mid).log (seen ready).log (draft_of mid.store) c
+      drafted_of mid.store drafted_of ready.store) where
     -- ---- a write
     module _ (at : ℕ) (w : List ℕ) (some : 0 < length w) (few : length w ≤ 65536)
         (end : at + length w ≤ 8511488) (bytes : AreBytes w)
-        (writes : Writes state mid.store.log ready.store.log mid.store.draft.changes c n head at w)
+        (writes : Writes state (seen mid).log (seen ready).log (draft_of mid.store) c n head at w)
       where
         write_drafts : AreDrafts state lawful (seen old) ready new (Pwrite h at w)
             (Count (length w)) still was rest
@@ -130,14 +130,14 @@ module _ {D : Type 0} (state : D → DeviceState) (lawful : (d : D) → IsLawful
             (staged c m) s h n map_here (file keeps k m0 m s is) head there at w changed end)
             counts in
             let ends = pwrite_ends (segments_of (seen old)) m s map_here totals_of_tree
-            (shaped keeps k m0 m s is) (staged c m) ready.store.drafted.data_blocks
-            ready.store.drafted.meta_blocks counted h n (file keeps k m0 m s is) head there at w
+            (shaped keeps k m0 m s is) (staged c m) (drafted_of ready.store).data_blocks
+            (drafted_of ready.store).meta_blocks counted h n (file keeps k m0 m s is) head there at w
             changed some few end in
             record {
               next = with_tree s (written (segments_of (seen old)) s h at w);
               answer = Count (length w);
               ok = refl;
-              fits = writes.fits m (draft_empty mid.store.draft.changes m none_drafted).1 record {
+              fits = writes.fits m (draft_empty (draft_of mid.store) m none_drafted).1 record {
                 there = subst (λ (x : LogMap). x.header n ≡ Some (as_header head))
                     (sym (same_map m)) there;
                 apart = subst (λ (x : Loss). IsApart x n) (sym none_drafted.loss)
@@ -163,7 +163,7 @@ module _ {D : Type 0} (state : D → DeviceState) (lawful : (d : D) → IsLawful
 
     -- ---- a cut
     module _ (len : ℕ) (end : len ≤ 8511488)
-        (sets : SetsLen state mid.store.log ready.store.log c n head len) where
+        (sets : SetsLen state (seen mid).log (seen ready).log c n head len) where
       cut_drafts : AreDrafts state lawful (seen old) ready new (Truncate h len) Done still was rest
       cut_drafts keeps k m0 m s is =
           let there = header_here keeps k m0 m s is in
@@ -176,7 +176,7 @@ module _ {D : Type 0} (state : D → DeviceState) (lawful : (d : D) → IsLawful
           (with_tree s (shortened (segments_of (seen old)) s h len)) after
           (shortened_shape (segments_of (seen old)) m (staged c m) s h n map_here
           (file keeps k m0 m s is) head there len changed end (shaped keeps k m0 m s is))
-          ready.store.drafted.data_blocks ready.store.drafted.meta_blocks counted in
+          (drafted_of ready.store).data_blocks (drafted_of ready.store).meta_blocks counted in
           record {
             next = with_tree s (shortened (segments_of (seen old)) s h len);
             answer = Done;

@@ -55,17 +55,17 @@ use Rattle.lfs_fs.proofs.calls.Steps.{not_worn, refused_not_worn, worn}
 
 -- why a draft isn't staged, by the fault of the store
 pub turned_down : {D : Type 0} (state : D → DeviceState) (old new : Fs D) (fault : StoreFault) (e : FsError) → e ≡ error_of_store fault
-    → old.store.log.halted ≡ false → old.store.log.number < 2 ^ 62 → new.store.log.totals ≡ old.store.log.totals
-    → TellsFew state old.store.log new.store.log
+    → (seen old).log.halted ≡ false → (seen old).log.number < 2 ^ 62 → (seen new).log.totals ≡ (seen old).log.totals
+    → TellsFew state (seen old).log (seen new).log
     → (fault ≡ store.Log log.Full
-    → Declines state old.store.log old.store.log.saved new.store.log new.store.log.saved old.store.draft.changes)
-    → (fault ≡ store.Log log.Full → CannotMakeRoom state old.store.log old.store.log.saved new.store.log)
-    → (fault ≡ store.NoMemory → Declines state old.store.log old.store.log.saved new.store.log new.store.log.saved old.store.draft.changes)
+    → Declines state (seen old).log (seen new).log (draft_of old.store))
+    → (fault ≡ store.Log log.Full → MayNotMakeRoom state (seen old).log (seen new).log)
+    → (fault ≡ store.NoMemory → Declines state (seen old).log (seen new).log (draft_of old.store))
     → (fault ≡ store.Log log.Device
-    → Declines state old.store.log old.store.log.saved new.store.log new.store.log.saved old.store.draft.changes)
-    → (fault ≡ store.Log log.Device → IsAcceptFault state old.store.log old.store.log.saved new.store.log old.store.draft.changes)
-    → (fault ≡ store.Log log.Halted → (old.store.log.halted ≡ true → ⊥)
-    → HaltsLater state old.store.log new.store.log (most_written old.store.log old.store.log.saved)) → TurnsDown state old new e
+    → Declines state (seen old).log (seen new).log (draft_of old.store))
+    → (fault ≡ store.Log log.Device → IsAcceptFault state (seen old).log (seen new).log (draft_of old.store))
+    → (fault ≡ store.Log log.Halted → ((seen old).log.halted ≡ true → ⊥)
+    → HaltsLater state (seen old).log (seen new).log (most_checkpoints (seen old).log)) → TurnsDown state old new e
 turned_down state old new store.NoMemory e is was young totals tells full lacks memory device failed halted =
     subst (TurnsDown state old new) (sym is) record { declines = memory refl; totals = totals; young = young; tells = tells }
 turned_down state old new (store.Log log.Full) e is was young totals tells full lacks memory device failed halted =
@@ -97,7 +97,7 @@ module _ {D : Type 0} (state : D → DeviceState) (lawful : (d : D) → IsLawful
     clean_still : HasClean a → HasClean b
     clean_still = subst (λ (v : LogMemory). length v.usage.segments / 8 + 8 ≤ clean_in v.usage.segments) (sym reads.memory)
 
-    stores_read : (saved : Bool) (k : CheckpointValue) (m0 m : LogMap) → Stores state a saved k m0 m → Stores state b saved k m0 m
+    stores_read : (saved : Bool) (k : CheckpointValue) (m0 m : LogMap) → Holds state a k m0 m → Holds state b k m0 m
     stores_read saved k m0 m stores = stores_still state a b saved k m0 m reads stores
 
     module _ (h : LogState D) where
@@ -113,20 +113,20 @@ module _ {D : Type 0} (state : D → DeviceState) (lawful : (d : D) → IsLawful
           told_before : (most : ℕ) → TellsAtMost state b h most → TellsAtMost state a h most
           told_before most = subst (λ (told : List Order). length (state h.device).told ≤ length told + most) reads.looks.told
 
-      leaves_after : (saved : Bool) → LeavesEither state b saved h → LeavesEither state a saved h
+      leaves_after : (saved : Bool) → LeavesSaved state b h → LeavesSaved state a h
       leaves_after saved leaves k m0 m keeps stores log =
           joined (state a.device) (state b.device) (state h.device) (StandsForOn k.segments m0 (dropped m))
           (StandsForOn k.segments m0 (dropped m)) (StandsForOn k.segments m0 (dropped m))
-          (quiet_reads k m0 m stores.holds) (leaves k m0 m keeps (stores_read saved k m0 m stores) log) (λ c x. x) (λ c x. x)
+          (quiet_reads k m0 m holds) (leaves k m0 m keeps (stores_read saved k m0 m stores) log) (λ c x. x) (λ c x. x)
 
-      saves_after : (saved saved' : Bool) → SavesFew b saved h saved' → SavesFew a saved h saved'
+      saves_after : (saved saved' : Bool) → SavesFew b h → SavesFew a h
       saves_after saved saved' saves = record {
         number = (let more = saves.number in let same = reads.number in omega (arith, more, same));
         few = (let most = saves.few in let same = reads.number in let size = same_segments in omega (arith, most, same, size));
         ready = λ clean now. saves.ready (λ e. clean_still (clean e)) now;
       }
 
-      pub accepts_after : (saved saved' : Bool) (c : Changes) → Accepts state b saved h saved' c → Accepts state a saved h saved' c
+      pub accepts_after : (saved saved' : Bool) (c : Changes) → Accepts state b h c → Accepts state a h c
       accepts_after saved saved' c done = record {
         carries = carries_then (state a.device) (state b.device) (state h.device) reads.looks.carries done.carries;
         halted = done.halted ∙ reads.halted;
@@ -134,21 +134,21 @@ module _ {D : Type 0} (state : D → DeviceState) (lawful : (d : D) → IsLawful
         enough = done.enough;
         unsaved = done.unsaved;
         saves = saves_after saved saved' done.saves;
-        stores = λ k m0 m keeps stores. done.stores k m0 m keeps (stores_read saved k m0 m stores);
+        stores = λ k m0 m keeps stores. done.holds k m0 m keeps (stores_read saved k m0 m stores);
         moment = leaves_after saved done.moment;
       }
 
-      pub declines_after : (saved saved' : Bool) (c : Changes) → Declines state b saved h saved' c → Declines state a saved h saved' c
+      pub declines_after : (saved saved' : Bool) (c : Changes) → Declines state b h c → Declines state a h c
       declines_after saved saved' c done = record {
         carries = carries_then (state a.device) (state b.device) (state h.device) reads.looks.carries done.carries;
         halted = done.halted ∙ reads.halted;
         segments = done.segments ∙ same_segments;
         saves = saves_after saved saved' done.saves;
-        stores = λ k m0 m keeps stores. done.stores k m0 m keeps (stores_read saved k m0 m stores);
+        stores = λ k m0 m keeps stores. done.holds k m0 m keeps (stores_read saved k m0 m stores);
         moment = leaves_after saved done.moment;
       }
 
-      pub fault_after : (saved : Bool) (c : Changes) → IsAcceptFault state b saved h c → IsAcceptFault state a saved h c
+      pub fault_after : (saved : Bool) (c : Changes) → IsAcceptFault state b h c → IsAcceptFault state a h c
       fault_after saved c fault k m0 m keeps stores fits log =
           let rose = fault k m0 m keeps (stores_read saved k m0 m stores) fits log in
           let before = reads.looks.carries.failures in
@@ -217,9 +217,9 @@ module _ {D : Type 0} (state : D → DeviceState) (lawful : (d : D) → IsLawful
           halts_at state old new keeps (lawful old.log.device) (lawful new.log.device) halts.carries r.checkpoint r.saved r.present p.state
           r.is call p at refl was halts.halted
           halts.later behaves
-          (halts.cause r.checkpoint r.saved r.present keeps r.is.stores.holds (map_dropped state old new keeps (lawful old.log.device)
+          (halts.cause r.checkpoint r.saved r.present keeps r.is.holds (map_dropped state old new keeps (lawful old.log.device)
           (lawful new.log.device) halts.carries r.checkpoint r.saved r.present p.state r.is))
-          (halts.moment r.checkpoint r.saved r.present keeps r.is.stores.holds (map_dropped state old new keeps (lawful old.log.device)
+          (halts.moment r.checkpoint r.saved r.present keeps r.is.holds (map_dropped state old new keeps (lawful old.log.device)
           (lawful new.log.device) halts.carries r.checkpoint r.saved r.present p.state r.is)));
     }
       where
@@ -246,13 +246,13 @@ module _ {D : Type 0} (state : D → DeviceState) (lawful : (d : D) → IsLawful
   undrafted_serves old new call was still free takes (store.Log log.Full) failed halted other = absurd (other refl)
 
   -- and the draft is given up
-  module _ (old mid : Fs D) (tried gone : Store D) (call : Call) (was : old.store.log.halted ≡ false)
-      (still : IsStill state (seen old) (seen mid)) (reads : Reads state mid.store.log tried.log)
-      (saved : tried.log.saved ≡ mid.store.log.saved) (same_log : gone.log ≡ tried.log)
+  module _ (old mid : Fs D) (tried gone : Store D) (call : Call) (was : (seen old).log.halted ≡ false)
+      (still : IsStill state (seen old) (seen mid)) (reads : Reads state (seen mid).log tried.log)
+      (saved : tried.log.saved ≡ (seen mid).log.saved) (same_log : gone.log ≡ tried.log)
       (same_saved : gone.log.saved ≡ tried.log.saved) where
     still_gone : IsStill state (seen mid) (seen record { alloc = mid.alloc; store = gone; handles = mid.handles })
     still_gone = record {
-      reads = subst (λ (x : LogState D). Reads state mid.store.log x) (sym same_log) reads;
+      reads = subst (λ (x : LogState D). Reads state (seen mid).log x) (sym same_log) reads;
       saved = same_saved ∙ saved;
       blocks = ap (λ (t : BlockTotals). t.data_blocks) (ap (λ (h : LogState D). h.totals) same_log ∙ reads.totals);
       others = ap (λ (t : BlockTotals). t.meta_blocks) (ap (λ (h : LogState D). h.totals) same_log ∙ reads.totals);
@@ -260,8 +260,8 @@ module _ {D : Type 0} (state : D → DeviceState) (lawful : (d : D) → IsLawful
     }
 
     pub given_up_serves : never_for_device call ≡ false → takes_no_memory call ≡ false → (fault : StoreFault)
-        → ((fault ≡ store.NoMemory → ⊥) → IsReadFault state mid.store.log tried.log)
-        → (fault ≡ store.Log log.Halted → mid.store.log.halted ≡ true) → (fault ≡ store.Log log.Full → ⊥) → (e : FsError)
+        → ((fault ≡ store.NoMemory → ⊥) → IsReadFault state (seen mid).log tried.log)
+        → (fault ≡ store.Log log.Halted → (seen mid).log.halted ≡ true) → (fault ≡ store.Log log.Full → ⊥) → (e : FsError)
         → e ≡ error_of_store fault
         → Serves state (seen old) (seen record { alloc = mid.alloc; store = gone; handles = mid.handles }) call (Refuse (refusal_of e))
     given_up_serves free takes fault failed halted other e is =
@@ -270,19 +270,19 @@ module _ {D : Type 0} (state : D → DeviceState) (lawful : (d : D) → IsLawful
         (undrafted_serves (seen old) (seen record { alloc = mid.alloc; store = gone; handles = mid.handles }) call was
         (still_more (seen old) (seen mid) (seen record { alloc = mid.alloc; store = gone; handles = mid.handles }) still still_gone) free
         takes fault
-        (λ device. subst (λ (x : LogState D). IsReadFault state old.store.log x) (sym same_log)
-        (fault_more state old.store.log mid.store.log tried.log still.reads (failed device)))
+        (λ device. subst (λ (x : LogState D). IsReadFault state (seen old).log x) (sym same_log)
+        (fault_more state (seen old).log (seen mid).log tried.log still.reads (failed device)))
         (λ on. sym still.reads.halted ∙ halted on) other)
 
   -- an open file has a header, unless a call of the device failed
   pub headerless_serves : (old mid : Fs D) (call : Call) (h n : ℕ) → find nat_cmp h old.handles ≡ Some n
-      → old.store.log.halted ≡ false → IsNoChange old.store.draft.changes
+      → (seen old).log.halted ≡ false → IsEmpty (draft_of old.store)
       → IsStill state (seen old) (seen mid) → never_for_device call ≡ false → (fault : FsError) → LacksHeader state old mid n fault
       → Serves state (seen old) (seen mid) call (Refuse (refusal_of fault))
   headerless_serves old mid call h n opens was empty still free fault lacks = ⊎_elim
       (λ halted. absurd (let is = halted.1 in cc))
       (λ failed. subst (λ (e : FsError). Serves state (seen old) (seen mid) call (Refuse (refusal_of e))) (sym failed.0)
-      (served_still state (seen old) (seen mid) call (Refuse refusal.Device) (lawful old.store.log.device) still was tt
+      (served_still state (seen old) (seen mid) call (Refuse refusal.Device) (lawful (seen old).log.device) still was tt
       (λ p keeps here k m0 m is. (
       let file = opened_in (seen old) (seen mid) call was h n opens k m0 m p.state is in
       inr (
@@ -291,12 +291,12 @@ module _ {D : Type 0} (state : D → DeviceState) (lawful : (d : D) → IsLawful
         (
           free,
           ⊎_elim
-              (λ (rose : (state old.store.log.device).failures < (state mid.store.log.device).failures).
+              (λ (rose : (state (seen old).log.device).failures < (state (seen mid).log.device).failures).
               (let f = here.failures in omega (arith, f, rose)))
               (λ none. absurd (
-              let both : None ≡ Some file.head = sym none ∙ ap (λ (x : LogMap). x.header n) (draft_empty old.store.draft.changes m empty).0
+              let both : None ≡ Some file.head = sym none ∙ ap (λ (x : LogMap). x.header n) (draft_empty (draft_of old.store) m empty).0
               ∙ file.there in cc))
-              (failed.1 k m0 m keeps is.stores.holds),
+              (failed.1 k m0 m keeps is.holds),
         ),
         refl,
       )))
@@ -308,26 +308,26 @@ module _ {D : Type 0} (state : D → DeviceState) (lawful : (d : D) → IsLawful
   module _ (v : Mounted D) (ready new : Fs D) (call : Call) (a : Answer) (still : IsStill state v (seen ready)) (was : v.log.halted ≡ false)
       (rest : new.handles ≡ ready.handles) where
     abbrev c : Changes
-    c = ready.store.draft.changes
+    c = (draft_of ready.store)
 
     pub table_same : new.handles ≡ v.table
     table_same = rest ∙ still.table
 
-    pub accepts_old : StagesDraft state ready new → Accepts state v.log v.saved new.store.log new.store.log.saved c
-    accepts_old done = accepts_after v.log ready.store.log still.reads new.store.log v.saved new.store.log.saved c
-        (subst (λ (b : Bool). Accepts state ready.store.log b new.store.log new.store.log.saved c) still.saved done.accepts)
+    pub accepts_old : StagesDraft state ready new → Accepts state v.log (seen new).log c
+    accepts_old done = accepts_after v.log (seen ready).log still.reads (seen new).log v.saved (seen new).log.saved c
+        (subst (λ (b : Bool). Accepts state (seen ready).log (seen new).log c) still.saved done.accepts)
 
-    declines_old : IsDeclined state ready new → Declines state v.log v.saved new.store.log new.store.log.saved c
-    declines_old done = declines_after v.log ready.store.log still.reads new.store.log v.saved new.store.log.saved c
-        (subst (λ (b : Bool). Declines state ready.store.log b new.store.log new.store.log.saved c) still.saved done.declines)
+    declines_old : IsDeclined state ready new → Declines state v.log (seen new).log c
+    declines_old done = declines_after v.log (seen ready).log still.reads (seen new).log v.saved (seen new).log.saved c
+        (subst (λ (b : Bool). Declines state (seen ready).log (seen new).log c) still.saved done.declines)
 
-    tells_old : TellsFew state ready.store.log new.store.log → TellsFew state v.log new.store.log
-    tells_old = tells_after v.log ready.store.log still.reads new.store.log
+    tells_old : TellsFew state (seen ready).log (seen new).log → TellsFew state v.log (seen new).log
+    tells_old = tells_after v.log (seen ready).log still.reads (seen new).log
 
-    fault_old : IsAcceptFault state ready.store.log ready.store.log.saved new.store.log c
-        → IsAcceptFault state v.log v.saved new.store.log c
-    fault_old fault = fault_after v.log ready.store.log still.reads new.store.log v.saved c
-        (subst (λ (b : Bool). IsAcceptFault state ready.store.log b new.store.log c) still.saved fault)
+    fault_old : IsAcceptFault state (seen ready).log (seen new).log c
+        → IsAcceptFault state v.log (seen new).log c
+    fault_old fault = fault_after v.log (seen ready).log still.reads (seen new).log v.saved c
+        (subst (λ (b : Bool). IsAcceptFault state (seen ready).log (seen new).log c) still.saved fault)
 
     rest_old : IsDeclined state ready new → IsRest state v (seen new)
     rest_old done = record {
@@ -336,7 +336,7 @@ module _ {D : Type 0} (state : D → DeviceState) (lawful : (d : D) → IsLawful
       table = table_same;
     }
 
-    pub low_old : ready.store.log.number < 2 ^ 62 → v.log.number < 2 ^ 62
+    pub low_old : (seen ready).log.number < 2 ^ 62 → v.log.number < 2 ^ 62
     low_old low = let same = still.reads.number in omega (arith, same, low)
 
     still_new : seen new ≡ seen ready → IsStill state v (seen new)
@@ -344,7 +344,7 @@ module _ {D : Type 0} (state : D → DeviceState) (lawful : (d : D) → IsLawful
 
     -- the ends that differ from call to call
     abbrev pub Kept : Type 0
-    Kept = (state ready.store.log.device).keeps_model
+    Kept = (state (seen ready).log.device).keeps_model
 
     abbrev pub InState : Answer → Type 0
     InState x = Kept → (k : CheckpointValue) (m0 m : LogMap) (s : State) → IsIn state v k m0 m s → Serves state v (seen new) call x
@@ -361,17 +361,17 @@ module _ {D : Type 0} (state : D → DeviceState) (lawful : (d : D) → IsLawful
           (not_halted x ordinary) (still_behaves state v (seen new) call x (still_new same) ordinary)
           (λ keeps. each (subst (λ (x : Mounted D). (state x.log.device).keeps_model) same keeps))
 
-      few_written : most_written ready.store.log ready.store.log.saved ≤ segments_of v / 8 + 1
+      few_written : most_checkpoints (seen ready).log ≤ segments_of v / 8 + 1
       few_written =
-          subst (λ (n : ℕ). most_written ready.store.log ready.store.log.saved ≤ n / 8 + 1)
+          subst (λ (n : ℕ). most_checkpoints (seen ready).log ≤ n / 8 + 1)
           (ap (λ (x : LogMemory). length x.usage.segments) still.reads.memory)
-          (written_most D ready.store.log ready.store.log.saved)
+          (written_most D (seen ready).log (seen ready).log.saved)
 
       declined_bounded : (done : IsDeclined state ready new) → IsBounded state v (seen new) call
       declined_bounded done = change_bounded state v (seen new) call change (declines_old done).saves.few (tells_old done.tells)
 
       declined_by : (x : Answer) → (x ≡ Refuse refusal.Halted → ⊥) → (x ≡ Refuse refusal.Stuck → ⊥) → (done : IsDeclined state ready new)
-          → ((state new.store.log.device).keeps_model → InState x) → Serves state v (seen new) call x
+          → ((state (seen new).log.device).keeps_model → InState x) → Serves state v (seen new) call x
       declined_by x other none done each = when_in v (seen new) call was x (declines_old done).carries (declines_old done).segments other
           (write_behaves state v (seen new) call x (change_writes call change) table_same none (λ never e. absurd (not_both
           (takes_no_memory call) never takes)) (declined_bounded done)) (λ keeps. each keeps (done.declines.carries.kept_before keeps))
@@ -381,22 +381,22 @@ module _ {D : Type 0} (state : D → DeviceState) (lawful : (d : D) → IsLawful
       by_fault error.Worn down = same_by (Refuse refusal.Worn) tt down.0
           (worn_ends (still_new down.0) (let same = still.reads.number in let high = down.1 in omega (arith, same, high)) down.2)
       by_fault error.NoMemory down = declined_by (Refuse refusal.NoMemory) (λ e. cc) (λ e. cc) down (λ after keeps k m0 m s is.
-          no_room_serves state v (seen new) call (lawful v.log.device) (lawful new.store.log.device) was (declines_old down).saves.number c
+          no_room_serves state v (seen new) call (lawful v.log.device) (lawful (seen new).log.device) was (declines_old down).saves.number c
           (rest_old down) (declines_old down) (low_old down.young)
           (fits keeps k m0 m s is) (declined_bounded down) change takes)
       by_fault error.Device down = declined_by (Refuse refusal.Device) (λ e. cc) (λ e. cc) down.0 (λ after keeps k m0 m s is. ⊎_elim
-          (λ (failed : IsAcceptFault state ready.store.log ready.store.log.saved new.store.log c).
-          accept_fault_serves state v (seen new) call (lawful v.log.device) (lawful new.store.log.device) was
+          (λ (failed : IsAcceptFault state (seen ready).log (seen new).log c).
+          accept_fault_serves state v (seen new) call (lawful v.log.device) (lawful (seen new).log.device) was
           (declines_old down.0).saves.number c (rest_old down.0) (declines_old down.0) (low_old down.0.young)
           (fits keeps k m0 m s is) (declined_bounded down.0) change free (fault_old failed))
-          (λ (cannot : CannotMakeRoom state ready.store.log ready.store.log.saved new.store.log).
-          absurd (cannot k m0 m after (has_room state (seen ready) (lawful ready.store.log.device) refl refl down.0.young k m0 m s
+          (λ (cannot : MayNotMakeRoom state (seen ready).log (seen new).log).
+          absurd (cannot k m0 m after (has_room state (seen ready) (lawful (seen ready).log.device) refl refl down.0.young k m0 m s
           (still_in state v (seen ready) k m0 m s still is))))
           down.1)
       by_fault error.Halted down =
           halts_serves v (seen new) call was (change_writes call change) table_same _ few_written
           (λ few. change_bounded state v (seen new) call change few (tells_old down.1))
-          (halts_after v.log ready.store.log still.reads new.store.log (most_written ready.store.log ready.store.log.saved) down.0)
+          (halts_after v.log (seen ready).log still.reads (seen new).log (most_checkpoints (seen ready).log) down.0)
       by_fault fault down = absurd down
 
     -- ---- a draft that is one step of the model
@@ -406,10 +406,10 @@ module _ {D : Type 0} (state : D → DeviceState) (lawful : (d : D) → IsLawful
     -- the volume with the draft, and with this table of open files
     abbrev pub with_table : Handles → Mounted D
     with_table table = record {
-      log = new.store.log;
-      saved = new.store.log.saved;
-      blocks = new.store.log.totals.data_blocks;
-      others = new.store.log.totals.meta_blocks;
+      log = (seen new).log;
+      saved = (seen new).log.saved;
+      blocks = (seen new).log.totals.data_blocks;
+      others = (seen new).log.totals.meta_blocks;
       table = table;
     }
 
@@ -422,8 +422,8 @@ module _ {D : Type 0} (state : D → DeviceState) (lawful : (d : D) → IsLawful
       pub answer : Answer
       pub ok : is_ok answer ≡ true
       pub fits : FitsBatch m c
-      pub counted : IsCounted (staged c m) ready.store.drafted.data_blocks
-          ready.store.drafted.meta_blocks
+      pub counted : IsCounted (staged c m) (drafted_of ready.store).data_blocks
+          (drafted_of ready.store).meta_blocks
       pub map : HasRoom → IsMapOf (segments_of v) (staged c m) next
       pub done : HasRoom → Step (segments_of v) s call answer next
       pub lacks : 47 * segments_of v < need_of ready
@@ -448,7 +448,7 @@ module _ {D : Type 0} (state : D → DeviceState) (lawful : (d : D) → IsLawful
         let accepts = accepts_old stages in
         let low = low_old stages.young in
         accepts_by state v (with_table table) call (lawful v.log.device)
-        (lawful new.store.log.device) accepts.carries accepts.segments was accepts.saves.number c
+        (lawful (seen new).log.device) accepts.carries accepts.segments was accepts.saves.number c
         accepts low x (ok_refuses_none x refusal.Halted ok)
         (λ e. let no : acknowledges call x ≡ false = ap (λ (b : Bool). b && is_ok x) (commits_none call free) in cc)
         (behaves (change_bounded state v (with_table table) call change accepts.saves.few

@@ -37,19 +37,19 @@ some_of n e = grind (arith, nat_tests)
 module _ {D : Type 0} (state : D → DeviceState) (lawful : (d : D) → IsLawful (state d)) where
   -- ---- how a call begins
 
-  pub halted_begin : (old new : Fs D) (call : Call) (fault : FsError) → new ≡ old → old.store.log.halted ≡ true → fault ≡ error.Halted
+  pub halted_begin : (old new : Fs D) (call : Call) (fault : FsError) → new ≡ old → (seen old).log.halted ≡ true → fault ≡ error.Halted
       → Serves state (seen old) (seen new) call (Refuse (refusal_of fault))
   halted_begin old new call fault same halted is =
       subst (λ (f : Fs D). Serves state (seen old) (seen f) call (Refuse (refusal_of fault))) (sym same)
       (subst (λ (e : FsError). Serves state (seen old) (seen old) call (Refuse (refusal_of e))) (sym is)
-      (served_halted state (seen old) call (lawful old.store.log.device) halted))
+      (served_halted state (seen old) call (lawful (seen old).log.device) halted))
 
   -- what is done from there is what is done
   pub begun : (old mid new : Fs D) (call : Call) (a : Answer) → Begins old mid → Serves state (seen mid) (seen new) call a
       → Serves state (seen old) (seen new) call a
   begun old mid new call a begins = subst (λ (v : Mounted D). Serves state v (seen new) call a) begins.same
 
-  pub still_running : (old mid : Fs D) → Begins old mid → mid.store.log.halted ≡ false
+  pub still_running : (old mid : Fs D) → Begins old mid → (seen mid).log.halted ≡ false
   still_running old mid begins = ap (λ (v : Mounted D). v.log.halted) begins.same ∙ begins.running
 
   -- ---- exits of a running volume

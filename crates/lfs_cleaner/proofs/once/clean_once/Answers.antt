@@ -2,6 +2,7 @@ use Rattle.std.proofs.Common.{rules, ◌≡◌, ◌≤◌, ◌+◌, inr, length,
 use Rattle.std.specs.Prelude.{Err, OnOk}
 use Rattle.lfs_log.specs.LogState.{LogState}
 use Rattle.lfs_log.specs.Saving.{pass_orders}
+use Rattle.lfs_log.proofs.LogReads.{whole_count}
 use Rattle.lfs_cleaner.specs.Room.{PassesWhereDue}
 use Rattle.lfs_cleaner.proofs.Onces.{keeps_due, once_behind, once_told}
 use Rattle.lfs_cleaner.proofs.RoomBounds.{fails_after, halts_after, halts_first, lacks_after, lacks_commit, makes_after, makes_none}
@@ -41,7 +42,7 @@ returns-clause-done g c =
     let b = c.commit_unsaved.new.log in
     let end = c.pass_where_due.new.log in
     let running : a.halted ≡ false = sym c.is_halted.ensures ∙ c.if-is_halted.false in
-    let least = (c.are_tables_whole.ensures.memory running).count.least in
+    let least = (whole_count g.D.SectorDevice.state a c.are_tables_whole.ensures running).least in
     on_success c.pass_where_due.result _ _ _
     (λ due same. record {
       makes =

@@ -14,7 +14,7 @@ returns-in-Err-clause-full g c is =
     let done = c.loop.invariant.repeats.keeps in
     let lt = c.loop-test.true in
     let most = c.most_passes-most.ensures in
-    let size = ap (λ (t : UsageTable). length t.segments) c.usage.ensures in
+    let size = c.segments.ensures in
     let le : c.loop.counter < c.args.log.now.segments / 8 = omega (arith, lt, most, size) in
     let refuses = c.in-Err.ensures.full (search rules) in
     let reads = keeps_reads g.D.SectorDevice.state c.loop.log c.pass.new.log (g.met.D.SectorDevice.lawful c.loop.log.device) done.running
@@ -34,7 +34,7 @@ returns-in-Err-clause-device g c is =
     let done = c.loop.invariant.repeats.keeps in
     let lt = c.loop-test.true in
     let most = c.most_passes-most.ensures in
-    let size = ap (λ (t : UsageTable). length t.segments) c.usage.ensures in
+    let size = c.segments.ensures in
     let le : c.loop.counter + 0 ≤ c.args.log.now.segments / 8 = omega (arith, lt, most, size) in
     let fails = c.in-Err.ensures.device (search rules) in
     let reads = keeps_reads g.D.SectorDevice.state c.loop.log c.pass.new.log (g.met.D.SectorDevice.lawful c.loop.log.device) done.running
@@ -50,7 +50,7 @@ returns-in-Err-clause-halted g c is =
     let done = c.loop.invariant.repeats.keeps in
     let lt = c.loop-test.true in
     let most = c.most_passes-most.ensures in
-    let size = ap (λ (t : UsageTable). length t.segments) c.usage.ensures in
+    let size = c.segments.ensures in
     let le : c.loop.counter + 0 ≤ c.args.log.now.segments / 8 = omega (arith, lt, most, size) in
     let running : c.loop.log.halted ≡ false = done.running in
     let halts = c.in-Err.ensures.halted (search rules) (λ (is : c.loop.log.halted ≡ true). absurd (cc)) in
@@ -73,7 +73,7 @@ returns-clause-full g c is =
     let low = c.loop-test.false in
     let high = c.loop.auto.counter-end in
     let most = c.most_passes-most.ensures in
-    let size = ap (λ (t : UsageTable). length t.segments) c.usage.ensures in
+    let size = c.segments.ensures in
     let all : c.loop.counter ≡ c.args.log.now.segments / 8 = omega (arith, low, high, most, size) in record {
       keeps = keeps_weaker g.D.SectorDevice.state c.args.log.now c.loop.log c.loop.counter _ c.loop.invariant.repeats.keeps
           (omega (arith, all));
@@ -96,7 +96,7 @@ pub returns-in-Err-clause-told : goal.returns-in-Err-clause-told
 returns-in-Err-clause-told g c =
     let lt = c.loop-test.true in
     let most = c.most_passes-most.ensures in
-    let size = ap (λ (t : UsageTable). length t.segments) c.usage.ensures in
+    let size = c.segments.ensures in
     passes_most (length (g.D.SectorDevice.state c.args.log.now.device).told) (length (g.D.SectorDevice.state c.pass.new.log.device).told)
     (c.loop.counter + 1) _ (pass_orders c.args.log.now.segments) (omega (arith, lt, most, size))
     (pass_more (length (g.D.SectorDevice.state c.args.log.now.device).told) (length (g.D.SectorDevice.state c.loop.log.device).told)
@@ -107,7 +107,7 @@ pub returns-then-has_quarter-clause-told : goal.returns-then-has_quarter-clause-
 returns-then-has_quarter-clause-told g c =
     let lt = c.loop-test.true in
     let most = c.most_passes-most.ensures in
-    let size = ap (λ (t : UsageTable). length t.segments) c.usage.ensures in
+    let size = c.segments.ensures in
     passes_most (length (g.D.SectorDevice.state c.args.log.now.device).told) (length (g.D.SectorDevice.state c.loop.log.device).told)
     c.loop.counter _ (pass_orders c.args.log.now.segments) (omega (arith, lt, most, size)) c.loop.invariant.told
 
@@ -115,7 +115,7 @@ pub returns-then-has_quarter-2-clause-told : goal.returns-then-has_quarter-2-cla
 returns-then-has_quarter-2-clause-told g c =
     let high = c.loop.auto.counter-end in
     let most = c.most_passes-most.ensures in
-    let size = ap (λ (t : UsageTable). length t.segments) c.usage.ensures in
+    let size = c.segments.ensures in
     passes_most (length (g.D.SectorDevice.state c.args.log.now.device).told) (length (g.D.SectorDevice.state c.loop.log.device).told)
     c.loop.counter _ (pass_orders c.args.log.now.segments) (omega (arith, high, most, size)) c.loop.invariant.told
 
@@ -123,6 +123,6 @@ pub returns-clause-told : goal.returns-clause-told
 returns-clause-told g c =
     let high = c.loop.auto.counter-end in
     let most = c.most_passes-most.ensures in
-    let size = ap (λ (t : UsageTable). length t.segments) c.usage.ensures in
+    let size = c.segments.ensures in
     passes_most (length (g.D.SectorDevice.state c.args.log.now.device).told) (length (g.D.SectorDevice.state c.loop.log.device).told)
     c.loop.counter _ (pass_orders c.args.log.now.segments) (omega (arith, high, most, size)) c.loop.invariant.told

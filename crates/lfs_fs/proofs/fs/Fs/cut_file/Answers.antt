@@ -45,5 +45,5 @@ returns-in-Err g c handle opens =
 
 pub accept-requires-clause-room : goal.accept-requires-clause-room
 accept-requires-clause-room g c =
-    cut_fits g.D.SectorDevice.state c.header.new.self.store.log c.set_len.new.self.log c.set_len.new.self.draft.changes c.args.number.value
+    cut_fits g.D.SectorDevice.state (seen c.header.new.self).log c.set_len.new.self.log c.set_len.new.self.draft.changes c.args.number.value
     c.in_ok-header.header c.args.len c.in-Ok.ensures.done

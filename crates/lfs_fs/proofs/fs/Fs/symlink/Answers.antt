@@ -21,7 +21,7 @@ returns-in_err-begin g c =
     let p = err_from_is_err_and c.from_residual.result c.from_residual.ensures.1 in rw (p.1, p.2)
     (halted_serves g.D.SectorDevice.state c.args.self.now c.begin.new.self
     (Symlink c.args.text.now c.args.path.now) c.in_err-begin.field-0.0
-    (g.met.D.SectorDevice.lawful c.args.self.now.store.log.device) c.in_err-begin.ensures.same c.in_err-begin.ensures.halted
+    (g.met.D.SectorDevice.lawful (seen c.args.self.now).log.device) c.in_err-begin.ensures.same c.in_err-begin.ensures.halted
     c.in_err-begin.ensures.fault)
 
 -- the text is refused
