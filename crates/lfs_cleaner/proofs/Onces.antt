@@ -27,13 +27,13 @@ once_within n count = let least = count.least in more (n / 8) (8 * n + 4) (omega
 
 module _ {D : Type 0} (state : D → DeviceState) where
   -- a pass may be made where room can be
-  unfit_lacks : (h now : LogState D) → IsLawful (state h.device) → h.halted ≡ false → h.saved ≡ true → AreAllSaved h
+  unfit_lacks : (h now : LogState D) → IsLawful (state h.device) → h.halted ≡ false → AreAllSaved h
       → 4 * h.clean < h.segments
       → Reads state h now → IsUnfit state h now → MayNotMakeRoom state h now
-  unfit_lacks h now lawful running all nothing few reads unfit k m0 m keeps may =
+  unfit_lacks h now lawful running nothing few reads unfit k m0 m keeps may =
       let least = (segment_count state h k m0 m lawful may.holds).least in
       let next =
-      may_pass state h h 0 all nothing (passes_none state h lawful running) few k m0 m (reads.looks.carries.kept_before keeps) may
+      may_pass state h h 0 nothing (passes_none state h lawful running) few k m0 m (reads.looks.carries.kept_before keeps) may
       (omega (arith, least)) in
       unfit next.0 next.1 m keeps next.2
 
@@ -47,11 +47,11 @@ module _ {D : Type 0} (state : D → DeviceState) where
       due
 
   -- ---- a pass that isn't made
-  pub lacks_pass : (h now : LogState D) → IsLawful (state h.device) → h.halted ≡ false → h.saved ≡ true → AreAllSaved h
+  pub lacks_pass : (h now : LogState D) → IsLawful (state h.device) → h.halted ≡ false → AreAllSaved h
       → 4 * h.clean < h.segments → RefusesPass state h now → LacksPasses state h now 0
-  lacks_pass h now lawful running all nothing few refuses = record {
+  lacks_pass h now lawful running nothing few refuses = record {
     keeps = keeps_reads state h now lawful running refuses.reads;
-    never = unfit_lacks h now lawful running all nothing few refuses.reads refuses.unfit;
+    never = unfit_lacks h now lawful running nothing few refuses.reads refuses.unfit;
   }
 
   pub fails_pass : (h now : LogState D) → IsLawful (state h.device) → h.halted ≡ false → FailsPass state h now → FailsPasses state h now 0

@@ -3,6 +3,7 @@ use Rattle.std.proofs.Common.{◌≡◌, ◌<◌, ◌≤◌, ◌+◌, ◌-◌, �
 use Rattle.std.proofs.Common.{sym, ◌∙◌, ap, subst}
 use Rattle.std.proofs.Common.{arith}
 use Rattle.std.specs.Prelude.{Result, Ok, Err, IsErrOf, OnErr, OnOk}
+use Rattle.std.proofs.lemmas.Bool.{cases_Bool}
 use Rattle.lfs_model.specs.Checkpoint.{CheckpointValue, IsSegmentCount}
 use Rattle.lfs_model.specs.declared.Order.{Order}
 use Rattle.lfs_model.specs.Device.{DeviceState, IsLawful}
@@ -112,12 +113,19 @@ module _ {D : Type 0} (state : D → DeviceState) where
       let above = ap (λ (t : BlockTotals). t.meta_blocks) totals in
       omega (arith, stored, above, size, need)
 
+  -- where room can be made an eighth of the segments is clean
+  pub eighth_clean : (h : LogState D) (k : CheckpointValue) (m0 m : LogMap) → MayMakeRoom state h k m0 m → h.segments ≤ 8 * h.clean
+  eighth_clean h k m0 m may = ⊎_elim
+      (λ (on : h.saved ≡ true). (may.holds.rest on).many)
+      (λ (off : h.saved ≡ false). let enough = may.enough off in omega (arith, enough))
+      (cases_Bool h.saved)
+
   -- nothing is unsaved between two passes
   pub nothing_between : (h now : LogState D) (count : ℕ) → AreAllSaved h → PassesDone state h now count → AreAllSaved now
   nothing_between h now count nothing done =
       ⊎_elim (λ (same : now ≡ h). subst (λ (x : LogState D). AreAllSaved x) (sym same) nothing) (λ all. all.rest.nothing) done.repeats.saved
 
-  module _ (h now : LogState D) (count : ℕ) (on : h.saved ≡ true) (nothing : AreAllSaved h) (done : PassesDone state h now count)
+  module _ (h now : LogState D) (count : ℕ) (nothing : AreAllSaved h) (done : PassesDone state h now count)
       (few : 4 * now.clean < now.segments)
       (k : CheckpointValue) (m0 m : LogMap) (keeps : (state now.device).keeps_model) (may : MayMakeRoom state h k m0 m) where
     -- the next pass may begin
@@ -127,7 +135,7 @@ module _ {D : Type 0} (state : D → DeviceState) where
         let above = ap (λ (t : BlockTotals). t.meta_blocks) done.repeats.keeps.totals in
         let size = done.repeats.keeps.segments in
         let gains = done.gains in
-        let many = (may.holds.rest on).many in
+        let many = eighth_clean h k m0 m may in
         let number = done.repeats.keeps.number in
         let most = may.number in
         let need = may.need in
@@ -140,7 +148,7 @@ module _ {D : Type 0} (state : D → DeviceState) where
             map = may.map;
             nothing = ⊎_elim (λ (same : now ≡ h). subst (λ (x : LogState D). AreAllSaved x) (sym same) nothing)
                 (λ all. all.rest.nothing) done.repeats.saved;
-            untaken = ⊎_elim (λ (same : now ≡ h). subst (λ (x : LogState D). AreUntaken x.usage) (sym same) (may.holds.rest on).untaken)
+            untaken = ⊎_elim (λ (same : now ≡ h). subst (λ (x : LogState D). AreUntaken x.usage) (sym same) nothing.sectors)
                 (λ all. all.rest.untaken) done.repeats.saved;
             few = few;
             many = omega (arith, size, gains, many);
@@ -155,7 +163,7 @@ module _ {D : Type 0} (state : D → DeviceState) where
     passes_suffice lawful all =
         let size = done.repeats.keeps.segments in
         let gains = done.gains in
-        let many = (may.holds.rest on).many in
+        let many = eighth_clean h k m0 m may in
         let eighths = (segment_count state h k m0 m lawful may.holds).eighths in
         omega (arith, all, size, gains, many, few, eighths)
 

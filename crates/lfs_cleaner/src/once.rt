@@ -1,8 +1,9 @@
 //! One pass of the cleaner where it is due: where fewer than a quarter of the segments is clean.
-ghost use Rattle.std.specs.Prelude.{◌≡◌, ◌≢◌, ◌≤◌, ◌+◌, true, false, length, OnOk, IsErrOf};
-ghost use Rattle.lfs_log.specs.LogState.{AreAllSaved};
+ghost use Rattle.std.specs.Prelude.{◌≡◌, ◌≢◌, ◌<◌, ◌≤◌, ◌+◌, ◌*◌, true, false, length, OnOk, IsErrOf};
+ghost use Rattle.lfs_log.specs.LogState.{AreAllSaved, Halts};
 ghost use Rattle.lfs_log.specs.Saving.{pass_orders};
-ghost use Rattle.lfs_cleaner.specs.Room.{FailsPasses, FailsRoom, HaltsLater, HasQuarter, LacksPasses, LacksRoom, MakesOnce, PassesWhereDue, most_checkpoints, once_orders};
+ghost use Rattle.lfs_cleaner.specs.Passing.{FailsPass, RefusesPass};
+ghost use Rattle.lfs_cleaner.specs.Room.{FailsRoom, HaltsLater, HasQuarter, LacksRoom, MakesOnce, PassesWhereDue, most_checkpoints, once_orders};
 
 use crate::passing::pass;
 use crate::room::{commit_unsaved, has_quarter};
@@ -16,16 +17,15 @@ use lfs_log::{Log, LogFault};
 /// As those of `pass`.
 fn pass_where_due<D: SectorDevice>(log: &mut Log<D>) -> Result<(), LogFault>
     requires running { log.old.halted ≡ false }
-    requires saved { log.old.saved ≡ true }
     requires nothing { AreAllSaved log.old }
     ensures done { OnOk result (PassesWhereDue D.SectorDevice.state log.old log.new) }
     ensures totals { log.new.totals ≡ log.old.totals }
-    ensures full { IsErrOf result LogFault.Full
-        → LacksPasses D.SectorDevice.state log.old log.new 0 }
+    ensures full { IsErrOf result LogFault.Full → (4 * log.old.clean < log.old.segments)
+        × RefusesPass D.SectorDevice.state log.old log.new }
     ensures device { IsErrOf result LogFault.Device
-        → FailsPasses D.SectorDevice.state log.old log.new 0 }
+        → FailsPass D.SectorDevice.state log.old log.new }
     ensures halted { IsErrOf result LogFault.Halted
-        → HaltsLater D.SectorDevice.state log.old log.new 0 }
+        → Halts D.SectorDevice.state log.old log.new }
     ensures told { length (D.state log.new.device).told ≤ length (D.state log.old.device).told
         + pass_orders log.old.segments }
 {

@@ -29,7 +29,6 @@ pub fn has_quarter<D: SectorDevice>(log: &Log<D>) -> bool
 /// what earlier passes did stays.
 fn pass_until_quarter<D: SectorDevice>(log: &mut Log<D>) -> Result<(), LogFault>
     requires running { log.old.halted ≡ false }
-    requires saved { log.old.saved ≡ true }
     requires nothing { AreAllSaved log.old }
     ensures done { OnOk result (Repeats D.SectorDevice.state log.old log.new
         (log.old.segments / 8)) }

@@ -4,7 +4,8 @@ use Rattle.lfs_log.specs.LogState.{LogState}
 use Rattle.lfs_log.specs.Saving.{pass_orders}
 use Rattle.lfs_log.proofs.LogReads.{whole_count}
 use Rattle.lfs_cleaner.specs.Room.{PassesWhereDue}
-use Rattle.lfs_cleaner.proofs.Onces.{keeps_due, once_behind, once_told}
+use Rattle.lfs_cleaner.proofs.Onces.{fails_pass, keeps_due, lacks_pass, once_behind, once_told}
+use Rattle.lfs_cleaner.proofs.Rooms.{halts_at_once}
 use Rattle.lfs_cleaner.proofs.RoomBounds.{fails_after, halts_after, halts_first, lacks_after, lacks_commit, makes_after, makes_none}
 use Rattle.lfs_cleaner.proofs.RoomBounds.{on_success}
 use Rattle.lfs_cleaner.proofs.RoomBounds.{full_else}
@@ -63,18 +64,23 @@ returns-clause-alone g c all =
 
 pub returns-clause-full : goal.returns-clause-full
 returns-clause-full g c is =
-    lacks_after g.D.SectorDevice.state c.args.log.now c.commit_unsaved.new.log c.pass_where_due.new.log c.in-Ok.ensures.done 0 (omega arith)
-    (c.pass_where_due.ensures.full is)
+    let b = c.commit_unsaved.new.log in
+    let refused = c.pass_where_due.ensures.full is in
+    lacks_after g.D.SectorDevice.state c.args.log.now b c.pass_where_due.new.log c.in-Ok.ensures.done 0 (omega arith)
+    (lacks_pass g.D.SectorDevice.state b c.pass_where_due.new.log (g.met.D.SectorDevice.lawful b.device) c.in-Ok.ensures.done.keeps.running
+    c.in-Ok.ensures.done.nothing refused.0 refused.1)
 
 pub returns-clause-device : goal.returns-clause-device
 returns-clause-device g c is =
-    fails_after g.D.SectorDevice.state c.args.log.now c.commit_unsaved.new.log c.pass_where_due.new.log c.in-Ok.ensures.done 0 (omega arith)
-    (c.pass_where_due.ensures.device is)
+    let b = c.commit_unsaved.new.log in
+    fails_after g.D.SectorDevice.state c.args.log.now b c.pass_where_due.new.log c.in-Ok.ensures.done 0 (omega arith)
+    (fails_pass g.D.SectorDevice.state b c.pass_where_due.new.log (g.met.D.SectorDevice.lawful b.device) c.in-Ok.ensures.done.keeps.running
+    (c.pass_where_due.ensures.device is))
 
 pub returns-clause-halted : goal.returns-clause-halted
 returns-clause-halted g c is ne =
     halts_after g.D.SectorDevice.state c.args.log.now c.commit_unsaved.new.log c.pass_where_due.new.log c.in-Ok.ensures.done 0 (omega arith)
-    (c.pass_where_due.ensures.halted is)
+    (halts_at_once g.D.SectorDevice.state c.commit_unsaved.new.log c.pass_where_due.new.log (c.pass_where_due.ensures.halted is))
 
 pub returns-clause-totals : goal.returns-clause-totals
 returns-clause-totals g c = c.pass_where_due.ensures.totals ∙ c.commit_unsaved.ensures.totals

@@ -1,7 +1,5 @@
 use Rattle.std.proofs.Common.{rules, ◌≡◌, true, inl}
 use Rattle.lfs_cleaner.specs.Room.{PassesInNeed}
-use Rattle.lfs_cleaner.proofs.Onces.{fails_pass, lacks_pass}
-use Rattle.lfs_cleaner.proofs.Rooms.{halts_at_once}
 use Rattle.lfs_cleaner.proofs.once.pass_where_due.Goals as goal
 
 pub returns-in-Ok-clause-done : goal.returns-in-Ok-clause-done
@@ -14,17 +12,10 @@ returns-in-Ok-clause-done g c =
     inl need
 
 pub returns-in-Err-clause-full : goal.returns-in-Err-clause-full
-returns-in-Err-clause-full g c is =
-    lacks_pass g.D.SectorDevice.state c.args.log.now c.pass.new.log (g.met.D.SectorDevice.lawful c.args.log.now.device) c.requires.running
-    c.requires.saved c.requires.nothing
-    (c.if-has_quarter.ensures.no (search rules)) (c.in-Err.ensures.full (search rules))
+returns-in-Err-clause-full g c is = (c.if-has_quarter.ensures.no (search rules), c.in-Err.ensures.full (search rules))
 
 pub returns-in-Err-clause-device : goal.returns-in-Err-clause-device
-returns-in-Err-clause-device g c is =
-    fails_pass g.D.SectorDevice.state c.args.log.now c.pass.new.log (g.met.D.SectorDevice.lawful c.args.log.now.device) c.requires.running
-    (c.in-Err.ensures.device (search rules))
+returns-in-Err-clause-device g c is = c.in-Err.ensures.device (search rules)
 
 pub returns-in-Err-clause-halted : goal.returns-in-Err-clause-halted
-returns-in-Err-clause-halted g c is =
-    halts_at_once g.D.SectorDevice.state c.args.log.now c.pass.new.log
-    (c.in-Err.ensures.halted (search rules) (λ (halted : c.args.log.now.halted ≡ true). absurd (cc)))
+returns-in-Err-clause-halted g c is = c.in-Err.ensures.halted (search rules) (λ (halted : c.args.log.now.halted ≡ true). absurd (cc))

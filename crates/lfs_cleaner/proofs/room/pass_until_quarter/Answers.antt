@@ -23,7 +23,7 @@ returns-in-Err-clause-full g c is =
           (keeps_then g.D.SectorDevice.state c.args.log.now c.loop.log c.pass.new.log c.loop.counter done 0 reads) (omega (arith, le));
       never = λ k m0 m keeps may.
           (let next =
-          may_pass g.D.SectorDevice.state c.args.log.now c.loop.log c.loop.counter c.requires.saved c.requires.nothing c.loop.invariant
+          may_pass g.D.SectorDevice.state c.args.log.now c.loop.log c.loop.counter c.requires.nothing c.loop.invariant
           (c.if-has_quarter.ensures.no (search rules)) k m0 m
           (refuses.reads.looks.carries.kept_before keeps) may le in
           refuses.unfit next.0 next.1 m keeps next.2);
@@ -78,7 +78,7 @@ returns-clause-full g c is =
       keeps = keeps_weaker g.D.SectorDevice.state c.args.log.now c.loop.log c.loop.counter _ c.loop.invariant.repeats.keeps
           (omega (arith, all));
       never = λ k m0 m keeps may.
-          passes_suffice g.D.SectorDevice.state c.args.log.now c.loop.log c.loop.counter c.requires.saved c.requires.nothing
+          passes_suffice g.D.SectorDevice.state c.args.log.now c.loop.log c.loop.counter c.requires.nothing
           c.loop.invariant (c.if-has_quarter-2.ensures.no (search rules)) k m0 m keeps may
           (g.met.D.SectorDevice.lawful c.args.log.now.device) all;
     }
