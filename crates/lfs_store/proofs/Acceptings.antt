@@ -1,6 +1,6 @@
 -- What a store's log holds as it commits, makes room and stages its draft.
 use Rattle.std.specs.Prelude.{Result, Ok, Err, OnErr, OnOk}
-use Rattle.std.proofs.Common.{◌≡◌, ◌<◌, ◌≤◌, ◌+◌, ◌-◌, ◌*◌, ◌/◌, ◌^◌, inl, inr, ⊎_elim, cond, Bool, true, false, ℕ, length, refl, sym}
+use Rattle.std.proofs.Common.{◌≡◌, ◌<◌, ◌≤◌, ◌+◌, ◌/◌, inl, inr, ⊎_elim, cond, Bool, true, false, ℕ, refl, sym}
 use Rattle.std.proofs.Common.{◌∙◌, ap, subst, arith}
 use Rattle.lfs_model.specs.Checkpoint.{CheckpointValue}
 use Rattle.lfs_model.specs.declared.limits.TheConstants.{MOST_UNSAVED}
@@ -18,7 +18,7 @@ use Rattle.lfs_cleaner.specs.Room.{MayNotMakeRoom, StaysUnsaved, most_checkpoint
 use Rattle.lfs_cleaner.proofs.RoomBounds.{makes_none, readied_saves}
 use Rattle.lfs_cleaner.proofs.Rooms.{acknowledges_still, fault_then, halts_then, keeps_none, keeps_then, keeps_weaker, rest_saves}
 use Rattle.lfs_store.specs.declared.draft.Draft.{Draft}
-use Rattle.lfs_store.specs.StoreState.{Fits, asked_by}
+use Rattle.lfs_store.specs.StoreState.{asked_by}
 use Rattle.lfs_store.specs.Accepting.{HasClean, HoldsNext, Commits, Readies, SavesFew, Accepts, Declines, IsAcceptFault}
 
 -- a commit is due where anything isn't saved
