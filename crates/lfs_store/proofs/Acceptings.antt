@@ -25,9 +25,13 @@ use Rattle.lfs_store.specs.Accepting.{HasClean, HoldsNext, Commits, Readies, Sav
 pub due_as : {D E : Type 0} (h : LogState D) (h' : LogState E) → h'.saved ≡ h.saved → commits_due h' ≡ commits_due h
 due_as h h' same = ap (λ (all : Bool). cond {A = ℕ} all 0 1) same
 
-due_most : (all : Bool) → cond {A = ℕ} all 0 1 ≤ 1
-due_most true = omega arith
-due_most false = omega arith
+-- at most one is, and one checkpoint comes with each pass
+pub written_most : {D : Type 0} (h : LogState D) → most_checkpoints h ≤ h.segments / 8 + 1
+written_most h = let due = due_most h.saved in omega (arith, due)
+  where
+    due_most : (all : Bool) → cond {A = ℕ} all 0 1 ≤ 1
+    due_most true = omega arith
+    due_most false = omega arith
 
 -- what isn't saved stays so
 stays_then : (D : Type 0) (a b c : LogState D) → StaysUnsaved a b → StaysUnsaved b c → StaysUnsaved a c
@@ -183,7 +187,7 @@ module _ {D : Type 0} (state : D → DeviceState) where
     pub saves_few : SavesFew h h'
     saves_few = record {
       number = room.keeps.later;
-      few = (let number = room.keeps.number in let most : commits_due h ≤ 1 = due_most h.saved in omega (arith, number, most));
+      few = (let number = room.keeps.number in let most = written_most h in omega (arith, number, most));
       ready = λ ready e. (let none = room.unsaved e in none.1.clean (ready none.0));
     }
 
