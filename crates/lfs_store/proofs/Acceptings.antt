@@ -1,6 +1,6 @@
 -- What a store's log holds as it commits, makes room and stages its draft.
 use Rattle.std.specs.Prelude.{Result, Ok, Err, OnErr, OnOk}
-use Rattle.std.proofs.Common.{◌≡◌, ◌<◌, ◌≤◌, ◌+◌, ◌-◌, ◌*◌, ◌/◌, ◌^◌, inl, inr, ⊎_elim, cond, Bool, true, false, ℕ, length, refl, sym}
+use Rattle.std.proofs.Common.{◌≡◌, ◌<◌, ◌≤◌, ◌+◌, ◌/◌, inl, inr, ⊎_elim, cond, Bool, true, false, ℕ, refl, sym}
 use Rattle.std.proofs.Common.{◌∙◌, ap, subst, arith}
 use Rattle.lfs_model.specs.Checkpoint.{CheckpointValue}
 use Rattle.lfs_model.specs.declared.limits.TheConstants.{MOST_UNSAVED}
@@ -18,16 +18,20 @@ use Rattle.lfs_cleaner.specs.Room.{MayNotMakeRoom, StaysUnsaved, most_checkpoint
 use Rattle.lfs_cleaner.proofs.RoomBounds.{makes_none, readied_saves}
 use Rattle.lfs_cleaner.proofs.Rooms.{acknowledges_still, fault_then, halts_then, keeps_none, keeps_then, keeps_weaker, rest_saves}
 use Rattle.lfs_store.specs.declared.draft.Draft.{Draft}
-use Rattle.lfs_store.specs.StoreState.{Fits, asked_by}
+use Rattle.lfs_store.specs.StoreState.{asked_by}
 use Rattle.lfs_store.specs.Accepting.{HasClean, HoldsNext, Commits, Readies, SavesFew, Accepts, Declines, IsAcceptFault}
 
 -- a commit is due where anything isn't saved
 pub due_as : {D E : Type 0} (h : LogState D) (h' : LogState E) → h'.saved ≡ h.saved → commits_due h' ≡ commits_due h
 due_as h h' same = ap (λ (all : Bool). cond {A = ℕ} all 0 1) same
 
-due_most : (all : Bool) → cond {A = ℕ} all 0 1 ≤ 1
-due_most true = omega arith
-due_most false = omega arith
+-- at most one is, and one checkpoint comes with each pass
+pub written_most : {D : Type 0} (h : LogState D) → most_checkpoints h ≤ h.segments / 8 + 1
+written_most h = let due = due_most h.saved in omega (arith, due)
+  where
+    due_most : (all : Bool) → cond {A = ℕ} all 0 1 ≤ 1
+    due_most true = omega arith
+    due_most false = omega arith
 
 -- what isn't saved stays so
 stays_then : (D : Type 0) (a b c : LogState D) → StaysUnsaved a b → StaysUnsaved b c → StaysUnsaved a c
@@ -183,7 +187,7 @@ module _ {D : Type 0} (state : D → DeviceState) where
     pub saves_few : SavesFew h h'
     saves_few = record {
       number = room.keeps.later;
-      few = (let number = room.keeps.number in let most : commits_due h ≤ 1 = due_most h.saved in omega (arith, number, most));
+      few = (let number = room.keeps.number in let most = written_most h in omega (arith, number, most));
       ready = λ ready e. (let none = room.unsaved e in none.1.clean (ready none.0));
     }
 

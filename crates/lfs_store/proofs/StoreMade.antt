@@ -1,11 +1,10 @@
 -- What calls of a store that make files, relink and remove them are to the layers above, and reads of bytes.
-use Rattle.std.proofs.Common.{◌≡◌, ◌+◌, ◌-◌, ◌≤◌, ℕ, Bool, List, Some, None, length, refl, sym, ◌∙◌, ap, subst, arith}
+use Rattle.std.proofs.Common.{◌≡◌, ◌-◌, ℕ, List, Some, length, refl, sym, ◌∙◌, ap, subst}
 use Rattle.lfs_model.specs.Bytes.{part}
 use Rattle.lfs_model.specs.Changing.{IsWithHeader}
 use Rattle.lfs_model.specs.Cutting.{IsWithoutFile}
 use Rattle.lfs_model.specs.Device.{DeviceState}
 use Rattle.lfs_model.specs.Encodes.{IsLogMap}
-use Rattle.lfs_model.specs.Entry as entry
 use Rattle.lfs_model.specs.Inode.{IsForm}
 use Rattle.lfs_model.specs.Stands.{LogMap}
 use Rattle.lfs_model.specs.TreeOf.{object}
@@ -16,8 +15,7 @@ use Rattle.lfs_files.specs.Headers.{as_header, relinked}
 use Rattle.lfs_files.specs.Making as files_made
 use Rattle.lfs_cleaner.specs.log.memory.declared.batch.Loss.{Loss}
 use Rattle.lfs_cleaner.specs.log.memory.Batch.{IsNoChange, is_lost, staged}
-use Rattle.lfs_cleaner.specs.log.memory.Removing.{without_file}
-use Rattle.lfs_cleaner.specs.log.LogState.{LogState, Holds, Reads}
+use Rattle.lfs_cleaner.specs.log.LogState.{LogState, Reads}
 use Rattle.lfs_cleaner.specs.log.verify.declared.totals.BlockTotals.{BlockTotals}
 use Rattle.lfs_cleaner.proofs.of_log.of_memory.Removed.{is_without}
 use Rattle.lfs_store.specs.declared.draft.Draft.{Draft}

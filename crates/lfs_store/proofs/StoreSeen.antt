@@ -44,8 +44,22 @@ module _ {D : Type 0} (state : D → DeviceState) (h h' : LogState D) (d d' : Dr
 
   same_staged : held.Reads state h h' → S'.staged ≡ S.staged
   same_staged reads =
-      rw (reads.halted, reads.number, reads.version, reads.upgraded, reads.saved, reads.unsaved, reads.totals, reads.segments, reads.clean,
-      reads.emptied, reads.waiting, reads.file_data, reads.usage, reads.inner) refl
+      rw (
+        reads.halted,
+        reads.number,
+        reads.version,
+        reads.upgraded,
+        reads.saved,
+        reads.unsaved,
+        reads.totals,
+        reads.segments,
+        reads.clean,
+        reads.emptied,
+        reads.waiting,
+        reads.file_data,
+        reads.usage,
+        reads.inner,
+      ) refl
 
   -- ---- reading
   pub seen_read : held.Reads state h h' → d' ≡ d → u' ≡ u → files.Reads S S'

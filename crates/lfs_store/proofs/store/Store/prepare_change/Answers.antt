@@ -1,5 +1,5 @@
 use Rattle.std.specs.Prelude.{Result}
-use Rattle.std.proofs.Common.{rules, ◌≤◌, ◌+◌, ◌/◌, length, ap, sym, subst, arith}
+use Rattle.std.proofs.Common.{rules, ◌≤◌, ◌+◌, ◌/◌, sym, subst, arith}
 use Rattle.lfs_cleaner.specs.log.LogState.{LogState}
 use Rattle.lfs_cleaner.proofs.of_log.of_memory.Going.{ok_then}
 use Rattle.lfs_model.specs.declared.limits.TheConstants.{MOST_UNSAVED}
