@@ -29,7 +29,7 @@ answer_by f (Err e) = Refuse (refusal_of e)
 -- A volume whose log was only read, for a call's draft, which is as it was.
 pub record OnlyReads {D : Type 0} (state : D → DeviceState) (old new : Fs D) : Type 0 where
   pub still : IsStill state (seen old) (seen new)
-  pub draft : new.store.draft ≡ old.store.draft
+  pub draft : draft_of new.store ≡ draft_of old.store
   pub drafted : drafted_of new.store ≡ drafted_of old.store
 
 -- A call may draft: the volume isn't halted, and nothing is drafted.

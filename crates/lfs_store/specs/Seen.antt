@@ -9,7 +9,7 @@ use Rattle.lfs_cleaner.specs.log.memory.declared.changes.Changes.{Changes}
 use Rattle.lfs_cleaner.specs.log.LogState.{LogState, Holds}
 use Rattle.lfs_store.specs.declared.draft.Draft.{Draft}
 use Rattle.lfs_store.specs.declared.store.Store.{Store}
-use Rattle.lfs_store.specs.StoreState.{draft_of, drafted, volume}
+use Rattle.lfs_store.specs.StoreState.{draft_of, drafted_of, volume_of}
 use Rattle.lfs_cleaner.specs.log.verify.declared.totals.BlockTotals.{BlockTotals}
 
 -- totals as two numbers
@@ -67,4 +67,4 @@ module _ {D : Type 0} (state : D → DeviceState) where
   }
 
   abbrev pub files_of : Store D → FilesState StagedLog Draft
-  files_of s = state_of (volume s) (draft_of s) (drafted s)
+  files_of s = state_of (volume_of s) (draft_of s) (drafted_of s)

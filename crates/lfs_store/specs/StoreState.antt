@@ -7,14 +7,14 @@ use Rattle.lfs_cleaner.specs.log.LogState.{LogState}
 use Rattle.lfs_store.specs.declared.draft.Draft.{Draft}
 use Rattle.lfs_store.specs.declared.store.Store.{Store}
 
-abbrev pub volume : {D : Type 0} → Store D → LogState D
-volume s = s.log
+abbrev pub volume_of : {D : Type 0} → Store D → LogState D
+volume_of s = s.log
 
 abbrev pub draft_of : {D : Type 0} → Store D → Draft
 draft_of s = s.draft
 
-abbrev pub drafted : {D : Type 0} → Store D → BlockTotals
-drafted s = s.drafted
+abbrev pub drafted_of : {D : Type 0} → Store D → BlockTotals
+drafted_of s = s.drafted
 
 -- ---- a draft
 

@@ -1,7 +1,7 @@
 //! What is seen of a store's volume: numbers, its device, and the totals of its files.
 ghost use Rattle.std.specs.Prelude.{◌≡◌, false};
 ghost use Rattle.lfs_model.specs.Checkpoint.{IsSegmentCount, IsVersion};
-ghost use Rattle.lfs_store.specs.StoreState.{drafted, volume};
+ghost use Rattle.lfs_store.specs.StoreState.{drafted_of, volume_of};
 
 use crate::store::Store;
 use lfs_cleaner::volume_log::BlockTotals;
@@ -11,14 +11,14 @@ use lfs_device::{SectorDevice, TendedDevice};
 impl<D: SectorDevice> Store<D> {
     /// Whether a write of the volume failed.
     pub fn is_halted(&self) -> bool
-        ensures { result ≡ (volume self.now).halted }
+        ensures { result ≡ (volume_of self.now).halted }
     {
         self.log.is_halted()
     }
 
     /// The acknowledged checkpoint's number.
     pub fn number(&self) -> u64
-        ensures { result ≡ (volume self.now).number }
+        ensures { result ≡ (volume_of self.now).number }
     {
         self.log.number()
     }
@@ -26,42 +26,42 @@ impl<D: SectorDevice> Store<D> {
     /// The version of the volume's layout.
     pub fn version(&self) -> u32
         ensures known { IsVersion result }
-        ensures value { result ≡ (volume self.now).version }
+        ensures value { result ≡ (volume_of self.now).version }
     {
         self.log.version()
     }
 
     /// How many segments the volume has.
     pub fn segments(&self) -> u32
-        ensures { result ≡ (volume self.now).segments }
+        ensures { result ≡ (volume_of self.now).segments }
     {
         self.log.segments()
     }
 
     /// A volume that isn't halted has as many segments as a volume may have: a law.
     pub fn has_segment_count(&self)
-        ensures { (volume self.now).halted ≡ false → IsSegmentCount (volume self.now).segments }
+        ensures { (volume_of self.now).halted ≡ false → IsSegmentCount (volume_of self.now).segments }
     {
         self.log.are_tables_whole();
     }
 
     /// The device as it is, to look at.
     pub fn device(&self) -> &D
-        ensures { result.now ≡ (volume self.now).device }
+        ensures { result.now ≡ (volume_of self.now).device }
     {
         self.log.device()
     }
 
     /// How many blocks live in each segment, and hold it.
     pub fn usage(&self) -> &Usage
-        ensures { result.now ≡ (volume self.now).usage }
+        ensures { result.now ≡ (volume_of self.now).usage }
     {
         self.log.usage()
     }
 
     /// The blocks of all files, with the draft.
     pub fn drafted(&self) -> BlockTotals
-        ensures { result ≡ drafted self.now }
+        ensures { result ≡ drafted_of self.now }
     {
         self.drafted
     }
@@ -73,10 +73,10 @@ impl<D: TendedDevice> Store<D> {
 
     /// Tends to the device, of which the volume sees nothing.
     pub fn tend(&mut self)
-        ensures tended { D.tends (volume self.old).device (volume self.new).device }
-        ensures reads { Reads D.SectorDevice.state (volume self.old) (volume self.new) }
+        ensures tended { D.tends (volume_of self.old).device (volume_of self.new).device }
+        ensures reads { Reads D.SectorDevice.state (volume_of self.old) (volume_of self.new) }
         ensures draft { draft_of self.new ≡ draft_of self.old }
-        ensures drafted { drafted self.new ≡ drafted self.old }
+        ensures drafted { drafted_of self.new ≡ drafted_of self.old }
     {
         self.log.tend();
     }

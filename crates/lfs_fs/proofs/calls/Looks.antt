@@ -16,11 +16,12 @@ use Rattle.lfs_fs.specs.Seen.{HasHeader, LacksHeader}
 
 module _ {D : Type 0} (state : D → DeviceState) (old new : Fs D) (n : ℕ) where
   pub has_header : (found : Option Header) (h : Header) → found ≡ Some h
-      → ReadsHeader state (seen old).log (seen new).log (draft_of old.store) n found → HasHeader state old new n h
+      → EachDrafted state (seen old).log (seen new).log (draft_of old.store) (λ m. HeaderAnswer m n found) → HasHeader state old new n h
   has_header found h is answer k m0 m keeps holds =
       subst (λ (o : Option Header). HeaderAnswer (with_draft (draft_of old.store) m) n o) is (answer k m0 m keeps holds)
 
-  pub has_none : (found : Option Header) → found ≡ None → ReadsHeader state (seen old).log (seen new).log (draft_of old.store) n found
+  pub has_none : (found : Option Header) → found ≡ None
+      → EachDrafted state (seen old).log (seen new).log (draft_of old.store) (λ m. HeaderAnswer m n found)
       → LacksHeader state old new n error.Device
   has_none found is answer = inr (
     refl,

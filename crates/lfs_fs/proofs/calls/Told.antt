@@ -27,13 +27,7 @@ use Rattle.lfs_fs.proofs.calls.Files.{rose_where, still_ready, with_store}
 
 -- a volume with these open files
 abbrev pub with_open : {D : Type 0} → Fs D → Handles → Mounted D
-with_open f table = record {
-  log = (seen f).log;
-  saved = (seen f).log.saved;
-  blocks = (seen f).log.totals.data_blocks;
-  others = (seen f).log.totals.meta_blocks;
-  table = table;
-}
+with_open f table = record { log = (seen f).log; table = table }
 
 module _ {D : Type 0} (state : D → DeviceState) (lawful : (d : D) → IsLawful (state d)) (v : Mounted D) (f : Fs D)
     (begun : IsBegun state v f) (store : Store D) where

@@ -56,7 +56,7 @@ module _ {D : Type 0} (state : D → DeviceState) (lawful : (d : D) → IsLawful
       (counted_now state lawful v f begun k m0 m st is) in
       let needs : need (linked N st a b n d) ≡ need_of after
       = ap need (sym (linked_tree g made.links made.names))
-      ∙ (need_shaped totals_of_tree made.map shape store.drafted.data_blocks store.drafted.meta_blocks counted).0 in
+      ∙ (need_shaped totals_of_tree made.map shape (drafted_of store).data_blocks (drafted_of store).meta_blocks counted).0 in
       let done = λ (room : need_of after ≤ 47 * N).
       link_done N b g.names d at.walk g.enters.taken (few_links g) (omega (arith, needs, room)) in
       record {

@@ -83,7 +83,7 @@ module _ {D : Type 0} (state : D → DeviceState) (lawful : (d : D) → IsLawful
       (counted_now state lawful v g begun k m0 m st is) in
       let needs : need (with_new st.tree d path (new_node of.kind)) ≡ need_of after
       = ap need (sym (new_tree new made.object made.links made.names))
-      ∙ (need_shaped totals_of_tree made.map shape store.drafted.data_blocks store.drafted.meta_blocks counted).0 in
+      ∙ (need_shaped totals_of_tree made.map shape (drafted_of store).data_blocks (drafted_of store).meta_blocks counted).0 in
       let done = λ (room : need_of after ≤ 47 * segments_of v).
       new_done of st new.same at.walk new.enters.taken own (top_least new) (omega (arith, needs, room)) in
       record {

@@ -61,7 +61,7 @@ module _ {D : Type 0} (state : D → DeviceState) (lawful : (d : D) → IsLawful
         let counted = counts m m dropped.map keeps here dropped.has (has_old go).both (go.shaped.long d) map.map
         (counted_now state lawful v f begun k m0 m st is) in
         let room = room_shaped totals_of_tree (segments_of v) dropped.map (gone st path d) map
-        (gone_shape go s' is_open opens_in shut_in dropped) store.drafted.data_blocks store.drafted.meta_blocks counted in
+        (gone_shape go s' is_open opens_in shut_in dropped) (drafted_of store).data_blocks (drafted_of store).meta_blocks counted in
         record {
           next = gone st path d;
           answer = Done;

@@ -31,16 +31,15 @@ module _ {D : Type 0} (state : D → DeviceState) (old new : Mounted D) (lawful 
       looks.carries looks.time (λ c left. here c (looks.untouched.crash c left))
     where
       here : AllLeft (state old.log.device) (StandsForOn k.segments m0 (dropped m))
-      here c left = inl (settled_stands (state old.log.device) k m0 is.holds.log.running.settled c left)
+      here c left = inl (acknowledged state old.log k m0 m is.holds c left)
 
   -- ---- the table alone
-  module _ (call : Call) (a : Answer) (reads : Reads state old.log new.log) (saved : new.saved ≡ old.saved)
-      (blocks : new.blocks ≡ old.blocks) (others : new.others ≡ old.others) where
+  module _ (call : Call) (a : Answer) (reads : Reads state old.log new.log) where
     abbrev mid : Mounted D
     mid = record new { table = old.table }
 
     still_mid : IsStill state old mid
-    still_mid = record { reads = reads; saved = saved; blocks = blocks; others = others; table = refl }
+    still_mid = record { reads = reads; table = refl }
 
     segments_same : segments_of new ≡ segments_of old
     segments_same = reads.segments
@@ -67,7 +66,7 @@ module _ {D : Type 0} (state : D → DeviceState) (old new : Mounted D) (lawful 
             saved = m0;
             present = m;
             is = record {
-              stores = now.holds;
+              holds = now.holds;
               map = now.map;
               log = (subst (λ (l : ℕ). IsMapOf l m turns.next) (sym segments_same) turns.map).log;
               handles = turns.handles;

@@ -34,7 +34,7 @@ use Rattle.lfs_fs.proofs.calls.Reads.{space_serves, told_serves}
 module _ {D : Type 0} (state : D → DeviceState) where
   -- a volume is still where nothing is read
   pub still_none : (v : Mounted D) → IsStill state v v
-  still_none v = record { reads = reads_none state v.log; saved = refl; blocks = refl; others = refl; table = refl }
+  still_none v = record { reads = reads_none state v.log; table = refl }
 
   -- a call of a halted volume doesn't begin
   pub halted_serves : (old new : Fs D) (call : Call) (fault : FsError) → IsLawful (state (seen old).log.device) → new ≡ old
@@ -122,5 +122,5 @@ module _ {D : Type 0} (state : D → DeviceState) (old new : Fs D) (call : Call)
 
   -- a header of the draft is that of the log map
   pub header_there : (n : ℕ) (head : Header) → HasHeader state old new n head → InEnd (λ m s. m.header n ≡ Some (as_header head))
-  header_there n head there k m0 m s keeps is = ap (λ (x : LogMap). x.header n) (sym (no_change (draft_of old.store) m empty))
+  header_there n head there k m0 m s keeps is = ap (λ (x : LogMap). x.header n) (sym (empty_draft (draft_of old.store) m empty).0)
       ∙ there k m0 m keeps is.holds

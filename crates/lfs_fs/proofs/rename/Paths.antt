@@ -64,7 +64,7 @@ module _ {D : Type 0} (state : D → DeviceState) (lawful : (d : D) → IsLawful
   reaches_both bytes chain to last tells = record {
     first = record {
       still = still_after state lawful v f begun store only.still;
-      empty = subst (λ (x : Draft). IsNoChange x.changes) (sym only.draft) reached.empty;
+      empty = subst (λ (x : Draft). IsEmpty x) (sym only.draft) reached.empty;
       drafted = only.drafted ∙ reached.drafted ∙ sym only.still.reads.totals;
       bytes = reached.bytes;
       last = reached.last;

@@ -8,7 +8,7 @@ use Rattle.lfs_fs.proofs.fs.Fs.close_last.Goals as goal
 
 pub forget-requires : goal.forget-requires
 forget-requires g c =
-    record { empty = subst (λ (d : Draft). IsNoChange d.changes) (sym c.header.ensures.reads.draft) c.requires.ready.empty }
+    record { empty = subst (λ (d : Draft). IsEmpty d) (sym c.header.ensures.reads.draft) c.requires.ready.empty }
 
 pub returns-in_err-header : goal.returns-in_err-header
 returns-in_err-header g c opens shut =

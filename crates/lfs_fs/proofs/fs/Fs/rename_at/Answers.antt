@@ -80,6 +80,5 @@ finish-requires-clause-room g c =
     let ready = ready_after state c.args.self.now _ c.requires.ready
     (path_read state c.args.self.now before c.in_ok-found.ensures.only.reads) in
     ok_then c.draft_move-drafted.result _ _
-    (λ grows. grown_fits before.draft.changes c.draft_move-drafted.new.files.draft.changes 6 4 (omega arith) ready.empty
-    (adds_grow state before c.draft_move-drafted.new.files 6 4 grows))
+    (adds_fit state before c.draft_move-drafted.new.files 6 4 (omega arith) ready.empty)
     c.draft_move-drafted.ensures.small
