@@ -46,7 +46,8 @@ module _ {D : Type 0} (state : D → DeviceState) (d : D) (lawful : IsLawful (st
     (finds : FindsState state d v)
     (durable : (state (seen v).log.device).keeps_model → Only (state d).content (state (seen v).log.device))
     (untouched : IsUntouched (state d) (state (seen v).log.device))
-    (carries : Carries (state d) (state (seen v).log.device)) (moment : LeavesOnly (state d) (state (seen v).log.device) (state d).may_leave)
+    (carries : Carries (state d) (state (seen v).log.device))
+    (moment : LeavesOnly (state d) (state (seen v).log.device) (state d).may_leave)
     (no_failure : (state (seen v).log.device).failures ≡ (state d).failures)
     (runs : RunsLines state (seen v) new lines answers) (keeps : (state new.log.device).keeps_model)
     (rans : (p : Point) → IsAt state (seen v) p → RanAt state (seen v) new lines answers p) where
@@ -124,7 +125,8 @@ module _ {D : Type 0} (state : D → DeviceState) (d : D) (lawful : IsLawful (st
     (finds : FindsState state d v)
     (durable : (state (seen v).log.device).keeps_model → Only (state d).content (state (seen v).log.device))
     (untouched : IsUntouched (state d) (state (seen v).log.device))
-    (carries : Carries (state d) (state (seen v).log.device)) (moment : LeavesOnly (state d) (state (seen v).log.device) (state d).may_leave)
+    (carries : Carries (state d) (state (seen v).log.device))
+    (moment : LeavesOnly (state d) (state (seen v).log.device) (state d).may_leave)
     (no_failure : (state (seen v).log.device).failures ≡ (state d).failures) where
   pub uses_volume : RunsLines state (seen v) new lines answers → (state new.log.device).keeps_model
       → UsesVolume (state d) (state new.log.device) lines answers

@@ -9,14 +9,13 @@ use Rattle.lfs_model.specs.Checkpoint.{CheckpointValue}
 use Rattle.lfs_model.specs.Stands.{LogMap}
 use Rattle.lfs_model.specs.Tree.{Handles}
 use Rattle.lfs_files.specs.declared.header.Header.{Header}
-use Rattle.lfs_store.specs.memory.Batch.{staged}
 use Rattle.lfs_store.specs.memory.Present.{as_header}
+use Rattle.lfs_store.specs.StoreState.{IsEmpty, draft_of, drafted_of, volume_of, with_draft}
 use Rattle.lfs_fs.specs.declared.error.FsError.{FsError}
 use Rattle.lfs_fs.specs.declared.error.FsError.TheVariants as error
 use Rattle.lfs_fs.specs.declared.fs.Fs.{Fs}
 use Rattle.lfs_fs.specs.Refusals.{refusal_of}
 use Rattle.lfs_fs.specs.Volume.{IsStill, Mounted}
-use Rattle.lfs_store.specs.memory.Batch.{IsNoChange}
 
 abbrev pub seen : {D : Type 0} → Fs D → Mounted D
 seen f = record { log = volume_of f.store; table = f.handles }

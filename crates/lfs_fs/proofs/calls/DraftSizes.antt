@@ -4,18 +4,13 @@ use Rattle.lfs_model.specs.Device.{DeviceState}
 use Rattle.lfs_files.specs.declared.fault.LogFault.TheVariants as log
 use Rattle.lfs_files.specs.declared.fault.StoreFault.{StoreFault}
 use Rattle.lfs_files.specs.declared.fault.StoreFault.TheVariants as store
-use Rattle.lfs_files.specs.declared.header.Header.{Header}
 use Rattle.lfs_store.specs.declared.store.Store.{Store}
-use Rattle.lfs_store.specs.log.LogState.{LogState}
-use Rattle.lfs_store.specs.memory.declared.changes.Changes.{Changes}
-use Rattle.lfs_store.specs.memory.Batch.{room_for}
-use Rattle.lfs_store.specs.Growing.{GrowsBy}
-use Rattle.lfs_store.specs.Writing.{SetsLen}
-use Rattle.lfs_store.proofs.Growths.{room_few}
+use Rattle.lfs_store.specs.StoreState.{IsEmpty, asked_by, draft_of}
+use Rattle.lfs_store.specs.Seen.{files_of}
+use Rattle.lfs_store.proofs.Known.{grown_asks}
 use Rattle.lfs_path.specs.dirs.Growing.{GrowsDirectory}
 use Rattle.lfs_fs.specs.declared.error.FsError.{FsError}
 use Rattle.lfs_fs.specs.declared.error.FsError.TheVariants as error
-use Rattle.lfs_fs.specs.Drafted.{files_of}
 use Rattle.lfs_fs.specs.Faults.{error_of_store}
 
 -- ---- names in directories: a draft that was begun empty has room

@@ -11,10 +11,12 @@ use Rattle.lfs_model.specs.Stands.{LogMap}
 use Rattle.lfs_model.specs.Tree.{State, drop_nameless}
 use Rattle.lfs_model.specs.TreeOf.{LeavesOne, dropped}
 use Rattle.lfs_model.specs.Volume.{IsLogOf}
-use Rattle.lfs_store.specs.memory.declared.changes.Changes.{Changes}
-use Rattle.lfs_store.specs.memory.Batch.{staged, FitsBatch}
-use Rattle.lfs_store.specs.Accepting.{Accepts, Commits, Declines, Stores, StoresOver}
-use Rattle.lfs_model.specs.Totals.{IsCounted}
+use Rattle.lfs_store.specs.Accepting.{Accepts, Commits, Declines, HoldsNext}
+use Rattle.lfs_store.specs.StoreState.{Fits, with_draft}
+use Rattle.lfs_store.specs.log.LogState.{Holds}
+use Rattle.lfs_store.specs.Recounting.{AreTotals}
+use Rattle.lfs_store.specs.log.verify.declared.totals.BlockTotals.{BlockTotals}
+use Rattle.lfs_store.specs.declared.draft.Draft.{Draft}
 use Rattle.lfs_fs.specs.Volume.{Behaves, IsAt, IsIn, Mounted, Runs, Serves, segments_of}
 use Rattle.lfs_fs.proofs.volume.Nodes.{IsMapOf}
 use Rattle.lfs_fs.proofs.volume.Map.{map_of_volume, runs_over}

@@ -16,11 +16,13 @@ use Rattle.lfs_model.specs.Crash.{StandsForOn}
 use Rattle.lfs_fs.proofs.volume.Stops.{leaves_states}
 use Rattle.lfs_model.specs.Volume.{IsLogOf}
 use Rattle.lfs_model.proofs.Moments.{carries_none, started, goes_on}
-use Rattle.lfs_store.specs.memory.declared.memory.LogMemory.{LogMemory}
 use Rattle.lfs_store.specs.memory.Present.{Looks}
-use Rattle.lfs_store.specs.segments.Table.{clean_in}
-use Rattle.lfs_store.specs.Accepting.{Stores}
-use Rattle.lfs_store.proofs.LogReads.{stores_still}
+use Rattle.lfs_store.specs.log.LogState.{LogState, Reads}
+use Rattle.lfs_store.specs.log.Thresholds.{HasReserve}
+use Rattle.lfs_store.specs.Accepting.{HasClean}
+use Rattle.lfs_store.specs.Recounting.{AreTotals}
+use Rattle.lfs_store.specs.log.verify.declared.totals.BlockTotals.{BlockTotals}
+use Rattle.lfs_store.proofs.of_log.LogReads.{held_still, settled}
 use Rattle.lfs_fs.specs.Volume.{Behaves, IsStill, Mounted, segments_of, IsIn, Runs, IsAt, LeavesSome, ServesAt, Serves}
 use Rattle.lfs_fs.proofs.calls.AnyDevice.{IsOrdinary, halted_behaves, not_halted, still_behaves}
 

@@ -17,10 +17,10 @@ use Rattle.lfs_files.specs.declared.fault.LogFault.TheVariants as log
 use Rattle.lfs_files.specs.Files as files
 use Rattle.lfs_files.specs.Files.{AreCounted}
 use Rattle.lfs_store.specs.declared.store.Store.{Store}
-use Rattle.lfs_store.specs.memory.Batch.{is_lost, room_for}
-use Rattle.lfs_store.specs.memory.declared.batch.Loss.{Loss}
-use Rattle.lfs_store.proofs.Apart.{draft_empty}
-use Rattle.lfs_store.proofs.Growths.{grown_fits}
+use Rattle.lfs_store.specs.StoreState.{asked_by, draft_of, drafted_of, volume_of}
+use Rattle.lfs_store.specs.Seen.{files_of}
+use Rattle.lfs_store.specs.log.verify.declared.totals.BlockTotals.{BlockTotals}
+use Rattle.lfs_store.proofs.Known.{empty_apart, empty_draft}
 use Rattle.lfs_path.specs.declared.last.Last.{Last}
 use Rattle.lfs_path.specs.dirs.Growing.{GrowsDirectory}
 use Rattle.lfs_path.proofs.LastPieces.{last_says}
@@ -30,7 +30,6 @@ use Rattle.lfs_entries.specs.Telling as telling
 use Rattle.lfs_fs.specs.declared.error.FsError.{FsError}
 use Rattle.lfs_fs.specs.declared.fs.Fs.{Fs}
 use Rattle.lfs_fs.specs.Accepting.{StagesDraft, TurnsDown, need_of}
-use Rattle.lfs_fs.specs.Drafted.{files_of}
 use Rattle.lfs_fs.specs.Faults.{error_of_entry}
 use Rattle.lfs_fs.specs.Finishing.{EndsDraft, GivesUp}
 use Rattle.lfs_fs.specs.Naming.{Reaches}
@@ -128,7 +127,8 @@ module _ {D : Type 0} (state : D → DeviceState) (lawful : (d : D) → IsLawful
   module _ (store : Store D) where
     -- What holds of each state that the volume may be in, where its device keeps the model up to the end.
     abbrev pub InEach : (LogMap → State → Type 0) → Type 0
-    InEach P = (k : CheckpointValue) (m0 m : LogMap) (s : State) → (state (volume_of store).device).keeps_model → IsIn state v k m0 m s → P m s
+    InEach P = (k : CheckpointValue) (m0 m : LogMap) (s : State) → (state (volume_of store).device).keeps_model → IsIn state v k m0 m s
+        → P m s
 
     -- what is told of files holds in a state
     pub told : (P : LogMap → Type 0) → telling.InEach (files_of state f.store) (files_of state store) P → InEach (λ m s. P m)

@@ -4,15 +4,15 @@ use Rattle.lfs_model.specs.Device.{DeviceState}
 use Rattle.lfs_files.specs.declared.fault.LogFault.{LogFault}
 use Rattle.lfs_files.specs.declared.fault.LogFault.TheVariants as log
 use Rattle.lfs_files.specs.declared.header.Header.{Header}
-use Rattle.lfs_store.specs.memory.Batch.{staged}
 use Rattle.lfs_store.specs.memory.Present.{HeaderAnswer}
 use Rattle.lfs_store.specs.log.LogState.{IsReadFault}
-use Rattle.lfs_store.specs.Reading.{ReadsHeader}
+use Rattle.lfs_store.specs.StoreState.{draft_of, with_draft}
 use Rattle.lfs_fs.specs.declared.error.FsError.{FsError}
 use Rattle.lfs_fs.specs.declared.error.FsError.TheVariants as error
 use Rattle.lfs_fs.specs.declared.fs.Fs.{Fs}
 use Rattle.lfs_fs.specs.Faults.{error_of_log}
-use Rattle.lfs_fs.specs.Seen.{HasHeader, LacksHeader}
+use Rattle.lfs_fs.specs.Seen.{HasHeader, LacksHeader, seen}
+use Rattle.lfs_fs.specs.Drafted.{EachDrafted}
 
 module _ {D : Type 0} (state : D → DeviceState) (old new : Fs D) (n : ℕ) where
   pub has_header : (found : Option Header) (h : Header) → found ≡ Some h

@@ -2,19 +2,19 @@
 use Rattle.std.proofs.Common.{◌≡◌, ◌<◌, ℕ, List, refl, sym, ap, subst}
 use Rattle.lfs_model.specs.Device.{DeviceState}
 use Rattle.lfs_model.specs.Refusal as model
-use Rattle.lfs_model.specs.Refusal.{Refusal}
 use Rattle.lfs_model.specs.Stands.{LogMap}
 use Rattle.lfs_model.specs.Tree.{Tree}
 use Rattle.lfs_model.specs.TreeOf.{tree_in}
 use Rattle.lfs_model.specs.Walk.{At, End, Refused}
 use Rattle.lfs_files.specs.Files as files
-use Rattle.lfs_files.specs.Files.{Counted, WritesFile}
+use Rattle.lfs_files.specs.Files.{Counted}
 use Rattle.lfs_store.specs.declared.store.Store.{Store}
 use Rattle.lfs_store.specs.log.verify.declared.totals.BlockTotals.{BlockTotals}
 use Rattle.lfs_store.specs.log.LogState.{LogState, Reads}
-use Rattle.lfs_store.specs.memory.Batch.{staged}
-use Rattle.lfs_store.specs.Seen.{StagedLog}
-use Rattle.lfs_store.proofs.LogReads.{reads_none}
+use Rattle.lfs_store.specs.StoreState.{draft_of, drafted_of, volume_of, with_draft}
+use Rattle.lfs_store.specs.Seen.{files_of}
+use Rattle.lfs_store.proofs.of_log.LogReads.{reads_none}
+use Rattle.lfs_store.proofs.Known.{reads_staged}
 use Rattle.lfs_path.specs.declared.walk_fault.WalkFault.{WalkFault}
 use Rattle.lfs_path.specs.declared.walk_fault.WalkFault.TheVariants as walk
 use Rattle.lfs_path.specs.Reaching.{EndsParent, IsParent}
@@ -23,7 +23,7 @@ use Rattle.lfs_path.specs.Trees.{HasTree, here}
 use Rattle.lfs_fs.specs.declared.fs.Fs.{Fs}
 use Rattle.lfs_fs.specs.Seen.{seen}
 use Rattle.lfs_fs.specs.Volume.{IsStill}
-use Rattle.lfs_fs.specs.Drafted.{EachDrafted, EndsRefused, WalksTo, files_of}
+use Rattle.lfs_fs.specs.Drafted.{EachDrafted, EndsRefused, WalksTo}
 
 -- two numbers as totals
 abbrev totals_of : Counted → BlockTotals

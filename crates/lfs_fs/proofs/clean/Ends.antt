@@ -11,10 +11,12 @@ use Rattle.lfs_files.specs.declared.fault.LogFault.TheVariants as log
 use Rattle.lfs_store.specs.cleaner.Room.{HaltsLater, IsRoomFault, once_orders, room_orders}
 use Rattle.lfs_store.specs.log.LogState.{LogState}
 use Rattle.lfs_store.specs.declared.store.Store.{Store}
-use Rattle.lfs_store.specs.log.verify.declared.totals.BlockTotals.{BlockTotals}
-use Rattle.lfs_store.specs.Accepting.{CannotMakeRoom, HasClean, MakesRoom, most_written}
-use Rattle.lfs_store.proofs.Acceptings.{room_stores, written_most}
+use Rattle.lfs_store.specs.Accepting.{HasClean}
 use Rattle.lfs_store.proofs.of_cleaner.Onces.{once_within}
+use Rattle.lfs_store.specs.StoreState.{volume_of}
+use Rattle.lfs_store.specs.cleaner.Room.{FailsRoom, LacksRoom, MakesRoom, MayNotMakeRoom, most_checkpoints}
+use Rattle.lfs_store.proofs.Known.{few_checkpoints}
+use Rattle.lfs_store.proofs.Acceptings.{room_holds}
 use Rattle.lfs_fs.specs.declared.error.FsError.{FsError}
 use Rattle.lfs_fs.specs.declared.error.FsError.TheVariants as error
 use Rattle.lfs_fs.specs.declared.fs.Fs.{Fs}

@@ -5,10 +5,10 @@ use Rattle.lfs_model.specs.Device.{DeviceState, IsLawful}
 use Rattle.lfs_model.specs.Stands.{LogMap}
 use Rattle.lfs_model.specs.Tree.{State}
 use Rattle.lfs_model.proofs.Committed.{dropped_log}
-use Rattle.lfs_store.specs.Accepting.{CanMakeRoom}
-use Rattle.lfs_store.proofs.Acceptings.{written_most}
 use Rattle.lfs_store.proofs.TreeTotals.{totals_of_tree}
-use Rattle.lfs_store.proofs.of_cleaner.RoomBounds.{segment_count}
+use Rattle.lfs_store.specs.cleaner.Room.{MayMakeRoom}
+use Rattle.lfs_store.proofs.of_log.LogReads.{segment_count}
+use Rattle.lfs_store.proofs.Known.{few_checkpoints}
 use Rattle.lfs_fs.specs.Volume.{IsIn, Mounted, segments_of}
 use Rattle.lfs_fs.proofs.volume.Nodes.{need_counted}
 use Rattle.lfs_fs.proofs.volume.Map.{headers_of_volume, map_of_volume}

@@ -11,8 +11,8 @@ use Rattle.lfs_store.specs.log.verify.declared.fault.MountFault.TheVariants.{NoM
 use Rattle.lfs_store.specs.log.verify.declared.tables.Tables.{Tables}
 use Rattle.lfs_store.specs.log.verify.Loading.{HasTables}
 use Rattle.lfs_store.specs.log.verify.Take.{Looks}
-use Rattle.lfs_store.specs.Accepting.{MountsStore, Stores}
 use Rattle.lfs_store.specs.Recounting.{AreTotals, MountsTotals}
+use Rattle.lfs_store.specs.log.LogState.{Holds, Mounts}
 use Rattle.lfs_tree.specs.Checking.{HasTree}
 use Rattle.lfs_fs.specs.declared.fs.Fs.{Fs}
 use Rattle.lfs_fs.specs.Mounting.{FindsState, IsMountFault, IsRefused, MountsFs}

@@ -9,8 +9,8 @@ use Rattle.lfs_model.specs.TreeOf.{IsTree, Stands}
 use Rattle.lfs_model.specs.Volume.{IsLogOf}
 use Rattle.lfs_model.proofs.Committed.{mounted_log}
 use Rattle.lfs_model.proofs.Decodes.{are_sized, decoding}
-use Rattle.lfs_store.specs.Accepting.{MountsStore, Stores}
-use Rattle.lfs_model.specs.Totals.{IsCounted}
+use Rattle.lfs_store.specs.log.LogState.{Holds, Mounts}
+use Rattle.lfs_store.specs.Recounting.{AreTotals}
 use Rattle.lfs_fs.specs.Volume.{IsAt, IsIn, Mounted, segments_of}
 use Rattle.lfs_fs.proofs.calls.Exits.{point_of}
 

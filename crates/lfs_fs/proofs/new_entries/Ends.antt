@@ -6,11 +6,11 @@ use Rattle.lfs_model.specs.Device.{DeviceState, IsLawful}
 use Rattle.lfs_model.specs.PathText.{text_refusal}
 use Rattle.lfs_model.specs.Refusal.{Refusal}
 use Rattle.lfs_model.specs.Walk.{At}
-use Rattle.lfs_store.specs.memory.Batch.{IsNoChange}
 use Rattle.lfs_store.specs.log.LogState.{Reads}
 use Rattle.lfs_store.specs.declared.draft.Draft.{Draft}
 use Rattle.lfs_store.specs.declared.store.Store.{Store}
-use Rattle.lfs_store.proofs.LogReads.{reads_more}
+use Rattle.lfs_store.specs.StoreState.{IsEmpty, draft_of, drafted_of, volume_of}
+use Rattle.lfs_store.proofs.of_log.LogReads.{reads_more}
 use Rattle.lfs_path.specs.declared.last.Last.{Last}
 use Rattle.lfs_path.specs.Lasts.{HasLast}
 use Rattle.lfs_path.specs.Reaching.{EndsParent}

@@ -16,7 +16,6 @@ use Rattle.lfs_model.specs.Refusal.{Worn}
 use Rattle.lfs_model.specs.Run.{IsExcused, Point, StepsOr, acknowledges}
 use Rattle.lfs_model.specs.Stands.{LogMap}
 use Rattle.lfs_model.specs.Step.{Step}
-use Rattle.lfs_model.specs.Totals.{IsCounted}
 use Rattle.lfs_model.specs.Tree.{Handles, State, names, opened, without}
 use Rattle.lfs_model.specs.TreeOf.{IsTree}
 use Rattle.lfs_files.specs.declared.fault.LogFault.{LogFault}
@@ -24,19 +23,15 @@ use Rattle.lfs_files.specs.declared.fault.LogFault.TheVariants as log
 use Rattle.lfs_files.specs.declared.header.Header as headers
 use Rattle.lfs_store.specs.declared.store.Store.{Store}
 use Rattle.lfs_store.specs.log.verify.declared.totals.BlockTotals.{BlockTotals}
-use Rattle.lfs_store.specs.memory.Batch.{IsNoChange}
 use Rattle.lfs_store.specs.memory.Present.{as_header}
 use Rattle.lfs_store.specs.memory.Removing.{without_file}
-use Rattle.lfs_store.specs.segments.Table.{clean_in}
-use Rattle.lfs_store.specs.log.LogState.{Alters, LogState, Holds, IsKept, IsReadFault, IsRemoved, Reads}
-use Rattle.lfs_store.specs.Accepting.{Forgets, HasClean, Stores}
-use Rattle.lfs_store.specs.Recounting.{CountsGone}
+use Rattle.lfs_store.specs.log.LogState.{Alters, Holds, IsKept, IsReadFault, IsRemoved, Reads}
+use Rattle.lfs_store.specs.Accepting.{HasClean}
+use Rattle.lfs_store.specs.Recounting.{AreTotals, CountsGone}
 use Rattle.lfs_store.specs.log.Saving.{commit_orders}
-use Rattle.lfs_store.specs.cleaner.Room.{IsAtRest}
-use Rattle.lfs_store.proofs.of_cleaner.of_log.Unsaved.{kept_saved}
-use Rattle.lfs_store.proofs.Forgotten.{forgets}
-use Rattle.lfs_store.proofs.LogReads.{fault_more, held_still, reads_none}
 use Rattle.lfs_store.proofs.Recounted.{kept_more, removed_more}
+use Rattle.lfs_store.specs.StoreState.{IsEmpty, draft_of, volume_of}
+use Rattle.lfs_store.proofs.of_log.LogReads.{fault_more, held_still, reads_none}
 use Rattle.lfs_fs.specs.declared.error.FsError.{FsError}
 use Rattle.lfs_fs.specs.declared.fs.Fs.{Fs}
 use Rattle.lfs_fs.specs.Faults.{error_of_log}
@@ -367,10 +362,12 @@ module _ {D : Type 0} (state : D → DeviceState) (lawful : (d : D) → IsLawful
     module _ (store : Store D) where
       pub close_last : (handles : Handles) → IsClosedNow handles → head.links ≤ 0
           → opened (without nat_cmp h old.handles) n ≡ 0
-          → IsRemoved state (seen mid).log (volume_of store) n → CountsGone state (seen mid).log (volume_of store) n (seen mid).log.totals (volume_of store).totals
+          → IsRemoved state (seen mid).log (volume_of store) n
+          → CountsGone state (seen mid).log (volume_of store) n (seen mid).log.totals (volume_of store).totals
           → Serves state (seen old) (seen (with_parts store handles)) (Close h) Done
       close_last handles table none shut gone counts =
-          let all = removed_more state (seen old).log (seen mid).log (volume_of store) n (lawful (seen old).log.device) reads.still.reads gone in
+          let all =
+          removed_more state (seen old).log (seen mid).log (volume_of store) n (lawful (seen old).log.device) reads.still.reads gone in
           close_removes state lawful (seen old) (seen (with_parts store handles)) was h n opens
           (closed_then handles table) head.links (omega (arith, none)) shut
           (λ k m0 m s keeps is. (as_header head, there k m0 m s (gone.alters.looks.carries.kept_before keeps) is, refl))

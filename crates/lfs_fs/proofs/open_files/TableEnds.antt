@@ -10,10 +10,9 @@ use Rattle.lfs_model.specs.Stands.{LogMap}
 use Rattle.lfs_model.specs.Tree.{State}
 use Rattle.lfs_model.specs.TreeOf.{dropped}
 use Rattle.lfs_model.proofs.Moments.{goes_on, started}
-use Rattle.lfs_model.proofs.Settled.{settled_stands}
-use Rattle.lfs_store.specs.memory.declared.memory.LogMemory.{LogMemory}
 use Rattle.lfs_store.specs.memory.Present.{Looks}
 use Rattle.lfs_store.specs.log.LogState.{Reads}
+use Rattle.lfs_store.proofs.of_log.LogReads.{acknowledged}
 use Rattle.lfs_fs.specs.Volume.{IsStill, IsAt, IsIn, Mounted, Serves, changes_handles, segments_of}
 use Rattle.lfs_fs.proofs.calls.AnyDevice.{ok_refuses_none, opens_behaves}
 use Rattle.lfs_fs.proofs.calls.Drafts.{runs_on}

@@ -12,12 +12,12 @@ use Rattle.lfs_model.specs.Walk.{Refused}
 use Rattle.lfs_files.specs.Files as files
 use Rattle.lfs_store.specs.declared.draft.Draft.{Draft}
 use Rattle.lfs_store.specs.declared.store.Store.{Store}
-use Rattle.lfs_store.specs.memory.Batch.{IsNoChange}
+use Rattle.lfs_store.specs.StoreState.{IsEmpty}
+use Rattle.lfs_store.specs.Seen.{files_of}
 use Rattle.lfs_path.specs.declared.last.Last.{Last}
 use Rattle.lfs_path.specs.Reaching.{EndsParent}
 use Rattle.lfs_fs.specs.declared.error.FsError.{FsError}
 use Rattle.lfs_fs.specs.declared.fs.Fs.{Fs}
-use Rattle.lfs_fs.specs.Drafted.{files_of}
 use Rattle.lfs_fs.specs.Naming.{BeginsAt, BeginsNowhere, BeginsOnly, FindsPlace, LacksPlace, Reaches}
 use Rattle.lfs_fs.specs.Refusals.{refusal_of}
 use Rattle.lfs_fs.specs.Seen.{Begins, IsReady, OnlyReads, seen}

@@ -11,8 +11,10 @@ use Rattle.lfs_model.specs.Step.{Step}
 use Rattle.lfs_model.specs.Tree.{State}
 use Rattle.lfs_files.specs.declared.header.Header.{Header}
 use Rattle.lfs_store.specs.memory.Present.{as_header}
-use Rattle.lfs_store.proofs.LogReads.{reads_none}
 use Rattle.lfs_store.proofs.TreeTotals.{totals_of_tree}
+use Rattle.lfs_store.specs.StoreState.{IsEmpty, draft_of, drafted_of}
+use Rattle.lfs_store.proofs.of_log.LogReads.{reads_none}
+use Rattle.lfs_store.proofs.Known.{empty_draft}
 use Rattle.lfs_fs.specs.declared.error.FsError.{FsError}
 use Rattle.lfs_fs.specs.declared.error.FsError.TheVariants as error
 use Rattle.lfs_fs.specs.declared.fs.Fs.{Fs}
@@ -21,8 +23,6 @@ use Rattle.lfs_fs.specs.Answers.{room_of}
 use Rattle.lfs_fs.specs.Refusals.{refusal_of}
 use Rattle.lfs_fs.specs.Seen.{Begins, HasHeader, OnlyReads, seen}
 use Rattle.lfs_fs.specs.Volume.{IsIn, IsStill, Mounted, Serves, segments_of}
-use Rattle.lfs_store.proofs.Apart.{no_change}
-use Rattle.lfs_store.specs.memory.Batch.{IsNoChange}
 use Rattle.lfs_fs.proofs.calls.AnyDevice.{IsOrdinary}
 use Rattle.lfs_fs.proofs.calls.Steps.{never_worn}
 use Rattle.lfs_fs.proofs.calls.Drafts.{not_acknowledged}

@@ -3,10 +3,10 @@ use Rattle.std.proofs.Common.{◌≡◌, ◌≤◌, ◌^◌, ◌<◌, ◌+◌, �
 use Rattle.lfs_model.specs.Call.{Call, Done, Refuse, Sync, changes, takes_no_memory, never_for_device}
 use Rattle.lfs_model.specs.Device.{DeviceState, IsLawful}
 use Rattle.lfs_model.specs.Refusal.{Device, NoMemory}
-use Rattle.lfs_store.specs.memory.declared.changes.Changes.{Changes}
-use Rattle.lfs_store.specs.memory.Batch.{FitsBatch}
 use Rattle.lfs_store.specs.log.Saving.{commit_orders}
 use Rattle.lfs_store.specs.Accepting.{Commits, Declines, IsAcceptFault}
+use Rattle.lfs_store.specs.StoreState.{Fits}
+use Rattle.lfs_store.specs.declared.draft.Draft.{Draft}
 use Rattle.lfs_fs.specs.Volume.{CommitsFew, Mounted, Serves, TellsAtMost, segments_of}
 use Rattle.lfs_fs.proofs.calls.AnyDevice.{IsBounded, change_writes, not_both, sync_bounded, write_behaves}
 use Rattle.lfs_fs.proofs.calls.Steps.{never_worn}

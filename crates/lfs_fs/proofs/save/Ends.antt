@@ -6,10 +6,10 @@ use Rattle.lfs_files.specs.declared.fault.LogFault.{LogFault}
 use Rattle.lfs_files.specs.declared.fault.LogFault.TheVariants as log
 use Rattle.lfs_store.specs.log.LogState.{Halts, IsFull}
 use Rattle.lfs_store.specs.declared.store.Store.{Store}
-use Rattle.lfs_store.specs.log.verify.declared.totals.BlockTotals.{BlockTotals}
 use Rattle.lfs_store.specs.log.Saving.{commit_orders}
 use Rattle.lfs_store.specs.Accepting.{Commits}
 use Rattle.lfs_store.proofs.of_cleaner.Rooms.{halts_at_once}
+use Rattle.lfs_store.specs.StoreState.{volume_of}
 use Rattle.lfs_fs.specs.declared.error.FsError.{FsError}
 use Rattle.lfs_fs.specs.declared.fs.Fs.{Fs}
 use Rattle.lfs_fs.specs.Faults.{error_of_log}

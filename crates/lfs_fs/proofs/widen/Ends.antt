@@ -32,12 +32,13 @@ use Rattle.lfs_store.specs.declared.draft.Draft.{Draft}
 use Rattle.lfs_store.specs.declared.store.Store.{Store}
 use Rattle.lfs_store.specs.log.LogState.{LogState}
 use Rattle.lfs_store.specs.log.verify.declared.totals.BlockTotals.{BlockTotals}
-use Rattle.lfs_store.specs.memory.declared.batch.Loss.{Loss}
-use Rattle.lfs_store.specs.memory.Batch.{FitsBatch, IsNoChange, is_lost, staged}
+use Rattle.lfs_store.specs.memory.Batch.{staged}
 use Rattle.lfs_store.specs.Recounting.{AreTotals}
-use Rattle.lfs_store.proofs.Apart.{draft_empty}
-use Rattle.lfs_store.proofs.LogReads.{held_still}
 use Rattle.lfs_store.proofs.TreeTotals.{totals_of_tree}
+use Rattle.lfs_store.specs.StoreState.{Fits, IsEmpty, draft_of, drafted_of, volume_of, with_draft}
+use Rattle.lfs_store.specs.Seen.{files_of}
+use Rattle.lfs_store.proofs.of_log.LogReads.{held_still}
+use Rattle.lfs_store.proofs.Known.{empty_apart, empty_draft}
 use Rattle.lfs_path.specs.dirs.Directory.{slot_count}
 use Rattle.lfs_path.specs.dirs.Finding.{IsDirectoryFault}
 use Rattle.lfs_path.specs.dirs.Widening.{CountsWidened, HasWidened, Widens, WidensNames, wide}
@@ -47,7 +48,6 @@ use Rattle.lfs_fs.specs.declared.error.FsError.{FsError}
 use Rattle.lfs_fs.specs.declared.error.FsError.TheVariants as error
 use Rattle.lfs_fs.specs.declared.fs.Fs.{Fs}
 use Rattle.lfs_fs.specs.Accepting.{StagesDraft, TurnsDown, need_of}
-use Rattle.lfs_fs.specs.Drafted.{files_of}
 use Rattle.lfs_fs.specs.Faults.{error_of_store}
 use Rattle.lfs_fs.specs.Refusals.{refusal_of}
 use Rattle.lfs_fs.specs.Seen.{HasHeader, LacksHeader, OnlyReads, answer_by, seen}
@@ -219,7 +219,8 @@ module _ {D : Type 0} (state : D → DeviceState) (lawful : (d : D) → IsLawful
     undrafted (store.Log log.Full) failed halted other = absurd (other refl)
     undrafted (store.Log log.Device) failed halted other =
         failed_serves state v (seen left) (Widen path) (lawful v.log.device) still_left was refl (λ k m0 m s keeps is.
-        let keeps_tried : (state (volume_of tried).device).keeps_model = subst (λ (h : LogState D). (state h.device).keeps_model) same_log keeps in
+        let keeps_tried : (state (volume_of tried).device).keeps_model =
+        subst (λ (h : LogState D). (state h.device).keeps_model) same_log keeps in
         let before = redrafts.looks.carries.kept_before keeps_tried in
         let there = narrow.there k m0 m s before is in
         let shaped = shape_of_volume state v k m0 m s is in
@@ -255,7 +256,8 @@ module _ {D : Type 0} (state : D → DeviceState) (lawful : (d : D) → IsLawful
     still : IsStill state v (seen ready)
     still = still_more state lawful v (seen a) (seen ready) reached.still (still_drafted state a a.store b refl redrafts)
 
-    module _ (keeps : (state (volume_of b).device).keeps_model) (k : CheckpointValue) (m0 m : LogMap) (s : State) (is : IsIn state v k m0 m s) where
+    module _ (keeps : (state (volume_of b).device).keeps_model) (k : CheckpointValue) (m0 m : LogMap) (s : State)
+        (is : IsIn state v k m0 m s) where
       before : (state (seen a).log.device).keeps_model
       before = redrafts.looks.carries.kept_before keeps
 

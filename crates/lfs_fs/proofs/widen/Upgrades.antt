@@ -16,11 +16,11 @@ use Rattle.lfs_model.specs.TreeOf.{AreFormed, object, slots}
 use Rattle.lfs_model.proofs.Raising.{raised_kept, raised_tree}
 use Rattle.lfs_model.proofs.Widening.{upgrade_keeps}
 use Rattle.lfs_store.specs.log.verify.declared.totals.BlockTotals.{BlockTotals}
-use Rattle.lfs_store.specs.memory.Batch.{staged}
 use Rattle.lfs_store.specs.declared.store.Store.{Store}
 use Rattle.lfs_store.specs.Making.{DraftsUpgrade}
 use Rattle.lfs_store.specs.Recounting.{AreTotals, CountsUpgraded}
 use Rattle.lfs_store.proofs.TreeTotals.{totals_of_tree}
+use Rattle.lfs_store.specs.StoreState.{draft_of, drafted_of, volume_of, with_draft}
 use Rattle.lfs_fs.specs.declared.error.FsError.{FsError}
 use Rattle.lfs_fs.specs.declared.error.FsError.TheVariants as error
 use Rattle.lfs_fs.specs.declared.fs.Fs.{Fs}

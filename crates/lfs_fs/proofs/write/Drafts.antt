@@ -13,19 +13,12 @@ use Rattle.lfs_model.specs.Entry as entry
 use Rattle.lfs_model.specs.Objects.{IsHeaderOf}
 use Rattle.lfs_model.specs.Stands.{LogMap}
 use Rattle.lfs_model.specs.Tree.{State}
-use Rattle.lfs_store.specs.memory.declared.batch.Loss.{Loss}
-use Rattle.lfs_store.specs.memory.declared.changes.Changes.{Changes}
 use Rattle.lfs_files.specs.declared.header.Header.{Header}
-use Rattle.lfs_store.specs.memory.Batch.{staged, IsNoChange}
 use Rattle.lfs_store.specs.memory.Present.{as_header}
 use Rattle.lfs_store.specs.declared.draft.Draft.{Draft}
 use Rattle.lfs_store.specs.log.verify.declared.totals.BlockTotals.{BlockTotals}
-use Rattle.lfs_store.specs.Drafting.{IsApart}
 use Rattle.lfs_store.specs.Recounting.{AreTotals, Counts}
-use Rattle.lfs_model.specs.Totals.{IsCounted}
 use Rattle.lfs_store.specs.Writing.{SetsLen, Writes, WritesFile, resized}
-use Rattle.lfs_store.proofs.Apart.{draft_empty, nothing_apart}
-use Rattle.lfs_store.proofs.LogReads.{held_still}
 use Rattle.lfs_store.proofs.TreeTotals.{totals_of_tree}
 use Rattle.lfs_fs.specs.declared.error.FsError.{FsError}
 use Rattle.lfs_fs.specs.declared.fs.Fs.{Fs}
@@ -40,6 +33,9 @@ use Rattle.lfs_fs.proofs.write.Ends.{opened_in, still_more, AreDrafts, draft_end
 use Rattle.lfs_store.specs.log.LogState.{Holds}
 use Rattle.lfs_fs.proofs.open_files.Steps.{cut_all_done, shortened, written}
 use Rattle.lfs_model.specs.Step.{with_tree}
+use Rattle.lfs_store.specs.StoreState.{IsEmpty, draft_of, drafted_of, with_draft}
+use Rattle.lfs_store.proofs.of_log.LogReads.{held_still}
+use Rattle.lfs_store.proofs.Known.{empty_draft, empty_loses}
 use Rattle.lfs_fs.proofs.write.Bytes.{written_log}
 use Rattle.lfs_fs.proofs.calls.Steps.{pwrite_ends}
 

@@ -13,24 +13,16 @@ use Rattle.lfs_model.specs.Stands.{LogMap}
 use Rattle.lfs_model.specs.Tree.{Handles, State}
 use Rattle.lfs_model.specs.TreeOf.{dropped}
 use Rattle.lfs_model.proofs.Moments.{carries_then, goes_on, joined, started}
-use Rattle.lfs_model.proofs.Settled.{settled_stands}
-use Rattle.lfs_store.specs.memory.declared.changes.Changes.{Changes}
 use Rattle.lfs_files.specs.declared.fault.LogFault.TheVariants as log
-use Rattle.lfs_store.specs.memory.declared.memory.LogMemory.{LogMemory}
-use Rattle.lfs_store.specs.memory.Batch.{FitsBatch, IsNoChange, staged}
-use Rattle.lfs_store.specs.segments.Table.{clean_in}
-use Rattle.lfs_store.specs.cleaner.Room.{HaltsLater, room_orders}
-use Rattle.lfs_store.specs.log.LogState.{LogState, Holds, IsReadFault, Reads}
+use Rattle.lfs_store.specs.cleaner.Room.{HaltsLater, MayNotMakeRoom, most_checkpoints, room_orders}
+use Rattle.lfs_store.specs.log.LogState.{Holds, IsReadFault, LeavesSaved, LogState, Reads}
 use Rattle.lfs_files.specs.declared.fault.StoreFault.{StoreFault}
 use Rattle.lfs_files.specs.declared.fault.StoreFault.TheVariants as store
 use Rattle.lfs_store.specs.declared.store.Store.{Store}
 use Rattle.lfs_store.specs.log.verify.declared.totals.BlockTotals.{BlockTotals}
 use Rattle.lfs_model.specs.declared.Order.{Order}
 use Rattle.lfs_store.specs.log.Saving.{commit_orders}
-use Rattle.lfs_store.specs.Accepting.{Accepts, CannotMakeRoom, Declines, HasClean, IsAcceptFault, LeavesEither, SavesFew, Stores}
-use Rattle.lfs_store.specs.Accepting.{most_written}
-use Rattle.lfs_store.proofs.Apart.{draft_empty}
-use Rattle.lfs_store.proofs.LogReads.{fault_more, held_still, reads_more, reads_none, stores_still}
+use Rattle.lfs_store.specs.Accepting.{Accepts, Declines, IsAcceptFault, SavesFew}
 use Rattle.lfs_fs.specs.declared.error.FsError.{FsError}
 use Rattle.lfs_fs.specs.declared.error.FsError.TheVariants as error
 use Rattle.lfs_fs.specs.declared.fs.Fs.{Fs}
@@ -45,12 +37,15 @@ use Rattle.lfs_fs.proofs.save.Declined.{accept_fault_serves, no_room_serves}
 use Rattle.lfs_fs.proofs.calls.Drafts.{InEach, IsRest, not_acknowledged, accepts_by}
 use Rattle.lfs_fs.proofs.volume.Nodes.{IsFileOf, opened_file, IsMapOf}
 use Rattle.lfs_fs.proofs.clean.Room.{has_room}
-use Rattle.lfs_store.proofs.Acceptings.{written_most}
-use Rattle.lfs_fs.proofs.calls.Exits.{halts_at, map_dropped, served_still, still_in, point_of}
+use Rattle.lfs_fs.proofs.calls.Exits.{clean_still, halts_at, map_dropped, point_of, served_still, still_in}
 use Rattle.lfs_fs.proofs.calls.Reads.{fault_serves, memory_serves}
-use Rattle.lfs_model.specs.Totals.{IsCounted}
 use Rattle.lfs_model.specs.Step.{Step}
 use Rattle.lfs_model.specs.Run.{acknowledges}
+use Rattle.lfs_store.specs.StoreState.{Fits, IsEmpty, draft_of, drafted_of, volume_of, with_draft}
+use Rattle.lfs_store.specs.Recounting.{AreTotals}
+use Rattle.lfs_store.specs.declared.draft.Draft.{Draft}
+use Rattle.lfs_store.proofs.of_log.LogReads.{acknowledged, fault_more, held_still, reads_more, reads_none}
+use Rattle.lfs_store.proofs.Known.{empty_draft, few_checkpoints}
 use Rattle.lfs_fs.proofs.calls.Steps.{not_worn, refused_not_worn, worn}
 
 -- why a draft isn't staged, by the fault of the store

@@ -1,5 +1,6 @@
 use Rattle.std.proofs.lemmas.Result.{err_from_is_err_and}
 use Rattle.std.proofs.Common.{Err, ap}
+use Rattle.lfs_store.specs.StoreState.{volume_of}
 use Rattle.lfs_fs.proofs.clean.Ends.{clean_fails, cleaned_serves, once_tells, worn_serves}
 use Rattle.lfs_fs.proofs.save.Ends.{not_halted}
 use Rattle.lfs_fs.proofs.write.Exits.{begun, halted_begin, still_running}

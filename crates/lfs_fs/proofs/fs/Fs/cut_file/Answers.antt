@@ -1,12 +1,12 @@
 use Rattle.std.proofs.lemmas.Result.{err_from_is_err_and}
 use Rattle.std.proofs.Common.{ap, refl, sym, subst, Err}
 use Rattle.lfs_store.specs.declared.draft.Draft.{Draft}
-use Rattle.lfs_store.specs.log.verify.declared.totals.BlockTotals.{BlockTotals}
-use Rattle.lfs_store.specs.memory.Batch.{IsNoChange}
 use Rattle.lfs_fs.proofs.write.Drafts.{cut_ends}
 use Rattle.lfs_fs.proofs.write.Ends.{given_up_serves, headerless_serves}
 use Rattle.lfs_store.proofs.Known.{cut_asks}
+use Rattle.lfs_store.specs.StoreState.{IsEmpty, draft_of, volume_of}
 use Rattle.lfs_fs.proofs.fs.Fs.cut_file.Goals as goal
+use Rattle.lfs_fs.specs.Seen.{seen}
 
 pub set_len-requires-clause-empty : goal.set_len-requires-clause-empty
 set_len-requires-clause-empty g c = subst (λ (d : Draft). IsEmpty d) (sym c.header.ensures.reads.draft) c.requires.ready.empty

@@ -1,11 +1,10 @@
 use Rattle.std.proofs.lemmas.Result.{err_from_is_err_and}
 use Rattle.std.proofs.Common.{rules, ap, refl, Err, arith, subst, sym}
-use Rattle.lfs_store.specs.log.verify.declared.totals.BlockTotals.{BlockTotals}
 use Rattle.lfs_fs.proofs.write.Drafts.{write_ends}
 use Rattle.lfs_fs.proofs.write.Ends.{given_up_serves, headerless_serves}
 use Rattle.lfs_fs.proofs.write.Exits.{bytes_of}
 use Rattle.lfs_store.specs.declared.draft.Draft.{Draft}
-use Rattle.lfs_store.specs.memory.Batch.{IsNoChange}
+use Rattle.lfs_store.specs.StoreState.{IsEmpty}
 use Rattle.lfs_fs.proofs.fs.Fs.write_file.Goals as goal
 
 pub returns-in_err-header : goal.returns-in_err-header
