@@ -177,8 +177,7 @@ module _ {D : Type 0} (state : D → DeviceState) where
       }
 
   -- a log that is only read before and after
-  pub sets_around : (h a b h' : LogState D) (c : Changes) (n : ℕ) (head : Header) (len : ℕ) → Reads state h a
-      → SetsLen state a b c n head len
+  pub sets_around : (h a b h' : LogState D) (c : Changes) (n : ℕ) (head : Header) (len : ℕ) → Reads state h a → SetsLen state a b c n head len
       → Reads state b h' → SetsLen state h h' c n head len
   sets_around h a b h' c n head len first sets last = record {
     lost = sets.lost;

@@ -151,8 +151,7 @@ module _ {D : Type 0} (state : D → DeviceState) where
   made_committed a b (Err fault) lawful running commit = made_uncommitted a b fault lawful running commit
 
   -- ---- the cleaner makes room
-  pub cleaned : (a : Store D) (h : LogState D) (r : Result Unit LogFault) → h.totals ≡ a.log.totals
-      → OnOk r (cleaner.MakesRoom state a.log h)
+  pub cleaned : (a : Store D) (h : LogState D) (r : Result Unit LogFault) → h.totals ≡ a.log.totals → OnOk r (cleaner.MakesRoom state a.log h)
       → (IsErrOf r Full → cleaner.LacksRoom state a.log h) → (IsErrOf r Device → FailsRoom state a.log h)
       → (IsErrOf r Halted → a.log.halted ≢ true → HaltsLater state a.log h (most_checkpoints a.log))
       → (a.log.halted ≡ true → (h ≡ a.log) × IsErrOf r Halted) → (HasQuarter a.log → h ≡ a.log) → Cleaned state a (record a { log = h }) r

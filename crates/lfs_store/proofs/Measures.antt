@@ -82,8 +82,7 @@ module _ {D : Type 0} (state : D → DeviceState) (c : Changes) (n : ℕ) where
   double_told h a b size leaf one some few tells k m0 m keeps is ends =
       sym (double_found (staged c m) n leaf some few (tells k m0 m keeps (held_still state h a k m0 m one is)))
 
-  pub double_missed : (h b : LogState D) (size end index : ℕ) → (size ≤ 512 * (112 + 128 * end)) ⊎ (129 ≤ end) → end ≤ 129
-      → index ≡ max end 1
+  pub double_missed : (h b : LogState D) (size end index : ℕ) → (size ≤ 512 * (112 + 128 * end)) ⊎ (129 ≤ end) → end ≤ 129 → index ≡ max end 1
       → CountedUpTo state (λ m. has_leaf m n) h b c 1 index 0 → TellsDouble state h b c n size false
   double_missed h b size end index past few last was k m0 m keeps is ends =
       sym (double_none (staged c m) n size end ends past (counts_leaves state h b c n 1 (max end 1) index 0 last was k m0 m keeps is) few)
@@ -120,8 +119,7 @@ module _ {D : Type 0} (state : D → DeviceState) (c : Changes) (n : ℕ) where
         let up = pointers_all (staged c m) n in
         omega (arith, all, root, up)
 
-  pub measured : (h a b d : LogState D) (head : Header) (blocks from to count above : ℕ) → Reads state h a → Reads state a b
-      → Reads state b d
+  pub measured : (h a b d : LogState D) (head : Header) (blocks from to count above : ℕ) → Reads state h a → Reads state a b → Reads state b d
       → head.size ≤ 512 * blocks → from ≤ to
       → ReadsHeader state h a c n (Some head) → CountsStored state a b c n (min from (min blocks to)) (min blocks to) count
       → CountsPointers state b d c n head.size from to above
