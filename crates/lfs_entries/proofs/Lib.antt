@@ -8,3 +8,4 @@ pub mod OldNames
 pub mod ObjectReads
 pub mod Moves
 pub mod Listings
+pub mod ByteDrafts

@@ -2,6 +2,7 @@
 //! read of the objects that they give, and how calls draft them.
 #![tactic(auto)]
 
+mod bytes;
 mod drafting;
 mod entry;
 mod fault;
@@ -19,6 +20,7 @@ mod replacing;
 mod rows;
 mod sizes;
 
+pub use bytes::{draft_bytes, draft_length};
 pub use entry::{Entry, Object, is_directory};
 pub use fault::EntryFault;
 pub use lfs_path as path;

@@ -257,7 +257,7 @@ module _ {D : Type 0} (state : D → DeviceState) where
           halted = halted;
           segments = tight.stays.segments ∙ s.segments;
           clean = tight.stays.clean ∙ s.clean;
-            few = let x = s.few in let y = tight.stays.blocks in omega (arith, x, y);
+          few = let x = s.few in let y = tight.stays.blocks in omega (arith, x, y);
         }
 
         untaken : AreUntaken h.memory.usage → AreUntaken h'.memory.usage
@@ -284,7 +284,7 @@ module _ {D : Type 0} (state : D → DeviceState) where
           halted = halted;
           segments = tight.stays.segments ∙ s.segments;
           clean = tight.stays.clean ∙ s.clean;
-            few = let x = s.few in let y = tight.stays.blocks in omega (arith, x, y);
+          few = let x = s.few in let y = tight.stays.blocks in omega (arith, x, y);
         }
 
         untaken : AreUntaken h.memory.usage → AreUntaken h'.memory.usage

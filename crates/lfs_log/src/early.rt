@@ -85,7 +85,9 @@ pub fn write_chunks<D: SectorDevice>(
     ensures told { length (D.state device.new).told
         ≤ length (D.state device.old).told + orders_for (length memory.old.dirty.blocks) }
 {
-    while memory.dirty.has_data(CHUNK_BLOCKS) && exceeds_reserve(memory.usage.segments(), memory.usage.clean()) {
+    while memory.dirty.has_data(CHUNK_BLOCKS)
+        && exceeds_reserve(memory.usage.segments(), memory.usage.clean())
+    {
         write_chunk(device, memory, age)?;
     }
     Ok(())

@@ -27,7 +27,7 @@ use Rattle.lfs_store.specs.Drafting.{PutsBlock, PutsHeader, TakesBlock}
 use Rattle.lfs_store.specs.Pieces.{CutsTail, CutSoFar, CutBlocks}
 use Rattle.lfs_store.specs.Reading.{ReadsBlock}
 use Rattle.lfs_store.specs.Writing.{resized, DraftsCut, CutsDraft, SizesFile, SetsLen}
-use Rattle.lfs_store.proofs.LogReads.{held_still}
+use Rattle.lfs_cleaner.proofs.of_log.LogReads.{held_still}
 use Rattle.lfs_store.proofs.PiecesCut.{cut_begins, cut_between, cut_inside, cut_none, cut_blocks_heads, cut_is_done}
 use Rattle.lfs_store.proofs.PiecesStored.{same_whole}
 use Rattle.lfs_store.proofs.Apart.{edits_are, no_change, fits_lost, draft_empty}

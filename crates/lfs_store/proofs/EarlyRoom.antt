@@ -6,19 +6,15 @@ use Rattle.lfs_model.specs.Crash.{StandsOn}
 use Rattle.lfs_model.specs.Device.{DeviceState, IsLawful}
 use Rattle.lfs_model.specs.Totals.{IsCounted}
 use Rattle.lfs_model.proofs.Moments.{carries_none, started, weaker}
-use Rattle.lfs_model.proofs.Settled.{settled_stands}
 use Rattle.lfs_cleaner.specs.log.verify.declared.totals.BlockTotals.{BlockTotals}
-use Rattle.lfs_cleaner.specs.log.inodes.Data.{data_count}
-use Rattle.lfs_cleaner.specs.log.segments.Table.{clean_in}
-use Rattle.lfs_cleaner.specs.log.Early.{full_chunk}
 use Rattle.lfs_cleaner.specs.log.LogState.{AreAllSaved, LogState, IsSaved, Saves, WritesEarly}
 use Rattle.lfs_cleaner.specs.log.Saving.{commit_orders, orders_for}
-use Rattle.lfs_cleaner.specs.Room.{IsAtRest, KeepsMap, passes_orders, room_orders}
-use Rattle.lfs_cleaner.proofs.of_log.of_memory.of_inodes.Data.{no_data}
+use Rattle.lfs_cleaner.specs.Room.{KeepsMap, MakesRoom, most_checkpoints, passes_orders, room_orders}
+use Rattle.lfs_cleaner.proofs.of_log.LogReads.{acknowledged}
 use Rattle.lfs_cleaner.proofs.RoomBounds.{same_need}
 use Rattle.lfs_cleaner.proofs.Rooms.{keeps_weaker}
-use Rattle.lfs_store.specs.Accepting.{HasClean, MakesRoom, Readies, most_written}
-use Rattle.lfs_store.proofs.Acceptings.{room_then}
+use Rattle.lfs_store.specs.Accepting.{HasClean, Readies}
+use Rattle.lfs_store.proofs.Acceptings.{due_as, room_then}
 
 -- what the next commit asks for is clean still, where anything was written
 early_clean : (D : Type 0) (state : D → DeviceState) (h h' : LogState D) → WritesEarly state h h' → (h' ≡ h) ⊎ HasClean h'
@@ -36,29 +32,22 @@ module _ {D : Type 0} (state : D → DeviceState) where
     upgraded = refl;
     saved = refl;
     segments = refl;
-    capacity = refl;
     fewer = omega arith;
     only_data = refl;
     unsaved = refl;
     reserve = inl refl;
     idle = λ few. refl;
+    rest = λ rest. rest;
     taken = omega arith;
     emptied = omega arith;
     told = omega arith;
     no_failure = refl;
     holds = λ k m0 m keeps is. is;
-    moment = λ k m0 m keeps is. started (state h.device) (λ (c : Content). StandsOn k.segments c m0) lawful
-        (settled_stands (state h.device) k m0 is.log.running.settled);
+    moment = λ k m0 m keeps is.
+        started (state h.device) (λ (c : Content). StandsOn k.segments c m0) lawful (acknowledged state h k m0 m is);
   }
 
   module _ (h h' : LogState D) (w : WritesEarly state h h') (totals : h'.totals ≡ h.totals) where
-    -- nothing is written where all is saved
-    rest_early : IsAtRest h → IsAtRest h'
-    rest_early rest =
-        let none = no_data h.memory.dirty rest.nothing.blocks in
-        let few : h.data < full_chunk = omega (arith, none) in
-        subst (λ (x : LogState D). IsAtRest x) (sym (w.idle few)) rest
-
     keeps_early : KeepsMap state h h' 0
     keeps_early =
         let same = w.number in
@@ -70,7 +59,7 @@ module _ {D : Type 0} (state : D → DeviceState) where
           segments = w.segments;
           totals = totals;
           saved = λ all. w.saved ∙ all;
-          rest = rest_early;
+          rest = w.rest;
           holds = λ k m0 m keeps is map.
               record { checkpoint = k; acknowledged = m0; either = inl refl; same = refl; holds = w.holds k m0 m keeps is };
           moment = λ k m0 m keeps is map. weaker (state h.device) (state h'.device) (λ (c : Content). StandsOn k.segments c m0)
@@ -81,80 +70,79 @@ module _ {D : Type 0} (state : D → DeviceState) where
     clean_stays enough = ⊎_elim (λ (same : h' ≡ h). subst (λ (x : LogState D). HasClean x) (sym same) enough) (λ (kept : HasClean h'). kept)
         (early_clean D state h h' w)
 
-    room_early : MakesRoom state h false h' false
+    room_early : MakesRoom state h h'
     room_early = record {
-      keeps = keeps_weaker state h h' 0 (most_written h false) keeps_early (omega arith);
-      unsaved = λ e. (refl, record { number = w.number; fewer = w.fewer; capacity = w.capacity; clean = clean_stays });
-      all = λ never. absurd (cc);
-      rest = λ never. absurd (cc);
+      keeps = keeps_weaker state h h' 0 (most_checkpoints h) keeps_early (omega arith);
+      unsaved = λ e. (sym w.saved ∙ e, record { number = w.number; fewer = w.fewer; clean = clean_stays });
+      all = λ e. inl (sym w.saved ∙ e);
+      rest = λ e rest. w.rest (rest (sym w.saved ∙ e));
     }
 
-    pub readies_early : Readies state h false h' false
+    pub readies_early : Readies state h h'
     readies_early =
         let number = w.number in
         let size = w.segments in
+        let due = due_as h h' w.saved in
         record {
           room = room_early;
-          spent = (let spent : h'.number + (h'.segments / 8 + 1) ≤ h.number + (h.segments / 8 + 1) =
-              omega (arith, number, size) in spent);
-          able = λ k m0 m keeps can.
-              let most : h.number + (h.segments / 8 + 1) ≤ 2 ^ 64 - 1 = can.number in (
+          spent = omega (arith, number, size, due);
+          able = λ k m0 m keeps may.
+              let most = may.number in (
                 k,
                 m0,
                 record {
-                  stores = record {
-                    holds = w.holds k m0 m keeps can.stores.holds;
-                    nothing_new = λ never. absurd (cc);
-                    rest = λ never. absurd (cc);
-                  };
-                  map = can.map;
-                  shown = can.shown;
-                  counted = subst (λ (t : BlockTotals). IsCounted m t.data_blocks t.meta_blocks) (sym totals) can.counted;
-                  need = same_need state h h' totals size can.need;
-                  enough = λ e. clean_stays (can.enough refl);
-                  number = (let fits : h'.number + (h'.segments / 8 + 1) ≤ 2 ^ 64 - 1 =
-                      omega (arith, number, size, most) in fits);
+                  holds = w.holds k m0 m keeps may.holds;
+                  map = may.map;
+                  shown = may.shown;
+                  counted = subst (λ (t : BlockTotals). IsCounted m t.data_blocks t.meta_blocks) (sym totals) may.counted;
+                  need = same_need state h h' totals size may.need;
+                  enough = λ e. clean_stays (may.enough (sym w.saved ∙ e));
+                  number = omega (arith, number, size, due, most);
                 },
               );
         }
 
   -- ---- and a commit behind them
-  pub readies_then : (a b c : LogState D) (x y z : Bool) → Readies state a x b y → Readies state b y c z → Readies state a x c z
-  readies_then a b c x y z one two =
+  pub readies_then : (a b c : LogState D) → Readies state a b → Readies state b c → Readies state a c
+  readies_then a b c one two =
       let first = one.spent in
       let second = two.spent in
       record {
-        room = room_then state a b c x y one z two.room;
+        room = room_then state a b c one two.room;
         spent = omega (arith, first, second);
-        able = λ k m0 m keeps can.
-            (let next = one.able k m0 m (two.room.keeps.carries.kept_before keeps) can in two.able next.0 next.1 m keeps next.2);
+        able = λ k m0 m keeps may.
+            (let next = one.able k m0 m (two.room.keeps.carries.kept_before keeps) may in two.able next.0 next.1 m keeps next.2);
       }
 
   -- one commit, or less
-  pub once_early : (a b : LogState D) (kept : Bool) → WritesEarly state a b → (b ≡ a) ⊎ (HasClean b ⊎ ((kept ≡ true) × AreAllSaved b))
-  once_early a b kept w = ⊎_elim (λ (same : b ≡ a). inl same) (λ (clean : HasClean b). inr (inl clean)) (early_clean D state a b w)
+  pub once_early : (a b : LogState D) → WritesEarly state a b → (b ≡ a) ⊎ (HasClean b ⊎ ((b.saved ≡ true) × AreAllSaved b))
+  once_early a b w = ⊎_elim (λ (same : b ≡ a). inl same) (λ (clean : HasClean b). inr (inl clean)) (early_clean D state a b w)
 
-  pub once_saved : (a b c : LogState D) (saved kept after : Bool) → (saved ≡ true → b ≡ a) → kept ≡ saved → (kept ≡ true → c ≡ b)
-      → (kept ≡ false → Saves state b c) → after ≡ true
-      → (c ≡ a) ⊎ (HasClean c ⊎ ((after ≡ true) × AreAllSaved c))
-  once_saved a b c true kept after still same quiet saves all = inl (quiet same ∙ still refl)
-  once_saved a b c false kept after still same quiet saves all = inr (inr (all, (saves same).empty))
+  module _ (a b c : LogState D) (still : a.saved ≡ true → b ≡ a) (same : b.saved ≡ a.saved) (quiet : b.saved ≡ true → c ≡ b)
+      (saves : b.saved ≡ false → Saves state b c) where
+    pub once_saved : c.saved ≡ true → (c ≡ a) ⊎ (HasClean c ⊎ ((c.saved ≡ true) × AreAllSaved c))
+    once_saved all = by_flag a.saved refl
+      where
+        by_flag : (flag : Bool) → a.saved ≡ flag → (c ≡ a) ⊎ (HasClean c ⊎ ((c.saved ≡ true) × AreAllSaved c))
+        by_flag true e = inl (quiet (same ∙ e) ∙ still e)
+        by_flag false e = inr (inr (all, (saves (same ∙ e)).empty))
+
+    pub clean_saved : a.waiting ≤ 456 → WritesEarly state a b → a.clean ≤ c.clean + 8
+    clean_saved few w = by_flag a.saved refl
+      where
+        by_flag : (flag : Bool) → a.saved ≡ flag → a.clean ≤ c.clean + 8
+        by_flag true e =
+            let all = quiet (same ∙ e) ∙ still e in
+            subst (λ (x : LogState D). a.clean ≤ x.clean + 8) (sym all) (omega arith)
+        by_flag false e =
+            let taken = w.taken in
+            let emptied = w.emptied in
+            let more = (saves (same ∙ e)).taken in
+            omega (arith, taken, emptied, more, few)
 
   pub clean_early : (a b : LogState D) → a.waiting ≤ 456 → WritesEarly state a b
       → a.clean ≤ b.clean + 8
   clean_early a b few w = let taken = w.taken in omega (arith, taken, few)
-
-  pub clean_saved : (a b c : LogState D) (saved kept : Bool) → a.waiting ≤ 456 → WritesEarly state a b
-      → (saved ≡ true → b ≡ a) → kept ≡ saved → (kept ≡ true → c ≡ b) → (kept ≡ false → Saves state b c)
-      → a.clean ≤ c.clean + 8
-  clean_saved a b c true kept few w still same quiet saves =
-      let all = quiet same ∙ still refl in
-      subst (λ (x : LogState D). a.clean ≤ x.clean + 8) (sym all) (omega arith)
-  clean_saved a b c false kept few w still same quiet saves =
-      let taken = w.taken in
-      let emptied = w.emptied in
-      let more = (saves same).taken in
-      omega (arith, taken, emptied, more, few)
 
   pub told_early : (a b : LogState D) → a.waiting ≤ 456 → WritesEarly state a b
       → length (state b.device).told ≤ length (state a.device).told + commit_orders
@@ -166,19 +154,19 @@ module _ {D : Type 0} (state : D → DeviceState) where
   told_saved a b told few w more = let gave = w.told in omega (arith, gave, more, few)
 
   -- segments are cleaned behind it: where that was done after a commit, no second one comes
-  pub told_cleaned : (a b c : LogState D) (kept : Bool) → (b ≡ a) ⊎ (HasClean b ⊎ ((kept ≡ true) × AreAllSaved b))
+  pub told_cleaned : (a b c : LogState D) → (b ≡ a) ⊎ (HasClean b ⊎ ((b.saved ≡ true) × AreAllSaved b))
       → b.clean < b.segments / 8 + 8
       → length (state b.device).told ≤ length (state a.device).told + commit_orders
       → length (state c.device).told ≤ length (state b.device).told + room_orders b.segments
-      → (kept ≡ true → length (state c.device).told ≤ length (state b.device).told + passes_orders b.segments)
+      → (b.saved ≡ true → length (state c.device).told ≤ length (state b.device).told + passes_orders b.segments)
       → b.segments ≡ a.segments
       → length (state c.device).told ≤ length (state a.device).told + room_orders a.segments
-  told_cleaned a b c kept once few first rest passes same = ⊎_elim
+  told_cleaned a b c once few first rest passes same = ⊎_elim
       (λ (is : b ≡ a). subst (λ (x : LogState D).
       length (state c.device).told ≤ length (state x.device).told + room_orders x.segments) is rest)
-      (λ (more : HasClean b ⊎ ((kept ≡ true) × AreAllSaved b)). ⊎_elim
+      (λ (more : HasClean b ⊎ ((b.saved ≡ true) × AreAllSaved b)). ⊎_elim
       (λ (clean : HasClean b). absurd (omega (arith, clean, few)))
-      (λ (all : (kept ≡ true) × AreAllSaved b). behind (length (state a.device).told) (length (state b.device).told)
+      (λ (all : (b.saved ≡ true) × AreAllSaved b). behind (length (state a.device).told) (length (state b.device).told)
       (length (state c.device).told) a.segments b.segments same first (passes all.0))
       more)
       once

@@ -1,26 +1,26 @@
 -- How a store's calls on its log end, each as what its steps say.
 use Rattle.std.specs.Prelude.{Result, Ok, Err, OnOk, IsErr, IsErrAnd, IsErrOf}
-use Rattle.std.proofs.Common.{◌≡◌, ◌≢◌, ◌<◌, ◌≤◌, ◌+◌, Bool, true, false, ℕ, length, refl, sym, ◌∙◌, ap, subst, arith}
+use Rattle.std.proofs.Common.{◌≡◌, ◌≢◌, ◌<◌, ◌≤◌, ◌+◌, true, false, ℕ, length, refl, sym, ◌∙◌, ap, subst, arith}
 use Rattle.std.proofs.lemmas.Result.{err_from_is_err_and}
 use Rattle.lfs_model.specs.Device.{DeviceState, IsLawful}
+use Rattle.lfs_model.specs.declared.limits.TheConstants.{MOST_UNSAVED}
 use Rattle.lfs_files.specs.declared.fault.LogFault.{LogFault}
 use Rattle.lfs_files.specs.declared.fault.LogFault.TheVariants.{Full, Device, Halted}
 use Rattle.lfs_files.specs.declared.fault.StoreFault.{StoreFault}
 use Rattle.lfs_files.specs.declared.fault.StoreFault.TheVariants.{NoMemory, Log}
-use Rattle.lfs_cleaner.specs.log.memory.Batch.{room_for}
 use Rattle.lfs_cleaner.specs.log.LogState.{LogState, IsFull, IsStaged, IsRefused, IsStageFault}
 use Rattle.lfs_cleaner.specs.log.Saving.{commit_orders}
-use Rattle.lfs_cleaner.specs.Room as cleaner
-use Rattle.lfs_cleaner.specs.Room.{FailsRoom, HaltsLater, HasQuarter, IsAtRest, IsRoomFault, most_checkpoints, room_orders}
+use Rattle.lfs_cleaner.specs.Room.{FailsRoom, HaltsLater, HasQuarter, IsAtRest, LacksRoom, MakesRoom, most_checkpoints, room_orders}
+use Rattle.lfs_cleaner.proofs.RoomBounds.{halts_first, lacks_commit, makes_none}
 use Rattle.lfs_cleaner.proofs.of_log.of_memory.Going.{ok_then}
 use Rattle.lfs_store.specs.declared.draft.Draft.{Draft}
 use Rattle.lfs_store.specs.declared.store.Store.{Store}
-use Rattle.lfs_store.specs.Accepting.{Accepts, Commits, Declines, HasClean, HasCleanForTwo, HasRoomFor, IsAcceptFault, Readies}
+use Rattle.lfs_store.specs.Accepting.{Accepts, Declines, HasClean, HasCleanForTwo, HasRoomFor, IsAcceptFault, Readies}
 use Rattle.lfs_store.specs.Keeping.{KeepsDraft}
 use Rattle.lfs_store.specs.Outcomes.{Accepted, Cleaned, Committed, RoomMade}
-use Rattle.lfs_store.proofs.Acceptings.{accepts, accept_fault, cannot_after, cannot_clean, cannot_commit, room_cleaned}
-use Rattle.lfs_store.proofs.Acceptings.{commits_none, declines, declines_room, fault_after, halts_after, halts_first, readies_none}
-use Rattle.lfs_store.proofs.Acceptings.{room_fault, room_none, room_same, room_then}
+use Rattle.lfs_store.specs.StoreState.{asked_by}
+use Rattle.lfs_store.proofs.Acceptings.{accepts, accept_fault, commits_none, declines, declines_room, fails_after, halts_after, lacks_after}
+use Rattle.lfs_store.proofs.Acceptings.{readies_none, room_fault, room_then}
 
 -- what holds at an error holds at the exit of a `?`
 pub same_exit : {T E : Type 0} (r : Result T E) (e : E) (P : Result T E → Type 0) → IsErr r × IsErrAnd r (λ y. y ≡ e) → P (Err e) → P r
@@ -77,8 +77,8 @@ module _ {D : Type 0} (state : D → DeviceState) where
       → Committed state a a (Ok tt)
   committed_saved a lawful running all = record {
     keeps = keeps_none a;
-    done = subst (λ (saved : Bool). Commits state a.log saved a.log) (sym all) (commits_none state a.log lawful running);
-    ready = readies_none state a.log a.log.saved lawful running;
+    done = commits_none state a.log lawful running all;
+    ready = readies_none state a.log lawful running;
     saved = all;
     saves = λ never. absurd (cc);
     same = tt;
@@ -96,22 +96,18 @@ module _ {D : Type 0} (state : D → DeviceState) where
   pub made_none : (a : Store D) → IsLawful (state a.log.device) → a.log.halted ≡ false → RoomMade state a a (Ok tt)
   made_none a lawful running = record {
     keeps = keeps_none a;
-    done = room_none state a.log a.log.saved lawful running;
+    done = makes_none state a.log lawful running;
     full = λ e. absurd (cc);
-    never = λ e. absurd (cc);
-    kept = λ e. absurd (cc);
-    failed = λ e. absurd (cc);
+    device = λ e. absurd (cc);
     halted = λ e. absurd (cc);
   }
 
-  pub made_ready : (a b : Store D) → KeepsDraft a b → Readies state a.log a.log.saved b.log b.log.saved → RoomMade state a b (Ok tt)
+  pub made_ready : (a b : Store D) → KeepsDraft a b → Readies state a.log b.log → RoomMade state a b (Ok tt)
   made_ready a b keeps ready = record {
     keeps = keeps;
     done = ready.room;
     full = λ e. absurd (cc);
-    never = λ e. absurd (cc);
-    kept = λ e. absurd (cc);
-    failed = λ e. absurd (cc);
+    device = λ e. absurd (cc);
     halted = λ e. absurd (cc);
   }
 
@@ -121,27 +117,22 @@ module _ {D : Type 0} (state : D → DeviceState) where
   made_uncommitted a b fault lawful running commit = record {
     keeps = commit.keeps;
     done = tt;
-    full = λ e. room_same state a.log b.log a.log.saved b.log.saved lawful running (commit.full e).0 commit.same;
-    never = λ e. cannot_commit state a.log b.log a.log.saved lawful (commit.unsaved e) (commit.full e).1;
-    kept = λ e. absurd (commit.other e);
-    failed = λ e. absurd (commit.other e);
-    halted = λ e ne. halts_first state a.log b.log a.log.saved (commit.halted e ne);
+    full = λ e. lacks_commit state a.log b.log lawful running (commit.full e).0 (commit.full e).1 (commit.unsaved e);
+    device = λ e. absurd (commit.other e);
+    halted = λ e ne. halts_first state a.log b.log (commit.halted e ne);
   }
 
   -- room that is made behind steps that leave the log ready
-  pub made_then : (a b c : Store D) (r : Result Unit LogFault) → KeepsDraft a b → Readies state a.log a.log.saved b.log b.log.saved
-      → RoomMade state b c r → RoomMade state a c r
+  pub made_then : (a b c : Store D) (r : Result Unit LogFault) → KeepsDraft a b → Readies state a.log b.log → RoomMade state b c r
+      → RoomMade state a c r
   made_then a b c r keeps ready made =
       let running = ready.room.keeps.running in
       record {
         keeps = keeps_then a b c keeps made.keeps;
-        done = ok_then r _ _ (λ room. room_then state a.log b.log c.log a.log.saved b.log.saved ready c.log.saved room) made.done;
-        full = λ e. room_then state a.log b.log c.log a.log.saved b.log.saved ready c.log.saved (made.full e);
-        never = λ e. cannot_after state a.log b.log c.log a.log.saved b.log.saved ready (made.full e).keeps.carries (made.never e);
-        kept = λ e. room_then state a.log b.log c.log a.log.saved b.log.saved ready c.log.saved (made.kept e);
-        failed = λ e. fault_after state a.log b.log c.log a.log.saved b.log.saved ready (made.kept e).keeps.carries (made.failed e);
-        halted = λ e ne. halts_after state a.log b.log c.log a.log.saved b.log.saved ready
-            (made.halted e (λ (t : b.log.halted ≡ true). absurd (cc)));
+        done = ok_then r _ _ (room_then state a.log b.log c.log ready) made.done;
+        full = λ e. lacks_after state a.log b.log c.log ready (made.full e);
+        device = λ e. fails_after state a.log b.log c.log ready (made.device e);
+        halted = λ e ne. halts_after state a.log b.log c.log ready (made.halted e (λ (t : b.log.halted ≡ true). absurd (cc)));
       }
 
   -- a commit behind them
@@ -151,26 +142,24 @@ module _ {D : Type 0} (state : D → DeviceState) where
   made_committed a b (Err fault) lawful running commit = made_uncommitted a b fault lawful running commit
 
   -- ---- the cleaner makes room
-  pub cleaned : (a : Store D) (h : LogState D) (r : Result Unit LogFault) → h.totals ≡ a.log.totals → OnOk r (cleaner.MakesRoom state a.log h)
-      → (IsErrOf r Full → cleaner.LacksRoom state a.log h) → (IsErrOf r Device → FailsRoom state a.log h)
+  pub cleaned : (a : Store D) (h : LogState D) (r : Result Unit LogFault) → h.totals ≡ a.log.totals → OnOk r (MakesRoom state a.log h)
+      → (IsErrOf r Full → LacksRoom state a.log h) → (IsErrOf r Device → FailsRoom state a.log h)
       → (IsErrOf r Halted → a.log.halted ≢ true → HaltsLater state a.log h (most_checkpoints a.log))
       → (a.log.halted ≡ true → (h ≡ a.log) × IsErrOf r Halted) → (HasQuarter a.log → h ≡ a.log) → Cleaned state a (record a { log = h }) r
   cleaned a h r totals done full device halted still quiet = record {
     room = record {
       keeps = record { draft = refl; totals = totals; drafted = refl };
-      done = ok_then r _ _ (room_cleaned state a.log h) done;
-      full = λ e. room_cleaned state a.log h (full e).makes;
-      never = λ e. cannot_clean state a.log h (full e).never;
-      kept = λ e. room_cleaned state a.log h (device e).makes;
-      failed = λ e. (device e).fault;
+      done = done;
+      full = full;
+      device = device;
       halted = halted;
     };
-    still = λ t. (let s = still t in (s.0, ap (λ (x : LogState D). x.saved) s.0, s.1));
-    quiet = λ quarter. (let same = quiet quarter in (same, ap (λ (x : LogState D). x.saved) same));
+    still = still;
+    quiet = quiet;
   }
 
   -- ---- a draft of a halted log
-  pub accepted_halted : (a : Store D) → a.log.halted ≡ true → Accepted state a a.log a.log.saved (Err (Log Halted))
+  pub accepted_halted : (a : Store D) → a.log.halted ≡ true → Accepted state a a.log (Err (Log Halted))
   accepted_halted a is = record {
     counted = tt;
     kept = refl;
@@ -183,7 +172,7 @@ module _ {D : Type 0} (state : D → DeviceState) where
     device = λ e. absurd (cc);
     failed = λ e. absurd (cc);
     halted = λ e ne. absurd (ne is);
-    still = λ t. (refl, refl, refl);
+    still = λ t. (refl, refl);
     quiet = λ room clean. refl;
     told = omega arith;
     one_commit = λ two. omega arith;
@@ -195,24 +184,24 @@ module _ {D : Type 0} (state : D → DeviceState) where
 
   -- ---- what holds however a draft ends, behind what readied the log
   module _ (a b : Store D) (running : a.log.halted ≡ false)
-      (quiet : HasRoomFor a.log a.draft.changes → HasClean a.log → b.log ≡ a.log)
+      (quiet : HasRoomFor a.log a.draft → HasClean a.log → b.log ≡ a.log)
       (told : length (state b.log.device).told
       ≤ length (state a.log.device).told + room_orders a.log.segments)
       (one_commit : HasCleanForTwo a.log → length (state b.log.device).told ≤ length (state a.log.device).told + commit_orders) where
     -- no room was made
     pub accepted_unready : (fault : LogFault) → RoomMade state a b (Err fault) → (log_error fault ≡ log_error Full → IsFull b.log)
-        → Accepted state a b.log b.log.saved (Err (Log fault))
+        → Accepted state a b.log (Err (Log fault))
     accepted_unready fault made lacks = record {
       counted = tt;
       kept = made.keeps.totals;
       done = tt;
-      full = λ e. declines_room state a.log b.log a.log.saved b.log.saved a.draft.changes running (made.full (as_log fault Full e));
+      full = λ e. declines_room state a.log b.log a.draft running (made.full (as_log fault Full e)).makes;
       lacks = λ e. lacks (as_log fault Full e);
-      never = λ e. made.never (as_log fault Full e);
+      never = λ e. (made.full (as_log fault Full e)).never;
       memory = λ e. absurd (cc);
       fits = λ e. absurd (cc);
-      device = λ e. declines_room state a.log b.log a.log.saved b.log.saved a.draft.changes running (made.kept (as_log fault Device e));
-      failed = λ e. room_fault state a.log b.log a.log.saved a.draft.changes (made.failed (as_log fault Device e));
+      device = λ e. declines_room state a.log b.log a.draft running (made.device (as_log fault Device e)).makes;
+      failed = λ e. room_fault state a.log b.log a.draft (made.device (as_log fault Device e)).fault;
       halted = λ e. made.halted (as_log fault Halted e);
       still = λ t. absurd (cc);
       quiet = λ room clean. ap (λ (h : LogState D). h.number) (quiet room clean);
@@ -222,40 +211,36 @@ module _ {D : Type 0} (state : D → DeviceState) where
 
     module _ (h : LogState D) (lawful : IsLawful (state b.log.device)) (made : RoomMade state a b (Ok tt)) (enough : HasClean b.log) where
       -- it is staged
-      pub accepted_staged : IsStaged state b.log h b.draft.changes → h.totals ≡ b.drafted → Accepted state a h h.saved (Ok tt)
-      accepted_staged s totals =
-          subst (λ (saved : Bool). Accepted state a h saved (Ok tt)) (sym s.unsaved)
-          (record {
-            counted = totals ∙ made.keeps.drafted;
-            kept = tt;
-            done = subst (λ (d : Draft). Accepts state a.log a.log.saved h false d.changes) made.keeps.draft
-                (accepts state a.log b.log h a.log.saved b.log.saved b.draft.changes lawful running made.done s.alters enough s);
-            full = λ e. absurd (cc);
-            lacks = λ e. absurd (cc);
-            never = λ e. absurd (cc);
-            memory = λ e. absurd (cc);
-            fits = λ e. absurd (cc);
-            device = λ e. absurd (cc);
-            failed = λ e. absurd (cc);
-            halted = λ e. absurd (cc);
-            still = λ t. absurd (cc);
-            quiet = λ room clean. s.alters.number ∙ ap (λ (x : LogState D). x.number) (quiet room clean);
-            told = no_more _ _ _ (ap length s.alters.looks.told) told;
-            one_commit = λ two. no_more _ _ _ (ap length s.alters.looks.told) (one_commit two);
-          })
+      pub accepted_staged : IsStaged state b.log h b.draft.changes → h.totals ≡ b.drafted → Accepted state a h (Ok tt)
+      accepted_staged s totals = record {
+        counted = totals ∙ made.keeps.drafted;
+        kept = tt;
+        done = subst (Accepts state a.log h) made.keeps.draft
+            (accepts state a.log b.log h b.draft lawful running made.done s.alters enough s);
+        full = λ e. absurd (cc);
+        lacks = λ e. absurd (cc);
+        never = λ e. absurd (cc);
+        memory = λ e. absurd (cc);
+        fits = λ e. absurd (cc);
+        device = λ e. absurd (cc);
+        failed = λ e. absurd (cc);
+        halted = λ e. absurd (cc);
+        still = λ t. absurd (cc);
+        quiet = λ room clean. s.alters.number ∙ ap (λ (x : LogState D). x.number) (quiet room clean);
+        told = no_more _ _ _ (ap length s.alters.looks.told) told;
+        one_commit = λ two. no_more _ _ _ (ap length s.alters.looks.told) (one_commit two);
+      }
 
       -- it is refused
       pub accepted_refused : (fault : StoreFault) → IsRefused state b.log h b.draft.changes → h.totals ≡ b.log.totals
           → (fault ≡ Log Full → ⊥) → (fault ≡ Log Halted → ⊥)
-          → (fault ≡ NoMemory → (a.log.saved ≡ true → IsAtRest a.log) → 456 < room_for b.draft.changes)
+          → (fault ≡ NoMemory → (a.log.saved ≡ true → IsAtRest a.log) → MOST_UNSAVED < asked_by b.draft)
           → (fault ≡ Log Device → IsStageFault state b.log h b.draft.changes)
-          → Accepted state a h h.saved (Err fault)
+          → Accepted state a h (Err fault)
       accepted_refused fault r totals some running' asks failed =
-          let declined : Declines state a.log a.log.saved h false a.draft.changes =
-          subst (λ (d : Draft). Declines state a.log a.log.saved h false d.changes) made.keeps.draft
-          (declines state a.log b.log h a.log.saved b.log.saved b.draft.changes lawful running made.done r.alters enough r) in
-          subst (λ (saved : Bool). Accepted state a h saved (store_error fault)) (sym (r.unsaved made.done.keeps.running))
-          (record {
+          let declined : Declines state a.log h a.draft = subst (Declines state a.log h) made.keeps.draft
+          (declines state a.log b.log h b.draft lawful running made.done r.alters enough r) in
+          record {
             counted = tt;
             kept = totals ∙ made.keeps.totals;
             done = tt;
@@ -263,13 +248,13 @@ module _ {D : Type 0} (state : D → DeviceState) where
             lacks = λ e. absurd (some (cc));
             never = λ e. absurd (some (cc));
             memory = λ e. declined;
-            fits = λ e rest. subst (λ (d : Draft). 456 < room_for d.changes) made.keeps.draft (asks (cc) rest);
+            fits = λ e rest. subst (λ (d : Draft). MOST_UNSAVED < asked_by d) made.keeps.draft (asks (cc) rest);
             device = λ e. declined;
-            failed = λ e. subst (λ (d : Draft). IsAcceptFault state a.log a.log.saved h d.changes) made.keeps.draft
-                (accept_fault state a.log b.log h a.log.saved b.log.saved b.draft.changes lawful running made.done r.alters (failed (cc)));
+            failed = λ e. subst (IsAcceptFault state a.log h) made.keeps.draft
+                (accept_fault state a.log b.log h b.draft lawful running made.done r.alters (failed (cc)));
             halted = λ e. absurd (running' (cc));
             still = λ t. absurd (cc);
             quiet = λ room clean. r.alters.number ∙ ap (λ (x : LogState D). x.number) (quiet room clean);
             told = no_more _ _ _ (ap length r.alters.looks.told) told;
             one_commit = λ two. no_more _ _ _ (ap length r.alters.looks.told) (one_commit two);
-          })
+          }

@@ -9,27 +9,25 @@ use Rattle.lfs_store.specs.declared.draft.Draft.{Draft}
 use Rattle.lfs_store.specs.declared.store.Store.{Store}
 use Rattle.lfs_store.specs.Keeping.{DraftsUncounted, OnlyCounts, ReadsLog, RedraftsStore, RedraftsUncounted}
 use Rattle.lfs_store.specs.Reading.{ReadsStore}
-use Rattle.lfs_store.proofs.LogReads.{fault_more, reads_none, reads_more}
+use Rattle.lfs_cleaner.proofs.of_log.LogReads.{fault_more, reads_none, reads_more}
 
 abbrev pub error_of : (T : Type 0) → LogFault → Result T LogFault
 error_of T fault = Err fault
 
 module _ {D : Type 0} (state : D → DeviceState) where
   pub uncounted_none : (a : Store D) → RedraftsUncounted state a a
-  uncounted_none a = record { reads = reads_none state a.log; saved = refl; drafted = refl }
+  uncounted_none a = record { reads = reads_none state a.log; drafted = refl }
 
   pub uncounted_then : (a b c : Store D) → IsLawful (state a.log.device) → RedraftsUncounted state a b → RedraftsUncounted state b c
       → RedraftsUncounted state a c
   uncounted_then a b c lawful one two = record {
     reads = reads_more state a.log b.log c.log lawful one.reads two.reads;
-    saved = two.saved ∙ one.saved;
     drafted = two.drafted ∙ one.drafted;
   }
 
   pub uncounted_drafts : (a b c : Store D) → RedraftsUncounted state a b → DraftsUncounted b c → RedraftsUncounted state a c
   uncounted_drafts a b c one two = record {
     reads = subst (λ (h : LogState D). Reads state a.log h) (sym two.log) one.reads;
-    saved = two.saved ∙ one.saved;
     drafted = two.drafted ∙ one.drafted;
   }
 
@@ -37,24 +35,23 @@ module _ {D : Type 0} (state : D → DeviceState) where
   drafts_uncounted a b one = uncounted_drafts a a b (uncounted_none a) one
 
   pub reads_uncounted : (a b : Store D) (d : Draft) → ReadsStore state a b → RedraftsUncounted state a (record b { draft = d })
-  reads_uncounted a b d one = record { reads = one.log; saved = one.saved; drafted = one.drafted }
+  reads_uncounted a b d one = record { reads = one.log; drafted = one.drafted }
 
   -- a file is measured, changed and measured again
   pub reads_redrafts : (a b : Store D) → ReadsStore state a b → RedraftsStore state a b
-  reads_redrafts a b one = record { reads = one.log; saved = one.saved }
+  reads_redrafts a b one = record { reads = one.log }
 
   pub measured_redrafts : (a b c : Store D) → IsLawful (state a.log.device) → ReadsStore state a b → RedraftsUncounted state b c
       → RedraftsStore state a c
   measured_redrafts a b c lawful one two = record {
     reads = reads_more state a.log b.log c.log lawful one.log two.reads;
-    saved = two.saved ∙ one.saved;
   }
 
   pub counted_redrafts : (a b c d : Store D) → IsLawful (state a.log.device) → ReadsStore state a b → RedraftsUncounted state b c
       → OnlyCounts state c d → RedraftsStore state a d
   counted_redrafts a b c d lawful one two three =
       let change = measured_redrafts a b c lawful one two in
-      record { reads = reads_more state a.log c.log d.log lawful change.reads three.reads; saved = three.saved ∙ change.saved }
+      record { reads = reads_more state a.log c.log d.log lawful change.reads three.reads }
 
   -- ---- a log that is only read
   pub looked_done : {T : Type 0} (h h' : LogState D) (x : T) → Reads state h h' → ReadsLog state h h' (Ok x)

@@ -16,7 +16,6 @@ pub mod Growths
 pub mod Runs
 pub mod Fitting
 pub mod Apart
-pub mod LogReads
 pub mod Writings
 pub mod Cuttings
 pub mod Makings
@@ -27,7 +26,6 @@ pub mod Leaves
 pub mod Measures
 pub mod Recountings
 pub mod Recounted
-pub mod Forgotten
 pub mod TreeTotals
 pub mod Shrunken
 pub mod Upgrades

@@ -25,7 +25,7 @@ use Rattle.lfs_store.specs.Measuring.{SaysStored, IsBetween, IsOff, KeepsBefore,
 use Rattle.lfs_store.specs.Measuring.{TellsDouble, CountsStored, CountsLeaves}
 use Rattle.lfs_model.specs.Totals.{leaves_in, stored_in}
 use Rattle.lfs_store.proofs.DraftedBlocks.{says_no_block}
-use Rattle.lfs_store.proofs.LogReads.{held_still, reads_none, reads_more}
+use Rattle.lfs_cleaner.proofs.of_log.LogReads.{held_still, reads_none, reads_more}
 use Rattle.lfs_cleaner.proofs.of_log.of_memory.Ranges.{passing, passing_none, passing_more, passing_same}
 use Rattle.lfs_store.proofs.Pointers.{double_is, leaves_same}
 

@@ -19,7 +19,7 @@ use Rattle.lfs_cleaner.specs.log.LogState.{LogState, Reads}
 use Rattle.lfs_store.specs.Measuring.{EndsBy, IsLeafRange, CountsStored, CountsLeaves, CountsPointers, Measures, TellsDouble}
 use Rattle.lfs_store.specs.Reading.{ReadsHeader}
 use Rattle.lfs_model.specs.Totals.{leaf_from, leaves_beside, leaves_in, stored_in, meta_of_file}
-use Rattle.lfs_store.proofs.LogReads.{held_still}
+use Rattle.lfs_cleaner.proofs.of_log.LogReads.{held_still}
 use Rattle.lfs_store.proofs.Leaves.{beside_none, beside_split, leaves_to_end}
 use Rattle.lfs_store.proofs.Measured.{CountedUpTo, Tells, counts_leaves}
 use Rattle.lfs_store.proofs.Pointers.{double_beside, double_found, double_none, pointers_all}

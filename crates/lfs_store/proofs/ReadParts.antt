@@ -17,7 +17,7 @@ use Rattle.lfs_cleaner.specs.log.memory.declared.changes.Changes.{Changes}
 use Rattle.lfs_cleaner.specs.log.memory.Batch.{staged}
 use Rattle.lfs_cleaner.specs.log.memory.Present.{BlockAnswer}
 use Rattle.lfs_cleaner.specs.log.LogState.{LogState, Holds, Reads}
-use Rattle.lfs_store.proofs.LogReads.{held_still, reads_more}
+use Rattle.lfs_cleaner.proofs.of_log.LogReads.{held_still, reads_more}
 use Rattle.lfs_store.specs.Reading.{ReadsBlock, ReadsPart, Appends}
 
 -- ---- a byte of a block

@@ -16,8 +16,6 @@ use Rattle.lfs_cleaner.specs.log.memory.Present.{as_header}
 use Rattle.lfs_cleaner.specs.log.memory.Removing.{without_file}
 use Rattle.lfs_cleaner.proofs.of_log.of_memory.LogMaps.{is_with_header}
 use Rattle.lfs_cleaner.proofs.of_log.of_memory.Presents.{looks_then}
-use Rattle.lfs_cleaner.specs.log.segments.Table.{clean_in}
-use Rattle.lfs_cleaner.specs.log.memory.declared.memory.LogMemory.{LogMemory}
 use Rattle.lfs_cleaner.specs.log.LogState.{LogState, Reads, Alters, IsKept, IsRemoved}
 use Rattle.lfs_cleaner.specs.log.segments.Early.{AreUntaken}
 use Rattle.lfs_store.specs.declared.totals.Measure.{Measure}
@@ -29,7 +27,7 @@ use Rattle.lfs_model.specs.Totals.{HasMeasure, meta_of_file, data_in, meta_in}
 use Rattle.lfs_store.specs.Writing.{Writes, SetsLen}
 use Rattle.lfs_store.proofs.Apart.{no_change}
 use Rattle.lfs_store.proofs.Leaves.{beside_none}
-use Rattle.lfs_store.proofs.LogReads.{held_still}
+use Rattle.lfs_cleaner.proofs.of_log.LogReads.{held_still}
 use Rattle.lfs_store.proofs.Makings.{changed_header, without_header, without_changed}
 use Rattle.lfs_store.proofs.Measures.{nothing_stored, stored_nothing}
 use Rattle.lfs_store.proofs.Recountings.{counts, recounted, same_high}
@@ -187,10 +185,9 @@ module _ {D : Type 0} (state : D → DeviceState) where
     version = reads.version;
     upgraded = reads.upgraded;
     halted = reads.halted;
-    segments = ap (λ v. length v.usage.segments) reads.memory;
-    clean = ap (λ v. clean_in v.usage.segments) reads.memory;
-    capacity = ap (λ v. v.dirty.capacity) reads.memory;
-    few = let same = ap (λ v. length v.dirty.blocks) reads.memory in omega (arith, same);
+    segments = reads.segments;
+    clean = reads.clean;
+    few = let same = reads.waiting in omega (arith, same);
   }
 
   alters_more : (h a h' : LogState D) → IsLawful (state h.device) → Reads state h a → Alters state a h' 0 false → Alters state h h' 0 false
@@ -200,14 +197,13 @@ module _ {D : Type 0} (state : D → DeviceState) where
     version = alters.version ∙ reads.version;
     upgraded = alters.upgraded ∙ reads.upgraded;
     halted = alters.halted ∙ reads.halted;
-    segments = alters.segments ∙ ap (λ v. length v.usage.segments) reads.memory;
-    clean = alters.clean ∙ ap (λ v. clean_in v.usage.segments) reads.memory;
-    capacity = alters.capacity ∙ ap (λ v. v.dirty.capacity) reads.memory;
-    few = let same = ap (λ v. length v.dirty.blocks) reads.memory in let few = alters.few in omega (arith, same, few);
+    segments = alters.segments ∙ reads.segments;
+    clean = alters.clean ∙ reads.clean;
+    few = let same = reads.waiting in let few = alters.few in omega (arith, same, few);
   }
 
   untaken_read : (h a : LogState D) → Reads state h a → AreUntaken h.usage → AreUntaken a.usage
-  untaken_read h a reads = subst (λ (v : LogMemory). AreUntaken v.usage) (sym reads.memory)
+  untaken_read h a reads = subst AreUntaken (sym reads.usage)
 
   pub kept_read : (h a : LogState D) → Reads state h a → IsKept state h a
   kept_read h a reads = record {

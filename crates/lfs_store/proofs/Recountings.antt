@@ -20,7 +20,7 @@ use Rattle.lfs_store.specs.Measuring.{Measures}
 use Rattle.lfs_store.specs.Recounting.{Replaces, AreTotals, Recounts, Remeasures, Counts}
 use Rattle.lfs_model.specs.Totals.{stored_in, data_of_file, meta_of_file, sum_upto, data_in, meta_in, HasMeasure}
 use Rattle.lfs_store.proofs.Leaves.{beside_same}
-use Rattle.lfs_store.proofs.LogReads.{held_still}
+use Rattle.lfs_cleaner.proofs.of_log.LogReads.{held_still}
 use Rattle.lfs_cleaner.proofs.of_log.of_memory.Ranges.{passing, passing_first, passing_none}
 use Rattle.lfs_store.proofs.Summing.{stored_all, totals_of_change}
 

@@ -27,7 +27,7 @@ use Rattle.lfs_store.specs.Reading.{ReadsBlock}
 use Rattle.lfs_store.specs.Recounting.{Counts, Remeasures}
 use Rattle.lfs_store.specs.Shrinking.{ClearsTail, HasNoneBehind, Shrinks, TakesShrink}
 use Rattle.lfs_store.specs.Writing.{SizesFile, resized}
-use Rattle.lfs_store.proofs.LogReads.{held_still}
+use Rattle.lfs_cleaner.proofs.of_log.LogReads.{held_still}
 use Rattle.lfs_store.proofs.PiecesCut.{cut_between, cut_blocks_heads, cut_inside, cut_is_done}
 use Rattle.lfs_store.proofs.PiecesStored.{block_apart, changed_none, changed_twice, other_block, stored_reads, stored_whole}
 use Rattle.lfs_store.proofs.Recountings.{counts}

@@ -26,15 +26,15 @@ use Rattle.lfs_store.specs.Reading.{ReadsPart}
 use Rattle.lfs_store.specs.Recounting as counts
 use Rattle.lfs_store.specs.Seen.{HasMap, StagedLog, counted_of, state_of}
 use Rattle.lfs_store.proofs.Apart.{no_change}
-use Rattle.lfs_store.proofs.LogReads.{held_still, reads_none}
+use Rattle.lfs_cleaner.proofs.of_log.LogReads.{held_still, reads_none}
 use Rattle.lfs_store.proofs.Writings.{header_put}
 
-module _ {D : Type 0} (state : D → DeviceState) (h h' : LogState D) (d d' : Draft) (v v' : Bool) (u u' : BlockTotals) where
+module _ {D : Type 0} (state : D → DeviceState) (h h' : LogState D) (d d' : Draft) (u u' : BlockTotals) where
   abbrev S : FilesState StagedLog Draft
-  S = state_of state h d v u
+  S = state_of state h d u
 
   abbrev S' : FilesState StagedLog Draft
-  S' = state_of state h' d' v' u'
+  S' = state_of state h' d' u'
 
   -- ---- reading
   pub seen_part : (n from to : ℕ) (bytes : List ℕ) → ReadsPart state h h' d.changes n from to bytes → files.TellsPart S S' n from to bytes

@@ -15,7 +15,6 @@ use Rattle.lfs_files.specs.Files.{FilesState, asked_by_directory, HasShrunk, Has
 use Rattle.lfs_files.specs.Files.{TakesWrite, WritesFile}
 use Rattle.lfs_files.specs.Headers.{HeaderAnswer, as_header, reformed, resized}
 use Rattle.lfs_cleaner.specs.log.memory.declared.batch.Loss.{Loss}
-use Rattle.lfs_cleaner.specs.log.memory.declared.memory.LogMemory.{LogMemory}
 use Rattle.lfs_cleaner.specs.log.memory.Batch.{FitsBatch, IsNoChange, is_lost, room_for, staged}
 use Rattle.lfs_cleaner.specs.log.LogState as held
 use Rattle.lfs_cleaner.specs.log.LogState.{LogState, Holds, IsReadFault}
@@ -33,28 +32,27 @@ use Rattle.lfs_cleaner.proofs.of_log.Unsaved.{none_left}
 use Rattle.lfs_store.proofs.Apart.{no_change}
 use Rattle.lfs_store.proofs.Growths.{room_few}
 use Rattle.lfs_store.proofs.Recounted.{relinked_totals}
-use Rattle.lfs_store.proofs.LogReads.{held_still}
+use Rattle.lfs_cleaner.proofs.of_log.LogReads.{held_still}
 use Rattle.lfs_store.proofs.Writings.{block_read, header_put, takes_header}
 
-module _ {D : Type 0} (state : D → DeviceState) (h h' : LogState D) (d d' : Draft) (v v' : Bool) (u u' : BlockTotals) where
+module _ {D : Type 0} (state : D → DeviceState) (h h' : LogState D) (d d' : Draft) (u u' : BlockTotals) where
   abbrev S : FilesState StagedLog Draft
-  S = state_of state h d v u
+  S = state_of state h d u
 
   abbrev S' : FilesState StagedLog Draft
-  S' = state_of state h' d' v' u'
+  S' = state_of state h' d' u'
 
   same_staged : held.Reads state h h' → S'.staged ≡ S.staged
   same_staged reads =
-      ap₂ (λ (x : LogMemory) (n : ℕ). record { memory = x; number = n; version = h'.version; upgraded = h'.upgraded }) reads.memory
-      reads.number
-      ∙ ap₂ (λ (n : ℕ) (b : Bool). record { memory = h.memory; number = h.number; version = n; upgraded = b }) reads.version reads.upgraded
+      rw (reads.halted, reads.number, reads.version, reads.upgraded, reads.saved, reads.unsaved, reads.totals, reads.segments, reads.clean,
+      reads.emptied, reads.waiting, reads.file_data, reads.usage, reads.inner) refl
 
   -- ---- reading
-  pub seen_read : held.Reads state h h' → d' ≡ d → v' ≡ v → u' ≡ u → files.Reads S S'
-  seen_read reads same saved drafted = record {
+  pub seen_read : held.Reads state h h' → d' ≡ d → u' ≡ u → files.Reads S S'
+  seen_read reads same drafted = record {
     looks = reads.looks;
     halted = reads.halted;
-    saved = saved;
+    saved = reads.saved;
     staged = same_staged reads;
     draft = same;
     totals = ap counted_of reads.totals;
@@ -98,11 +96,11 @@ module _ {D : Type 0} (state : D → DeviceState) (h h' : LogState D) (d d' : Dr
   seen_block_then n i out (Err e) long blank answer = record {}
 
   -- ---- changing the draft
-  pub seen_redraft : held.Reads state h h' → v' ≡ v → files.Redrafts S S'
-  seen_redraft reads saved = record {
+  pub seen_redraft : held.Reads state h h' → files.Redrafts S S'
+  seen_redraft reads = record {
     looks = reads.looks;
     halted = reads.halted;
-    saved = saved;
+    saved = reads.saved;
     staged = same_staged reads;
     totals = ap counted_of reads.totals;
   }

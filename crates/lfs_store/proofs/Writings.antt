@@ -25,7 +25,7 @@ use Rattle.lfs_store.specs.Drafting.{PutsBlock, PutsHeader, TakesBlock, TakesHea
 use Rattle.lfs_store.specs.Pieces.{HoldsBlock, BlockOverlays, WriteSoFar}
 use Rattle.lfs_store.specs.Reading.{ReadsBlock}
 use Rattle.lfs_store.specs.Writing.{ReadsBeneath, resized, WritesFile, WritesBlock, Writes, TakesWrite}
-use Rattle.lfs_store.proofs.LogReads.{held_still, reads_more}
+use Rattle.lfs_cleaner.proofs.of_log.LogReads.{held_still, reads_more}
 use Rattle.lfs_store.proofs.PiecesRead.{last_block}
 use Rattle.lfs_store.proofs.PiecesStored.{other_block}
 use Rattle.lfs_store.proofs.PiecesWritten.{write_begins, write_goes_on, write_heads, write_is_done}

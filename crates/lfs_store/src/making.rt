@@ -230,8 +230,8 @@ impl<D: SectorDevice> Store<D> {
         requires empty { IsNoChange self.old.draft.changes }
         ensures done { OnOk result (IsRemoved D.SectorDevice.state self.old.log self.new.log
             number.value) }
-        ensures stores { OnOk result (Forgets D.SectorDevice.state self.old.log self.old.log.saved
-            self.new.log number.value) }
+        ensures stores { OnOk result (Forgets D.SectorDevice.state self.old.log self.new.log
+            number.value) }
         ensures kept { OnErr result (IsKept D.SectorDevice.state self.old.log self.new.log) }
         ensures draft { self.new.draft ≡ self.old.draft }
         ensures counted { OnOk result (CountsGone D.SectorDevice.state self.old.log self.new.log

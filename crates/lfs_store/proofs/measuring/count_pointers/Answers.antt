@@ -5,7 +5,7 @@ use Rattle.lfs_store.specs.Keeping.{ReadsLog}
 use Rattle.lfs_store.specs.Measuring.{CountsPointers}
 use Rattle.lfs_store.proofs.Endings.{same_exit}
 use Rattle.lfs_store.proofs.Keepings.{looked_done, looked_fails}
-use Rattle.lfs_store.proofs.LogReads.{reads_more, reads_none}
+use Rattle.lfs_cleaner.proofs.of_log.LogReads.{reads_more, reads_none}
 use Rattle.lfs_store.proofs.Measures.{counts_below, counts_pointers}
 use Rattle.lfs_store.proofs.measuring.count_pointers.Goals as goal
 

@@ -7,7 +7,7 @@ use Rattle.lfs_store.specs.Keeping.{ReadsLog}
 use Rattle.lfs_store.specs.Measuring.{TellsLeaf}
 use Rattle.lfs_store.proofs.Endings.{same_exit}
 use Rattle.lfs_store.proofs.Keepings.{looked_done, looked_fails}
-use Rattle.lfs_store.proofs.LogReads.{reads_more}
+use Rattle.lfs_cleaner.proofs.of_log.LogReads.{reads_more}
 use Rattle.lfs_store.proofs.Measured.{counted_more, counted_none, log_double}
 use Rattle.lfs_store.proofs.Measures.{double_missed, double_told}
 use Rattle.lfs_store.proofs.Pointers.{leaves_cover}

@@ -5,7 +5,7 @@ use Rattle.lfs_store.specs.Keeping.{ReadsLog}
 use Rattle.lfs_store.specs.Measuring.{TellsStored}
 use Rattle.lfs_store.proofs.Endings.{same_exit}
 use Rattle.lfs_store.proofs.Keepings.{looked_done, looked_fails}
-use Rattle.lfs_store.proofs.LogReads.{reads_more, reads_none}
+use Rattle.lfs_cleaner.proofs.of_log.LogReads.{reads_more, reads_none}
 use Rattle.lfs_store.proofs.Measured.{log_leaf, searched_none, searched_more, leaf_found, leaf_empty}
 use Rattle.lfs_store.proofs.measuring.has_leaf.Goals as goal
 

@@ -1,5 +1,5 @@
 use Rattle.lfs_store.proofs.Keepings.{looked_done}
-use Rattle.lfs_store.proofs.LogReads.{reads_none}
+use Rattle.lfs_cleaner.proofs.of_log.LogReads.{reads_none}
 use Rattle.lfs_store.proofs.Measured.{log_stored}
 use Rattle.lfs_store.proofs.measuring.is_stored.Goals as goal
 

@@ -1,5 +1,5 @@
 use Rattle.lfs_store.proofs.Keepings.{looked_done}
-use Rattle.lfs_store.proofs.LogReads.{reads_none}
+use Rattle.lfs_cleaner.proofs.of_log.LogReads.{reads_none}
 use Rattle.lfs_store.proofs.Readings.{log_block}
 use Rattle.lfs_store.proofs.reading.read_block.Goals as goal
 

@@ -4,7 +4,7 @@ use Rattle.lfs_cleaner.specs.log.LogState.{IsReadFault}
 use Rattle.lfs_files.specs.declared.fault.StoreFault.{StoreFault}
 use Rattle.lfs_files.specs.declared.fault.StoreFault.TheVariants.{NoMemory}
 use Rattle.lfs_store.proofs.Endings.{same_exit}
-use Rattle.lfs_store.proofs.LogReads.{fault_more}
+use Rattle.lfs_cleaner.proofs.of_log.LogReads.{fault_more}
 use Rattle.lfs_store.proofs.ReadParts.{ReadUpTo, read_more, reads_part}
 use Rattle.lfs_store.proofs.reading.read_part.Goals as goal
 

@@ -4,7 +4,7 @@ use Rattle.lfs_files.specs.declared.fault.LogFault.{LogFault}
 use Rattle.lfs_store.specs.Keeping.{ReadsLog}
 use Rattle.lfs_store.proofs.Endings.{same_exit}
 use Rattle.lfs_store.proofs.Keepings.{looked_done, looked_fails}
-use Rattle.lfs_store.proofs.LogReads.{reads_none}
+use Rattle.lfs_cleaner.proofs.of_log.LogReads.{reads_none}
 use Rattle.lfs_store.proofs.Writings.{read_beneath}
 use Rattle.lfs_store.proofs.writing.block_beneath.Goals as goal
 

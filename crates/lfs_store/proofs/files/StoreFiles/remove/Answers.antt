@@ -7,26 +7,26 @@ use Rattle.lfs_store.proofs.files.StoreFiles.remove.Goals as goal
 pub returns-clause-redrafts : goal.returns-clause-redrafts
 returns-clause-redrafts g c =
     seen_redraft g.D.SectorDevice.state c.args.self.now.log c.remove.new.self.log c.args.self.now.draft c.remove.new.self.draft
-    c.args.self.now.log.saved c.remove.new.self.log.saved c.args.self.now.drafted c.remove.new.self.drafted
-    c.remove.ensures.redrafts.reads c.remove.ensures.redrafts.saved
+    c.args.self.now.drafted c.remove.new.self.drafted
+    c.remove.ensures.redrafts.reads
 
 pub returns-clause-done : goal.returns-clause-done
 returns-clause-done g c =
     ok_then c.remove.result _ _
     (seen_removed g.D.SectorDevice.state c.args.self.now.log c.remove.new.self.log c.args.self.now.draft c.remove.new.self.draft
-    c.args.self.now.log.saved c.remove.new.self.log.saved c.args.self.now.drafted c.remove.new.self.drafted
+    c.args.self.now.drafted c.remove.new.self.drafted
     c.args.number.value c.requires.empty c.remove.ensures.redrafts.reads) c.remove.ensures.done
 
 pub returns-clause-counted : goal.returns-clause-counted
 returns-clause-counted g c =
     ok_then c.remove.result _ _
     (seen_counts g.D.SectorDevice.state c.args.self.now.log c.remove.new.self.log c.args.self.now.draft c.remove.new.self.draft
-    c.args.self.now.log.saved c.remove.new.self.log.saved c.args.self.now.drafted c.remove.new.self.drafted)
+    c.args.self.now.drafted c.remove.new.self.drafted)
     c.remove.ensures.counted
 
 pub returns-clause-failed : goal.returns-clause-failed
 returns-clause-failed g c =
     on_err_weaker c.remove.result
     (seen_fault g.D.SectorDevice.state c.args.self.now.log c.remove.new.self.log c.args.self.now.draft c.remove.new.self.draft
-    c.args.self.now.log.saved c.remove.new.self.log.saved c.args.self.now.drafted c.remove.new.self.drafted)
+    c.args.self.now.drafted c.remove.new.self.drafted)
     c.remove.ensures.failed

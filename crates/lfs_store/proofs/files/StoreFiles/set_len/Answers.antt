@@ -5,25 +5,25 @@ use Rattle.lfs_store.proofs.files.StoreFiles.set_len.Goals as goal
 pub returns-clause-redrafts : goal.returns-clause-redrafts
 returns-clause-redrafts g c =
     seen_redraft g.D.SectorDevice.state c.args.self.now.log c.set_len.new.self.log c.args.self.now.draft c.set_len.new.self.draft
-    c.args.self.now.log.saved c.set_len.new.self.log.saved c.args.self.now.drafted c.set_len.new.self.drafted
-    c.set_len.ensures.redrafts.reads c.set_len.ensures.redrafts.saved
+    c.args.self.now.drafted c.set_len.new.self.drafted
+    c.set_len.ensures.redrafts.reads
 
 pub returns-clause-done : goal.returns-clause-done
 returns-clause-done g c =
     ok_then c.set_len.result _ _
     (seen_sized g.D.SectorDevice.state c.args.self.now.log c.set_len.new.self.log c.args.self.now.draft c.set_len.new.self.draft
-    c.args.self.now.log.saved c.set_len.new.self.log.saved c.args.self.now.drafted c.set_len.new.self.drafted
+    c.args.self.now.drafted c.set_len.new.self.drafted
     c.args.number.value c.args.header c.args.len c.requires.empty c.set_len.ensures.redrafts.reads) c.set_len.ensures.done
 
 pub returns-clause-counted : goal.returns-clause-counted
 returns-clause-counted g c =
     ok_then c.set_len.result _ _
     (seen_counts g.D.SectorDevice.state c.args.self.now.log c.set_len.new.self.log c.args.self.now.draft c.set_len.new.self.draft
-    c.args.self.now.log.saved c.set_len.new.self.log.saved c.args.self.now.drafted c.set_len.new.self.drafted)
+    c.args.self.now.drafted c.set_len.new.self.drafted)
     c.set_len.ensures.counted
 
 pub returns-clause-failed : goal.returns-clause-failed
 returns-clause-failed g c =
     seen_fault_by g.D.SectorDevice.state c.args.self.now.log c.set_len.new.self.log c.args.self.now.draft c.set_len.new.self.draft
-    c.args.self.now.log.saved c.set_len.new.self.log.saved c.args.self.now.drafted c.set_len.new.self.drafted
+    c.args.self.now.drafted c.set_len.new.self.drafted
     _ c.set_len.result c.set_len.ensures.failed

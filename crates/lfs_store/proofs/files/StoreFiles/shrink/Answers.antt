@@ -5,25 +5,25 @@ use Rattle.lfs_store.proofs.files.StoreFiles.shrink.Goals as goal
 pub returns-clause-redrafts : goal.returns-clause-redrafts
 returns-clause-redrafts g c =
     seen_redraft g.D.SectorDevice.state c.args.self.now.log c.shrink.new.self.log c.args.self.now.draft c.shrink.new.self.draft
-    c.args.self.now.log.saved c.shrink.new.self.log.saved c.args.self.now.drafted c.shrink.new.self.drafted
-    c.shrink.ensures.redrafts.reads c.shrink.ensures.redrafts.saved
+    c.args.self.now.drafted c.shrink.new.self.drafted
+    c.shrink.ensures.redrafts.reads
 
 pub returns-clause-done : goal.returns-clause-done
 returns-clause-done g c =
     ok_then c.shrink.result _ _
     (seen_shrunk g.D.SectorDevice.state c.args.self.now.log c.shrink.new.self.log c.args.self.now.draft c.shrink.new.self.draft
-    c.args.self.now.log.saved c.shrink.new.self.log.saved c.args.self.now.drafted c.shrink.new.self.drafted
+    c.args.self.now.drafted c.shrink.new.self.drafted
     c.args.number.value c.args.header c.args.len c.shrink.ensures.redrafts.reads) c.shrink.ensures.done
 
 pub returns-clause-counted : goal.returns-clause-counted
 returns-clause-counted g c =
     ok_then c.shrink.result _ _
     (seen_counts g.D.SectorDevice.state c.args.self.now.log c.shrink.new.self.log c.args.self.now.draft c.shrink.new.self.draft
-    c.args.self.now.log.saved c.shrink.new.self.log.saved c.args.self.now.drafted c.shrink.new.self.drafted)
+    c.args.self.now.drafted c.shrink.new.self.drafted)
     c.shrink.ensures.counted
 
 pub returns-clause-failed : goal.returns-clause-failed
 returns-clause-failed g c =
     seen_fault_by g.D.SectorDevice.state c.args.self.now.log c.shrink.new.self.log c.args.self.now.draft c.shrink.new.self.draft
-    c.args.self.now.log.saved c.shrink.new.self.log.saved c.args.self.now.drafted c.shrink.new.self.drafted
+    c.args.self.now.drafted c.shrink.new.self.drafted
     _ c.shrink.result c.shrink.ensures.failed

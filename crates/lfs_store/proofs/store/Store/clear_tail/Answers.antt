@@ -16,9 +16,9 @@ returns-clause-done g c =
 pub returns-in-Err-clause-redrafts : goal.returns-in-Err-clause-redrafts
 returns-in-Err-clause-redrafts g c =
     let reads = c.block.ensures.reads in
-    record { reads = reads.log; saved = reads.saved; drafted = reads.drafted }
+    record { reads = reads.log; drafted = reads.drafted }
 
 pub returns-clause-redrafts : goal.returns-clause-redrafts
 returns-clause-redrafts g c =
     let reads = c.block.ensures.reads in
-    record { reads = reads.log; saved = reads.saved; drafted = reads.drafted }
+    record { reads = reads.log; drafted = reads.drafted }

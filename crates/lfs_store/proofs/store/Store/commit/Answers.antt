@@ -1,7 +1,6 @@
 use Rattle.std.specs.Prelude.{Result}
-use Rattle.std.proofs.Common.{◌≡◌, Bool, true, false, refl, sym, ◌∙◌, subst}
+use Rattle.std.proofs.Common.{◌≡◌, true, false, refl, sym, ◌∙◌}
 use Rattle.lfs_files.specs.declared.fault.LogFault.{LogFault}
-use Rattle.lfs_store.specs.Accepting.{Commits, Readies}
 use Rattle.lfs_store.specs.Outcomes.{Committed}
 use Rattle.lfs_store.proofs.Acceptings.{commits_log, readies_saves}
 use Rattle.lfs_store.proofs.Endings.{committed_halted, committed_saved, same_exit, still_unsaved}
@@ -47,14 +46,9 @@ returns g c =
     let unsaved : c.args.self.now.log.saved ≡ false = sym c.is_saved.ensures.value ∙ c.if-is_saved.false in
     record {
       keeps = record { draft = refl; totals = c.in_ok-commit.ensures.totals; drafted = refl };
-      done = subst (λ (saved : Bool). Commits g.D.SectorDevice.state c.args.self.now.log saved c.commit.new.self) (sym unsaved)
-          (commits_log g.D.SectorDevice.state c.args.self.now.log c.commit.new.self running c.in_ok-commit.ensures.done);
-      ready =
-          subst (λ (saved : Bool). Readies g.D.SectorDevice.state c.args.self.now.log saved c.commit.new.self c.commit.new.self.saved)
-          (sym unsaved)
-          (subst (λ (saved : Bool). Readies g.D.SectorDevice.state c.args.self.now.log false c.commit.new.self saved)
-          (sym c.in_ok-commit.ensures.done.saved) (readies_saves g.D.SectorDevice.state c.args.self.now.log c.commit.new.self
-          c.in_ok-commit.ensures.done c.in_ok-commit.ensures.totals));
+      done = commits_log g.D.SectorDevice.state c.args.self.now.log c.commit.new.self running unsaved c.in_ok-commit.ensures.done;
+      ready = readies_saves g.D.SectorDevice.state c.args.self.now.log c.commit.new.self unsaved
+          c.in_ok-commit.ensures.done c.in_ok-commit.ensures.totals;
       saved = c.in_ok-commit.ensures.done.saved;
       saves = λ was. c.in_ok-commit.ensures.done;
       same = tt;

@@ -8,7 +8,7 @@ use Rattle.lfs_store.specs.Drafting.{PutsHeader}
 use Rattle.std.specs.Int.{div_ceil}
 use Rattle.lfs_store.specs.Growing.{IsRun}
 use Rattle.lfs_store.specs.Writing.{Writes, resized}
-use Rattle.lfs_store.proofs.LogReads.{reads_none, fault_more}
+use Rattle.lfs_cleaner.proofs.of_log.LogReads.{reads_none, fault_more}
 use Rattle.lfs_store.proofs.Keepings.{uncounted_drafts, uncounted_none, uncounted_then}
 use Rattle.lfs_store.proofs.Writings.{written_none, written_more, written}
 use Rattle.lfs_store.proofs.Runs.{blocks_few, blocks_most, lone_room, run_goes_on, written_room}

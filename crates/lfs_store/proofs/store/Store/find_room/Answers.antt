@@ -2,7 +2,8 @@ use Rattle.std.specs.Prelude.{Result}
 use Rattle.lfs_files.specs.declared.fault.LogFault.{LogFault}
 use Rattle.lfs_cleaner.proofs.of_log.of_memory.Going.{ok_then}
 use Rattle.lfs_store.specs.Outcomes.{RoomMade}
-use Rattle.lfs_store.proofs.Acceptings.{halts_first, readies_none}
+use Rattle.lfs_cleaner.proofs.RoomBounds.{halts_first}
+use Rattle.lfs_store.proofs.Acceptings.{readies_none}
 use Rattle.lfs_store.proofs.EarlyRoom.{readies_then}
 use Rattle.lfs_store.proofs.Endings.{made_committed, made_none, made_ready, made_then, same_exit}
 use Rattle.lfs_store.proofs.store.Store.find_room.Goals as goal
@@ -13,7 +14,7 @@ returns-then-has_room-clause-makes g c =
 
 pub returns-then-has_room-clause-ready : goal.returns-then-has_room-clause-ready
 returns-then-has_room-clause-ready g c =
-    readies_none g.D.SectorDevice.state c.args.self.now.log c.args.self.now.log.saved
+    readies_none g.D.SectorDevice.state c.args.self.now.log
     (g.met.D.SectorDevice.lawful c.args.self.now.log.device)
     c.requires
 
@@ -25,10 +26,8 @@ returns-in_err-write_early-clause-makes g c =
       keeps = c.write_early.ensures.keeps;
       done = tt;
       full = λ e. absurd (c.in_err-write_early.ensures.full e);
-      never = λ e. absurd (c.in_err-write_early.ensures.full e);
-      kept = λ e. absurd (c.in_err-write_early.ensures.other e);
-      failed = λ e. absurd (c.in_err-write_early.ensures.other e);
-      halted = λ e ne. halts_first g.D.SectorDevice.state c.args.self.now.log c.write_early.new.self.log c.args.self.now.log.saved
+      device = λ e. absurd (c.in_err-write_early.ensures.other e);
+      halted = λ e ne. halts_first g.D.SectorDevice.state c.args.self.now.log c.write_early.new.self.log
           (c.in_err-write_early.ensures.halted e);
     })
 
@@ -47,5 +46,5 @@ pub returns-clause-ready : goal.returns-clause-ready
 returns-clause-ready g c =
     ok_then c.commit.result _ _
     (λ ready.
-    readies_then g.D.SectorDevice.state c.args.self.now.log c.write_early.new.self.log c.commit.new.self.log c.args.self.now.log.saved
-    c.write_early.new.self.log.saved c.commit.new.self.log.saved c.in_ok-write_early.ensures.done ready) c.commit.ensures.ready
+    readies_then g.D.SectorDevice.state c.args.self.now.log c.write_early.new.self.log c.commit.new.self.log
+    c.in_ok-write_early.ensures.done ready) c.commit.ensures.ready

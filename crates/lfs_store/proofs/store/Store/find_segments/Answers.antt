@@ -11,12 +11,12 @@ returns-in-Ok-clause-makes g c =
     record {
       keeps = room.keeps;
       done = where_ok c.check_segments.result _ room.done;
-      full = λ e. room.done;
-      never = λ e.
-          cannot_lack g.D.SectorDevice.state c.args.self.now.log c.clean.new.self.log c.args.self.now.log.saved c.clean.new.self.log.saved
-          (g.met.D.SectorDevice.lawful c.clean.new.self.log.device) room.done c.in-Ok.ensures.enough (c.check_segments.ensures.lacks e);
-      kept = λ e. absurd (c.check_segments.ensures.device e);
-      failed = λ e. absurd (c.check_segments.ensures.device e);
+      full = λ e. record {
+        makes = room.done;
+        never = cannot_lack g.D.SectorDevice.state c.args.self.now.log c.clean.new.self.log
+            (g.met.D.SectorDevice.lawful c.clean.new.self.log.device) room.done c.in-Ok.ensures.enough (c.check_segments.ensures.lacks e);
+      };
+      device = λ e. absurd (c.check_segments.ensures.device e);
       halted = λ e. absurd (c.check_segments.ensures.halted e);
     }
 
@@ -25,11 +25,9 @@ returns-in-Err-Full-clause-makes g c =
     let room = c.in-Err-Full.ensures.cleans.room in
     record {
       keeps = room.keeps;
-      done = where_ok c.check_segments-in-Err-Full.result _ (room.full (search rules));
+      done = where_ok c.check_segments-in-Err-Full.result _ (room.full (search rules)).makes;
       full = λ e. room.full (search rules);
-      never = λ e. room.never (search rules);
-      kept = λ e. absurd (c.check_segments-in-Err-Full.ensures.device e);
-      failed = λ e. absurd (c.check_segments-in-Err-Full.ensures.device e);
+      device = λ e. absurd (c.check_segments-in-Err-Full.ensures.device e);
       halted = λ e. absurd (c.check_segments-in-Err-Full.ensures.halted e);
     }
 

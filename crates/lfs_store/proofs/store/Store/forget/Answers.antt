@@ -5,8 +5,7 @@ use Rattle.lfs_store.specs.Recounting.{CountsGone, Recounts}
 use Rattle.lfs_cleaner.specs.log.LogState.{IsKept, IsReadFault}
 use Rattle.lfs_files.specs.declared.fault.LogFault.{LogFault}
 use Rattle.lfs_store.proofs.Endings.{same_exit}
-use Rattle.lfs_store.proofs.Forgotten.{forgets}
-use Rattle.lfs_store.proofs.LogReads.{fault_more}
+use Rattle.lfs_cleaner.proofs.of_log.LogReads.{fault_more}
 use Rattle.lfs_store.proofs.Recounted.{gone_counts, kept_read, kept_more, removed_more}
 use Rattle.lfs_store.proofs.store.Store.forget.Goals as goal
 
@@ -51,7 +50,6 @@ returns-clause-counted g c =
     c.in_ok-remove.ensures.done.alters recounts)
 
 pub returns-clause-stores : goal.returns-clause-stores
-returns-clause-stores g c =
-    forgets g.D.SectorDevice.state c.args.self.now.log c.remove.new.self c.args.self.now.log.saved c.args.number.value
+returns-clause-stores g c k m0 m keeps is off =
     (removed_more g.D.SectorDevice.state c.args.self.now.log c.measure.new.self.log c.remove.new.self c.args.number.value
-    (g.met.D.SectorDevice.lawful c.args.self.now.log.device) c.measure.ensures.reads.log c.in_ok-remove.ensures.done)
+    (g.met.D.SectorDevice.lawful c.args.self.now.log.device) c.measure.ensures.reads.log c.in_ok-remove.ensures.done).holds k m0 m keeps is

@@ -8,7 +8,7 @@ use Rattle.lfs_store.proofs.Endings.{same_exit}
 use Rattle.lfs_store.specs.declared.draft.Draft.{Draft}
 use Rattle.lfs_store.specs.Measuring.{CountsStored, CountsPointers}
 use Rattle.lfs_store.specs.Reading.{ReadsHeader}
-use Rattle.lfs_store.proofs.LogReads.{fault_more, reads_more}
+use Rattle.lfs_cleaner.proofs.of_log.LogReads.{fault_more, reads_more}
 use Rattle.lfs_store.proofs.Measures.{absent, measured}
 use Rattle.lfs_store.proofs.store.Store.measure.Goals as goal
 

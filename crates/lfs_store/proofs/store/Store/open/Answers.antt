@@ -1,8 +1,8 @@
-use Rattle.lfs_store.proofs.Mounted.{log_refused, mounts_store}
+use Rattle.lfs_store.proofs.Mounted.{log_refused}
 use Rattle.lfs_store.proofs.store.Store.open.Goals as goal
 
 pub returns-clause-stores : goal.returns-clause-stores
-returns-clause-stores g c = mounts_store g.D.SectorDevice.state c.args.device c.in-Ok-open.log c.in-Ok-open.ensures.opened.holds
+returns-clause-stores g c = c.in-Ok-open.ensures.opened.holds
 
 pub returns-in-Err-clause-cause : goal.returns-in-Err-clause-cause
 returns-in-Err-clause-cause g c other =

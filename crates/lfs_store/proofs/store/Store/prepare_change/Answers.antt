@@ -1,13 +1,12 @@
 use Rattle.std.specs.Prelude.{Result}
 use Rattle.std.proofs.Common.{rules, ◌≤◌, ◌+◌, ◌/◌, length, ap, sym, subst, arith}
-use Rattle.lfs_cleaner.specs.log.segments.Table.{clean_in}
-use Rattle.lfs_cleaner.specs.log.inodes.Blocks.{Capacity}
 use Rattle.lfs_cleaner.specs.log.LogState.{LogState}
-use Rattle.lfs_cleaner.specs.log.memory.Batch.{room_for}
 use Rattle.lfs_cleaner.proofs.of_log.of_memory.Going.{ok_then}
+use Rattle.lfs_model.specs.declared.limits.TheConstants.{MOST_UNSAVED}
 use Rattle.lfs_files.specs.declared.fault.LogFault.{LogFault}
 use Rattle.lfs_store.specs.declared.draft.Draft.{Draft}
 use Rattle.lfs_store.specs.Accepting.{HasClean}
+use Rattle.lfs_store.specs.StoreState.{asked_by}
 use Rattle.lfs_store.specs.Outcomes.{RoomMade}
 use Rattle.lfs_store.proofs.EarlyRoom.{told_cleaned}
 use Rattle.lfs_store.proofs.Endings.{made_then, same_exit}
@@ -29,13 +28,10 @@ returns-clause-room g c =
     ok_then c.find_segments.result _ _ (λ done e.
     let none = done.unsaved e in
     let fewer = none.1.fewer in
-    let same = ap (λ (k : Capacity). k.limit) none.1.capacity in
-    let room : c.find_room.new.self.log.waiting + room_for c.find_segments.new.self.draft.changes
-    ≤ c.find_room.new.self.log.memory.dirty.capacity.limit =
-    subst (λ (d : Draft). c.find_room.new.self.log.waiting + room_for d.changes
-    ≤ c.find_room.new.self.log.memory.dirty.capacity.limit) (sym c.find_segments.ensures.makes.keeps.draft)
+    let room : c.find_room.new.self.log.waiting + asked_by c.find_segments.new.self.draft ≤ MOST_UNSAVED =
+    subst (λ (d : Draft). c.find_room.new.self.log.waiting + asked_by d ≤ MOST_UNSAVED) (sym c.find_segments.ensures.makes.keeps.draft)
     (c.in_ok-find_room.ensures.room none.0) in
-    omega (arith, fewer, room, same))
+    omega (arith, fewer, room))
     c.find_segments.ensures.makes.done
 
 pub returns-clause-quiet : goal.returns-clause-quiet
@@ -49,6 +45,5 @@ returns-clause-quiet g c fits clean =
 pub returns-clause-told : goal.returns-clause-told
 returns-clause-told g c =
     told_cleaned g.D.SectorDevice.state c.args.self.now.log c.find_room.new.self.log c.find_segments.new.self.log
-    c.find_room.new.self.log.saved
     c.in_ok-find_room.ensures.once (c.if-may_commit.ensures.no (search rules))
     c.find_room.ensures.told c.find_segments.ensures.told c.find_segments.ensures.passes c.in_ok-find_room.ensures.ready.room.keeps.segments

@@ -6,7 +6,7 @@ use Rattle.lfs_store.specs.Recounting.{Remeasures, Counts}
 use Rattle.lfs_store.specs.Making.{DraftsRemoval}
 use Rattle.lfs_store.proofs.Acceptings.{where_ok}
 use Rattle.lfs_store.proofs.Keepings.{counted_redrafts, drafts_uncounted, reads_redrafts}
-use Rattle.lfs_store.proofs.LogReads.{fault_more, reads_more}
+use Rattle.lfs_cleaner.proofs.of_log.LogReads.{fault_more, reads_more}
 use Rattle.lfs_store.proofs.Recounted.{remove_counts}
 use Rattle.lfs_store.proofs.store.Store.remove.Goals as goal
 

@@ -9,7 +9,7 @@ use Rattle.lfs_files.specs.declared.fault.StoreFault.{StoreFault}
 use Rattle.lfs_files.specs.declared.fault.StoreFault.TheVariants.{NoMemory}
 use Rattle.lfs_store.proofs.Endings.{same_exit}
 use Rattle.lfs_store.proofs.Keepings.{counted_redrafts, measured_redrafts, reads_redrafts}
-use Rattle.lfs_store.proofs.LogReads.{fault_more, reads_more}
+use Rattle.lfs_cleaner.proofs.of_log.LogReads.{fault_more, reads_more}
 use Rattle.lfs_store.proofs.Shrunken.{shrink_counts, shrinks_around}
 use Rattle.lfs_store.proofs.store.Store.shrink.Goals as goal
 

@@ -29,10 +29,8 @@ returns-in-Err-Full-clause-accepts g c =
     _ (where_err c.stage-staged.result _ c.in-Err-Full.field-0 c.in-Err-Full.is c.stage-staged.ensures.refused)
     (where_err c.stage-staged.result _ c.in-Err-Full.field-0 c.in-Err-Full.is c.stage-staged.ensures.kept)
     (λ e. absurd (cc)) (λ e. absurd (cc))
-    (λ e rest. asks_much g.D.SectorDevice.state c.args.self.now.log c.prepare_change.new.self.log c.args.self.now.log.saved
-    c.prepare_change.new.self.log.saved c.prepare_change.new.self.draft.changes
-    c.in-Ok.ensures.makes.done rest c.in-Ok.ensures.room (c.stage-staged.ensures.full (search rules))
-    (c.stage-staged.ensures.narrow (search rules)))
+    (λ e rest. asks_much g.D.SectorDevice.state c.args.self.now.log c.prepare_change.new.self.log c.prepare_change.new.self.draft
+    c.in-Ok.ensures.makes.done rest c.in-Ok.ensures.room (c.stage-staged.ensures.full (search rules)))
     (λ e. absurd (cc))
 
 pub returns-in-Err-Device-clause-accepts : goal.returns-in-Err-Device-clause-accepts

@@ -11,7 +11,7 @@ use Rattle.lfs_files.specs.declared.fault.StoreFault.{StoreFault}
 use Rattle.lfs_files.specs.declared.fault.StoreFault.TheVariants.{NoMemory}
 use Rattle.lfs_store.proofs.Endings.{same_exit}
 use Rattle.lfs_store.proofs.Keepings.{counted_redrafts, measured_redrafts, reads_redrafts}
-use Rattle.lfs_store.proofs.LogReads.{fault_more, reads_more}
+use Rattle.lfs_cleaner.proofs.of_log.LogReads.{fault_more, reads_more}
 use Rattle.lfs_store.proofs.Recounted.{write_counts}
 use Rattle.lfs_store.proofs.Writings.{writes_around}
 use Rattle.lfs_store.proofs.store.Store.write_at.Goals as goal

@@ -11,8 +11,8 @@ returns-clause-done g c =
 
 pub returns-in-Err-clause-redrafts : goal.returns-in-Err-clause-redrafts
 returns-in-Err-clause-redrafts g c =
-    record { reads = c.block_beneath.ensures.reads.reads; saved = (c.block_beneath.ensures.reads.reads).saved; drafted = refl }
+    record { reads = c.block_beneath.ensures.reads.reads; drafted = refl }
 
 pub returns-clause-redrafts : goal.returns-clause-redrafts
 returns-clause-redrafts g c =
-    record { reads = c.block_beneath.ensures.reads.reads; saved = (c.block_beneath.ensures.reads.reads).saved; drafted = refl }
+    record { reads = c.block_beneath.ensures.reads.reads; drafted = refl }

@@ -1,6 +1,5 @@
-use Rattle.std.proofs.Common.{◌≡◌, Bool, true, false, refl, sym, ◌∙◌, subst}
+use Rattle.std.proofs.Common.{◌≡◌, true, false, refl}
 use Rattle.lfs_cleaner.proofs.of_log.of_memory.Going.{ok_then}
-use Rattle.lfs_store.specs.Accepting.{Readies}
 use Rattle.lfs_store.proofs.Acceptings.{readies_none}
 use Rattle.lfs_store.proofs.EarlyRoom.{early_none, readies_early}
 use Rattle.lfs_store.proofs.Endings.{keeps_none}
@@ -8,7 +7,7 @@ use Rattle.lfs_store.proofs.store.Store.write_early.Goals as goal
 
 pub returns-then-is_saved-clause-done : goal.returns-then-is_saved-clause-done
 returns-then-is_saved-clause-done g c =
-    readies_none g.D.SectorDevice.state c.args.self.now.log c.args.self.now.log.saved
+    readies_none g.D.SectorDevice.state c.args.self.now.log
     (g.met.D.SectorDevice.lawful c.args.self.now.log.device)
     c.requires
 
@@ -21,13 +20,8 @@ returns-then-is_saved-clause-keeps g c = keeps_none c.args.self.now
 
 pub returns-clause-done : goal.returns-clause-done
 returns-clause-done g c =
-    let a = c.args.self.now.log in
-    let b = c.write_early.new.self in
-    let off : a.saved ≡ false = sym c.is_saved.ensures.value ∙ c.if-is_saved.false in
-    ok_then c.write_early.result _ _ (λ early.
-    subst (λ (saved : Bool). Readies g.D.SectorDevice.state a saved b b.saved) (sym off)
-    (subst (λ (saved : Bool). Readies g.D.SectorDevice.state a false b saved) (sym (early.saved ∙ off))
-    (readies_early g.D.SectorDevice.state a b early c.write_early.ensures.totals)))
+    ok_then c.write_early.result _ _
+    (λ early. readies_early g.D.SectorDevice.state c.args.self.now.log c.write_early.new.self early c.write_early.ensures.totals)
     c.write_early.ensures.done
 
 pub returns-clause-same : goal.returns-clause-same
