@@ -20,7 +20,7 @@ use Rattle.lfs_store.specs.declared.store.Store.{Store}
 use Rattle.lfs_store.specs.StoreState.{asked_by, draft_of, drafted_of, volume_of}
 use Rattle.lfs_store.specs.Seen.{files_of}
 use Rattle.lfs_store.specs.log.verify.declared.totals.BlockTotals.{BlockTotals}
-use Rattle.lfs_store.proofs.Known.{empty_apart, empty_draft}
+use Rattle.lfs_fs.proofs.Known.{empty_apart, empty_draft}
 use Rattle.lfs_path.specs.declared.last.Last.{Last}
 use Rattle.lfs_path.specs.dirs.Growing.{GrowsDirectory}
 use Rattle.lfs_path.proofs.LastPieces.{last_says}

@@ -38,7 +38,7 @@ use Rattle.lfs_store.proofs.TreeTotals.{totals_of_tree}
 use Rattle.lfs_store.specs.StoreState.{Fits, IsEmpty, draft_of, drafted_of, volume_of, with_draft}
 use Rattle.lfs_store.specs.Seen.{files_of}
 use Rattle.lfs_store.proofs.of_log.LogReads.{held_still}
-use Rattle.lfs_store.proofs.Known.{empty_apart, empty_draft}
+use Rattle.lfs_fs.proofs.Known.{empty_apart, empty_draft}
 use Rattle.lfs_path.specs.dirs.Directory.{slot_count}
 use Rattle.lfs_path.specs.dirs.Finding.{IsDirectoryFault}
 use Rattle.lfs_path.specs.dirs.Widening.{CountsWidened, HasWidened, Widens, WidensNames, wide}

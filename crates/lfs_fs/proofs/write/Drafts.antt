@@ -35,7 +35,7 @@ use Rattle.lfs_fs.proofs.open_files.Steps.{cut_all_done, shortened, written}
 use Rattle.lfs_model.specs.Step.{with_tree}
 use Rattle.lfs_store.specs.StoreState.{IsEmpty, draft_of, drafted_of, with_draft}
 use Rattle.lfs_store.proofs.of_log.LogReads.{held_still}
-use Rattle.lfs_store.proofs.Known.{empty_draft, empty_loses}
+use Rattle.lfs_fs.proofs.Known.{empty_draft, empty_loses}
 use Rattle.lfs_fs.proofs.write.Bytes.{written_log}
 use Rattle.lfs_fs.proofs.calls.Steps.{pwrite_ends}
 

@@ -45,7 +45,7 @@ use Rattle.lfs_store.specs.StoreState.{Fits, IsEmpty, draft_of, drafted_of, volu
 use Rattle.lfs_store.specs.Recounting.{AreTotals}
 use Rattle.lfs_store.specs.declared.draft.Draft.{Draft}
 use Rattle.lfs_store.proofs.of_log.LogReads.{acknowledged, fault_more, held_still, reads_more, reads_none}
-use Rattle.lfs_store.proofs.Known.{empty_draft, few_checkpoints}
+use Rattle.lfs_fs.proofs.Known.{empty_draft, few_checkpoints}
 use Rattle.lfs_fs.proofs.calls.Steps.{not_worn, refused_not_worn, worn}
 
 -- why a draft isn't staged, by the fault of the store

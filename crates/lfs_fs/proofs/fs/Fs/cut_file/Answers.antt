@@ -3,7 +3,7 @@ use Rattle.std.proofs.Common.{ap, refl, sym, subst, Err}
 use Rattle.lfs_store.specs.declared.draft.Draft.{Draft}
 use Rattle.lfs_fs.proofs.write.Drafts.{cut_ends}
 use Rattle.lfs_fs.proofs.write.Ends.{given_up_serves, headerless_serves}
-use Rattle.lfs_store.proofs.Known.{cut_asks}
+use Rattle.lfs_fs.proofs.Known.{cut_asks}
 use Rattle.lfs_store.specs.StoreState.{IsEmpty, draft_of, volume_of}
 use Rattle.lfs_fs.proofs.fs.Fs.cut_file.Goals as goal
 use Rattle.lfs_fs.specs.Seen.{seen}
