@@ -1,5 +1,5 @@
 -- What becomes of a call's draft: it is staged where the volume has the space for it, or it isn't.
-use Rattle.std.specs.Prelude.{◌≡◌, ◌⊎◌, ◌<◌, ◌≤◌, ◌+◌, ◌*◌, ◌^◌, ℕ, length}
+use Rattle.std.specs.Prelude.{◌≡◌, ◌⊎◌, ◌<◌, ◌≤◌, ◌+◌, ◌*◌, ◌^◌, ℕ}
 use Rattle.lfs_model.specs.declared.limits.TheConstants.{LEAST_NEED, NEED_OF_META, NEED_OF_SEGMENT}
 use Rattle.lfs_model.specs.Device.{DeviceState}
 use Rattle.lfs_store.specs.cleaner.Room.{HaltsLater, MayNotMakeRoom, most_checkpoints, room_orders}

@@ -1,5 +1,5 @@
 -- How much the drafts of calls grow, and that memory takes all of it.
-use Rattle.std.proofs.Common.{◌≡◌, ◌<◌, ◌≤◌, ℕ, refl, arith}
+use Rattle.std.proofs.Common.{◌≡◌, ◌<◌, ◌≤◌, ◌+◌, ◌*◌, ℕ, refl, arith}
 use Rattle.lfs_model.specs.Device.{DeviceState}
 use Rattle.lfs_files.specs.declared.fault.LogFault.TheVariants as log
 use Rattle.lfs_files.specs.declared.fault.StoreFault.{StoreFault}
@@ -18,7 +18,7 @@ pub adds_fit : {D : Type 0} (state : D → DeviceState) (a b : Store D) (h k : �
     → GrowsDirectory (files_of state a) (files_of state b) h k → asked_by (draft_of b) ≤ 456
 adds_fit state a b h k few none is = grown_asks (draft_of a) (draft_of b) h k few none is.headers is.blocks
 
--- ---- bytes of files
+-- ---- bytes of files: a draft has room that was begun empty
 
 -- a fault of memory comes of a draft that asks for more
 pub never_large : (fault : StoreFault) (e : FsError) (n : ℕ) → e ≡ error_of_store fault → n ≤ 456 → (fault ≡ store.NoMemory → 456 < n)

@@ -1,5 +1,5 @@
 -- The ends of a call: what each of them makes of a volume.
-use Rattle.std.proofs.Common.{◌≡◌, ◌⊎◌, ◌≤◌, ◌<◌, ◌+◌, ◌/◌, ℕ, Bool, true, false, ◌&&◌, List, [], ◌∷◌, length, refl, sym, ◌∙◌, subst, ap}
+use Rattle.std.proofs.Common.{◌≡◌, ◌⊎◌, ◌≤◌, ◌<◌, ℕ, Bool, true, false, ◌&&◌, List, [], ◌∷◌, refl, sym, ◌∙◌, subst}
 use Rattle.std.proofs.Common.{inl, inr, ⊎_elim, arith}
 use Rattle.std.specs.List.{Contains}
 use Rattle.lfs_model.specs.Call.{Call, Answer, Refuse, commits}
@@ -54,7 +54,7 @@ module _ {D : Type 0} (state : D → DeviceState) where
     acknowledged = subst (λ (n : ℕ). IsTree n m0) same is.acknowledged;
     ready = λ e. (
         let r = is.ready (sym still.reads.saved ∙ e) in (
-          clean_still state old.log new.log still.reads r.0,
+          clean_still old.log new.log still.reads r.0,
           (let low = r.1 in let number = still.reads.number in omega (arith, low, number, same)),
         ));
   }

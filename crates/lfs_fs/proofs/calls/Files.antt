@@ -1,6 +1,6 @@
 -- Calls over files, as the model's steps: what is told of each log map,
 -- in each state that the volume may be in; and what becomes of a draft.
-use Rattle.std.proofs.Common.{◌≡◌, ◌<◌, ◌≤◌, ◌+◌, ◌*◌, ℕ, true, false, List, Option, Some, None, Result, refl, sym, ◌∙◌, ap, subst}
+use Rattle.std.proofs.Common.{◌≡◌, ◌<◌, ◌≤◌, ◌+◌, ◌*◌, ℕ, true, false, List, Option, Some, None, Result, refl, sym, ◌∙◌, subst}
 use Rattle.std.proofs.Common.{inl, arith}
 use Rattle.lfs_model.specs.Call.{Answer, Call, Refuse, changes, cleans, is_ok, never_for_device, takes_no_memory}
 use Rattle.lfs_model.specs.Checkpoint.{CheckpointValue}

@@ -1,5 +1,5 @@
 -- The ends of a clean, as steps of the model.
-use Rattle.std.proofs.Common.{◌≡◌, ◌<◌, ◌≤◌, ◌+◌, ◌/◌, ◌^◌, false, ℕ, length, refl, sym, ◌∙◌, ap, subst, inl, inr, arith}
+use Rattle.std.proofs.Common.{◌≡◌, ◌<◌, ◌≤◌, ◌+◌, ◌/◌, ◌^◌, false, ℕ, refl, sym, ◌∙◌, subst, inl, inr, arith}
 use Rattle.lfs_model.specs.Call.{Answer, Clean, Done, Refuse}
 use Rattle.lfs_model.specs.Checkpoint.{CheckpointValue, IsSegmentCount}
 use Rattle.lfs_model.specs.Device.{DeviceState, IsLawful}

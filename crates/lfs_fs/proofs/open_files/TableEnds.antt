@@ -1,5 +1,5 @@
 -- Calls that change the table of open files alone, as steps of the model.
-use Rattle.std.proofs.Common.{◌≡◌, ℕ, true, false, length, refl, sym, ◌∙◌, ap, subst, inl, arith}
+use Rattle.std.proofs.Common.{◌≡◌, ℕ, true, false, refl, sym, ◌∙◌, subst, inl, arith}
 use Rattle.lfs_model.specs.Call.{Answer, Call, is_ok}
 use Rattle.lfs_model.specs.Checkpoint.{CheckpointValue}
 use Rattle.lfs_model.specs.Crash.{StandsForOn}

@@ -7,7 +7,7 @@ use Rattle.lfs_fs.specs.Seen.{OnlyReads, seen}
 
 pub only_none : {D : Type 0} (state : D → DeviceState) (f : Fs D) → OnlyReads state f f
 only_none state f = record {
-  still = record { reads = reads_none state (seen f).log; saved = refl; blocks = refl; others = refl; table = refl };
+  still = record { reads = reads_none state (seen f).log; table = refl };
   draft = refl;
   drafted = refl;
 }

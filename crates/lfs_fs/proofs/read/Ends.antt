@@ -1,5 +1,5 @@
 -- What a call that begins makes of its end, and ends after which nothing has changed.
-use Rattle.std.proofs.Common.{◌≡◌, ◌<◌, ◌+◌, ◌*◌, ℕ, Bool, true, false, ◌&&◌, length, Some}
+use Rattle.std.proofs.Common.{◌≡◌, ◌<◌, ◌+◌, ◌*◌, ℕ, Bool, true, false, ◌&&◌, Some}
 use Rattle.std.proofs.Common.{refl, sym, ◌∙◌, ap, subst, inl, inr, arith}
 use Rattle.lfs_model.specs.Call.{Answer, Call, FormatVersion, Refuse, Room, Space, Version, changes, cleans, commits, is_ok}
 use Rattle.lfs_model.specs.Call.{never_for_device}

@@ -1,5 +1,5 @@
 -- The ends of a sync, as steps of the model.
-use Rattle.std.proofs.Common.{◌≡◌, true, false, refl, sym, ap, subst, arith}
+use Rattle.std.proofs.Common.{◌≡◌, true, false, refl, sym, subst, arith}
 use Rattle.lfs_model.specs.Call.{Done, Refuse, Sync}
 use Rattle.lfs_model.specs.Device.{DeviceState, IsLawful}
 use Rattle.lfs_files.specs.declared.fault.LogFault.{LogFault}
