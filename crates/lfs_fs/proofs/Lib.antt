@@ -1,3 +1,5 @@
+mod Below
+mod Known
 mod calls
 mod volume
 mod paths

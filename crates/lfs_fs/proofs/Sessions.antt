@@ -15,6 +15,7 @@ use Rattle.lfs_model.proofs.Committed.{nothing_dropped}
 use Rattle.lfs_model.proofs.Moments.{joined}
 use Rattle.lfs_model.proofs.Volume.{single_state}
 use Rattle.lfs_model.proofs.Walks.{Some-injective}
+use Rattle.lfs_store.proofs.of_log.LogReads.{settled}
 use Rattle.lfs_fs.specs.declared.fs.Fs.{Fs}
 use Rattle.lfs_fs.specs.Mounting.{FindsState, MountsAt}
 use Rattle.lfs_fs.specs.Scripts.{RanAt, RunsLines, TellsLines}
@@ -39,14 +40,16 @@ numbered : {D : Type 0} (state : D → DeviceState) (v : Mounted D) (p : Point) 
 numbered state v p at on c left =
     let r : Runs state v p.state = at.running (sym at.halted ∙ on) in
     let holds = r.is.holds in
-    (r.checkpoint, (holds.log.running.settled.each c left).newest, at.number ∙ sym holds.number)
+    let is = settled state v.log r.checkpoint r.saved r.present holds in
+    (r.checkpoint, (is.each c left).newest, at.number ∙ sym holds.number)
 
 module _ {D : Type 0} (state : D → DeviceState) (d : D) (lawful : IsLawful (state d)) (v : Fs D) (new : Mounted D) (lines : List Line)
     (answers : List Answer)
     (finds : FindsState state d v)
     (durable : (state (seen v).log.device).keeps_model → Only (state d).content (state (seen v).log.device))
     (untouched : IsUntouched (state d) (state (seen v).log.device))
-    (carries : Carries (state d) (state (seen v).log.device)) (moment : LeavesOnly (state d) (state (seen v).log.device) (state d).may_leave)
+    (carries : Carries (state d) (state (seen v).log.device))
+    (moment : LeavesOnly (state d) (state (seen v).log.device) (state d).may_leave)
     (no_failure : (state (seen v).log.device).failures ≡ (state d).failures)
     (runs : RunsLines state (seen v) new lines answers) (keeps : (state new.log.device).keeps_model)
     (rans : (p : Point) → IsAt state (seen v) p → RanAt state (seen v) new lines answers p) where
@@ -78,7 +81,8 @@ module _ {D : Type 0} (state : D → DeviceState) (d : D) (lawful : IsLawful (st
   -- the volume knows the checkpoint by which the content stands
   same_checkpoint : running.checkpoint ≡ stands.checkpoint
   same_checkpoint = Some-injective running.checkpoint stands.checkpoint
-      (sym running.is.holds.log.running.settled.newest ∙ ap newest untouched.content ∙ stands.found)
+      (sym (settled state (seen v).log running.checkpoint running.saved running.present running.is.holds).newest
+      ∙ ap newest untouched.content ∙ stands.found)
 
   abbrev Leaves : Content → Type 0
   Leaves = StandsForSome (at.point ∷ ran.points)
@@ -106,7 +110,7 @@ module _ {D : Type 0} (state : D → DeviceState) (d : D) (lawful : IsLawful (st
     points = ran.points;
     segments = segments_of (seen v);
     stands = stands;
-    same_segments = running.is.holds.log.segments ∙ ap (λ (k : CheckpointValue). k.segments) same_checkpoint;
+    same_segments = sym running.is.holds.segments ∙ ap (λ (k : CheckpointValue). k.segments) same_checkpoint;
     same_number = at.at.number ∙ sym running.is.holds.number ∙ ap (λ (k : CheckpointValue). k.number) same_checkpoint;
     running = at.at.halted ∙ at.running;
     run = ran.run;
@@ -124,7 +128,8 @@ module _ {D : Type 0} (state : D → DeviceState) (d : D) (lawful : IsLawful (st
     (finds : FindsState state d v)
     (durable : (state (seen v).log.device).keeps_model → Only (state d).content (state (seen v).log.device))
     (untouched : IsUntouched (state d) (state (seen v).log.device))
-    (carries : Carries (state d) (state (seen v).log.device)) (moment : LeavesOnly (state d) (state (seen v).log.device) (state d).may_leave)
+    (carries : Carries (state d) (state (seen v).log.device))
+    (moment : LeavesOnly (state d) (state (seen v).log.device) (state d).may_leave)
     (no_failure : (state (seen v).log.device).failures ≡ (state d).failures) where
   pub uses_volume : RunsLines state (seen v) new lines answers → (state new.log.device).keeps_model
       → UsesVolume (state d) (state new.log.device) lines answers

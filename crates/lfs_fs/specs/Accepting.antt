@@ -1,11 +1,12 @@
 -- What becomes of a call's draft: it is staged where the volume has the space for it, or it isn't.
-use Rattle.std.specs.Prelude.{◌≡◌, ◌⊎◌, ◌<◌, ◌≤◌, ◌+◌, ◌*◌, ◌^◌, ℕ, length}
+use Rattle.std.specs.Prelude.{◌≡◌, ◌⊎◌, ◌<◌, ◌≤◌, ◌+◌, ◌*◌, ◌^◌, ℕ}
 use Rattle.lfs_model.specs.declared.limits.TheConstants.{LEAST_NEED, NEED_OF_META, NEED_OF_SEGMENT}
 use Rattle.lfs_model.specs.Device.{DeviceState}
-use Rattle.lfs_store.specs.cleaner.Room.{HaltsLater, room_orders}
+use Rattle.lfs_store.specs.cleaner.Room.{HaltsLater, MayNotMakeRoom, most_checkpoints, room_orders}
 use Rattle.lfs_store.specs.log.LogState.{LogState}
 use Rattle.lfs_store.specs.log.Saving.{commit_orders}
-use Rattle.lfs_store.specs.Accepting.{Accepts, CannotMakeRoom, Declines, HasCleanForTwo, IsAcceptFault, most_written}
+use Rattle.lfs_store.specs.Accepting.{Accepts, Declines, HasCleanForTwo, IsAcceptFault}
+use Rattle.lfs_store.specs.StoreState.{draft_of, drafted_of}
 use Rattle.lfs_fs.specs.declared.error.FsError.{FsError}
 use Rattle.lfs_fs.specs.declared.error.FsError.TheVariants as error
 use Rattle.lfs_fs.specs.declared.fs.Fs.{Fs}

@@ -7,7 +7,7 @@ use Rattle.lfs_model.specs.Stands.{LogMap}
 use Rattle.lfs_model.specs.Tree.{State}
 use Rattle.lfs_model.specs.Walk.{At, Parent}
 use Rattle.lfs_files.specs.declared.fault.LogFault.TheVariants as log
-use Rattle.lfs_store.specs.memory.Batch.{IsNoChange}
+use Rattle.lfs_store.specs.StoreState.{IsEmpty, draft_of, drafted_of}
 use Rattle.lfs_fs.specs.Drafted.{EndsRefused, WalksTo}
 use Rattle.lfs_fs.specs.Faults.{error_of_walk}
 use Rattle.lfs_path.specs.declared.last.Last.{Last}

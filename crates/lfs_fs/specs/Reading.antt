@@ -13,6 +13,7 @@ use Rattle.lfs_model.specs.Tree.{State}
 use Rattle.lfs_model.specs.Walk.{At, Refused, Resolve}
 use Rattle.lfs_files.specs.declared.header.Header.{Header}
 use Rattle.lfs_files.specs.Headers.{HeaderAnswer}
+use Rattle.lfs_store.specs.StoreState.{drafted_of}
 use Rattle.lfs_path.specs.dirs.Directory.{names_at}
 use Rattle.lfs_path.specs.Seeing.{HasHeader}
 use Rattle.lfs_entries.specs.declared.rows.TreeRow.{TreeRow}

@@ -10,6 +10,7 @@ use Rattle.lfs_entries.specs.declared.entry.Object.{Object}
 use Rattle.lfs_fs.specs.declared.fs.Fs.{Fs}
 use Rattle.lfs_fs.specs.Naming.{Reaches}
 use Rattle.lfs_fs.specs.Volume.{IsIn, Mounted}
+use Rattle.lfs_fs.specs.Seen.{seen}
 
 -- a handle is open on what was found, or none is
 abbrev pub IsOpen : Handles → Option Object → Type 0

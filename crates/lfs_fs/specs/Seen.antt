@@ -9,14 +9,13 @@ use Rattle.lfs_model.specs.Checkpoint.{CheckpointValue}
 use Rattle.lfs_model.specs.Stands.{LogMap}
 use Rattle.lfs_model.specs.Tree.{Handles}
 use Rattle.lfs_files.specs.declared.header.Header.{Header}
-use Rattle.lfs_store.specs.memory.Batch.{staged}
 use Rattle.lfs_store.specs.memory.Present.{as_header}
+use Rattle.lfs_store.specs.StoreState.{IsEmpty, draft_of, drafted_of, volume_of, with_draft}
 use Rattle.lfs_fs.specs.declared.error.FsError.{FsError}
 use Rattle.lfs_fs.specs.declared.error.FsError.TheVariants as error
 use Rattle.lfs_fs.specs.declared.fs.Fs.{Fs}
 use Rattle.lfs_fs.specs.Refusals.{refusal_of}
 use Rattle.lfs_fs.specs.Volume.{IsStill, Mounted}
-use Rattle.lfs_store.specs.memory.Batch.{IsNoChange}
 
 abbrev pub seen : {D : Type 0} → Fs D → Mounted D
 seen f = record { log = volume_of f.store; table = f.handles }
@@ -29,7 +28,7 @@ answer_by f (Err e) = Refuse (refusal_of e)
 -- A volume whose log was only read, for a call's draft, which is as it was.
 pub record OnlyReads {D : Type 0} (state : D → DeviceState) (old new : Fs D) : Type 0 where
   pub still : IsStill state (seen old) (seen new)
-  pub draft : new.store.draft ≡ old.store.draft
+  pub draft : draft_of new.store ≡ draft_of old.store
   pub drafted : drafted_of new.store ≡ drafted_of old.store
 
 -- A call may draft: the volume isn't halted, and nothing is drafted.

@@ -7,8 +7,8 @@ use Rattle.lfs_model.specs.Stands.{LogMap}
 use Rattle.lfs_model.specs.Tree.{State}
 use Rattle.lfs_model.specs.Walk.{At, Resolve}
 use Rattle.lfs_files.specs.declared.header.Header.{Header}
-use Rattle.lfs_store.specs.memory.Batch.{IsNoChange}
 use Rattle.lfs_store.specs.memory.Present.{as_header}
+use Rattle.lfs_store.specs.StoreState.{IsEmpty, draft_of, drafted_of}
 use Rattle.lfs_fs.specs.declared.fs.Fs.{Fs}
 use Rattle.lfs_fs.specs.Seen.{seen}
 use Rattle.lfs_fs.specs.Volume.{IsIn, IsStill, Mounted}

@@ -13,10 +13,10 @@ use Rattle.lfs_model.specs.Stands.{LogMap}
 use Rattle.lfs_model.specs.Tree.{Handles, State, drop_nameless}
 use Rattle.lfs_model.specs.TreeOf.{IsTree, LeavesOne, LeavesStates, Stands}
 use Rattle.lfs_model.specs.Volume.{IsLogOf}
-use Rattle.lfs_store.specs.log.LogState.{LogState, Reads}
+use Rattle.lfs_store.specs.log.LogState.{Holds, LogState, Reads}
 use Rattle.lfs_store.specs.log.Saving.{commit_orders}
 use Rattle.lfs_store.specs.cleaner.Room.{room_orders}
-use Rattle.lfs_store.specs.Accepting.{Stores, HasClean, HasCleanForTwo}
+use Rattle.lfs_store.specs.Accepting.{HasClean, HasCleanForTwo}
 use Rattle.lfs_model.specs.Totals.{IsCounted}
 
 -- a volume between two calls: what is seen of its log, and the table of open files

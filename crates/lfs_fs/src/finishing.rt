@@ -1,6 +1,7 @@
 //! What becomes of what a call drafted.
 ghost use Rattle.std.specs.Prelude.{◌≡◌, ◌≤◌, false, OnOk};
-ghost use Rattle.lfs_store.specs.memory.Batch.{room_for};
+ghost use Rattle.lfs_store.specs.StoreState.{asked_by, draft_of};
+ghost use Rattle.lfs_fs.specs.Seen.{seen};
 ghost use Rattle.lfs_fs.specs.Finishing.{Finishes};
 
 use crate::error::FsError;

@@ -4,9 +4,9 @@ ghost use Rattle.std.specs.FinMap.{find};
 ghost use Rattle.std.specs.Ordering.{nat_cmp};
 ghost use Rattle.lfs_model.specs.declared.limits.TheConstants.{MOST_HANDLES};
 ghost use Rattle.lfs_store.specs.cleaner.Room.{IsAtRest, room_orders};
-ghost use Rattle.lfs_store.specs.memory.Batch.{room_for};
+ghost use Rattle.lfs_store.specs.StoreState.{asked_by, draft_of};
 ghost use Rattle.lfs_fs.specs.Accepting.{StagesDraft, TurnsDown};
-ghost use Rattle.lfs_fs.specs.Seen.{Begins, GivesNone, HasHeader, LacksHeader, OnlyReads};
+ghost use Rattle.lfs_fs.specs.Seen.{Begins, GivesNone, HasHeader, LacksHeader, OnlyReads, seen};
 
 use crate::error::FsError;
 use crate::handles::Handles;

@@ -3,6 +3,7 @@ ghost use Rattle.std.specs.Prelude.{◌≡◌, Err, IfOk, IfErr, MatchResult};
 ghost use Rattle.lfs_model.specs.Device.{Only, IsUntouched, Carries, LeavesOnly};
 ghost use Rattle.lfs_store.specs.log.verify.Faults.{IsBelowAll};
 ghost use Rattle.lfs_fs.specs.Mounting.{MountsFs, FindsState, IsMountFault, IsRefused};
+ghost use Rattle.lfs_fs.specs.Seen.{seen};
 
 use crate::fs::Fs;
 use crate::handles::Handles;
@@ -117,7 +118,6 @@ impl<D: SectorDevice> Fs<D> {
 
 impl<D: TendedDevice> Fs<D> {
     ghost use Rattle.lfs_fs.specs.Volume.{IsStill};
-    ghost use Rattle.lfs_fs.specs.Seen.{seen};
 
     /// Tends to the device, of which the volume sees nothing.
     pub fn tend(&mut self)

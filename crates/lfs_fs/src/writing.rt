@@ -3,6 +3,7 @@ ghost use Rattle.std.specs.Prelude.{◌≡◌, ◌≤◌, ◌<◌, ◌+◌, ℕ,
 ghost use Rattle.std.specs.FinMap.{find};
 ghost use Rattle.std.specs.Ordering.{nat_cmp};
 ghost use Rattle.lfs_model.specs.Call.{Pwrite, Truncate, Count, Done};
+ghost use Rattle.lfs_store.specs.StoreState.{drafted_of};
 ghost use Rattle.lfs_fs.specs.Volume.{Serves};
 ghost use Rattle.lfs_fs.specs.Seen.{IsReady, answer_by, seen};
 

@@ -61,10 +61,9 @@ fn is_repointed(
 fn is_taken(store: &mut Store<MemDevice>, header: Header, place: u32, name: &[u8]) -> bool
     requires { header.size + slot_len header.form ≤ 1024 * slot_len header.form }
 {
-    if store.log.stage(&store.draft.changes, store.drafted) != Ok(()) {
+    if store.accept() != Ok(()) {
         return false;
     }
-    store.draft.clear();
     take(store, FileNumber::ROOT, header, name, place) == Ok(true)
 }
 

@@ -1,12 +1,16 @@
 -- What the layers above know of a log that holds a log map, and of calls that only read it.
-use Rattle.std.proofs.Common.{◌≡◌, ◌≤◌, ◌+◌, ◌*◌, ◌<◌, ℕ, false, length, refl, sym, ◌∙◌, ap, subst, arith}
+use Rattle.std.proofs.Common.{◌≡◌, ◌≤◌, ◌+◌, ◌*◌, ◌<◌, ℕ, false, length, Some, refl, sym, ◌∙◌, ap, subst, arith}
 use Rattle.lfs_model.specs.Checkpoint.{CheckpointValue, IsSegmentCount}
 use Rattle.lfs_model.specs.Content.{Content}
 use Rattle.lfs_model.specs.Crash.{StandsOn}
 use Rattle.lfs_model.specs.Device.{DeviceState, IsLawful, AllLeft, LeavesOnly}
+use Rattle.lfs_model.specs.Entry.{Header}
+use Rattle.lfs_model.specs.Objects.{AreLong, IsHeaderOf}
 use Rattle.lfs_model.specs.Settled.{IsSettled}
 use Rattle.lfs_model.specs.Stands.{LogMap}
 use Rattle.lfs_model.proofs.Newest.{newest_fits}
+use Rattle.lfs_model.proofs.ObjectMaps.{laid_headers}
+use Rattle.lfs_model.proofs.ObjectNeeds.{laid_long}
 use Rattle.lfs_model.proofs.Settled.{settled_stands}
 use Rattle.lfs_memory.specs.declared.memory.LogMemory.{LogMemory}
 use Rattle.lfs_memory.specs.segments.Early.{AreUntaken}
@@ -26,6 +30,14 @@ module _ {D : Type 0} (state : D → DeviceState) where
   pub acknowledged : (h : LogState D) (k : CheckpointValue) (m0 m : LogMap) → Holds state h k m0 m
       → AllLeft (state h.device) (λ c. StandsOn k.segments c m0)
   acknowledged h k m0 m is = settled_stands (state h.device) k m0 (settled h k m0 m is)
+
+  -- the log map is one that blocks spell: its data blocks are as long as sectors, and its headers are those of inodes
+  pub map_long : (h : LogState D) (k : CheckpointValue) (m0 m : LogMap) → Holds state h k m0 m → (n : ℕ) → AreLong m n
+  map_long h k m0 m is = let running = is.log.running in laid_long (state h.device).content m running.memory _ running.laid
+
+  pub map_headers : (h : LogState D) (k : CheckpointValue) (m0 m : LogMap) → Holds state h k m0 m → (n : ℕ) (x : Header)
+      → m.header n ≡ Some x → IsHeaderOf n x
+  map_headers h k m0 m is = let running = is.log.running in laid_headers (state h.device).content m running.memory _ running.laid
 
   -- a log that holds a map has as many segments as a volume may have, and so has each that isn't halted
   pub segment_count : (h : LogState D) (k : CheckpointValue) (m0 m : LogMap) → IsLawful (state h.device) → Holds state h k m0 m

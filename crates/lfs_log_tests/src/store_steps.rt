@@ -302,8 +302,8 @@ fn is_counted(store: &mut Store<MemDevice>, count: Count) -> bool {
     match count {
         Count::Saved(saved) => store.log.is_saved() == saved,
         Count::Drafted(blocks) => store.draft.changes.blocks.len() == blocks,
-        Count::Number(number) => store.log.number() == number,
-        Count::Clean(segments) => store.log.clean_segments() == segments,
+        Count::Number(number) => store.number() == number,
+        Count::Clean(segments) => store.usage().clean() == segments,
         Count::LeastFree(number) => store.least_free() == FileNumber::new(number),
         Count::Space(data, meta) => store.space() == totals_of(data, meta),
         Count::Staged(data, meta) => store.log.totals() == totals_of(data, meta),
@@ -325,7 +325,7 @@ fn between(
     store: Box<Store<MemDevice>>,
     probe: Probe,
 ) -> Option<Box<Store<MemDevice>>> {
-    let slot = (store.log.number() % 2) as u32;
+    let slot = (store.number() % 2) as u32;
     let mut device = Box::into_inner(store).into_device();
     if !is_probe_well(&mut device, slot, probe) {
         return None;

@@ -28,9 +28,9 @@ use Rattle.lfs_script.specs.declared.script.StrictEnd.TheVariants.{Refused}
 -- a mount, and then a run of a script
 pub used : {D : Type 0} (state : D → DeviceState) (d : D) (end : ScriptEnd) (r r' w w' : Option (List ℕ)) (v : Fs D) (new : Mounted D)
     → IsLawful (state d) → FindsState state d v
-    → ((state v.store.log.device).keeps_model → Only (state d).content (state v.store.log.device))
-    → IsUntouched (state d) (state v.store.log.device) → Carries (state d) (state v.store.log.device)
-    → LeavesOnly (state d) (state v.store.log.device) (state d).may_leave → (state v.store.log.device).failures ≡ (state d).failures
+    → ((state (seen v).log.device).keeps_model → Only (state d).content (state (seen v).log.device))
+    → IsUntouched (state d) (state (seen v).log.device) → Carries (state d) (state (seen v).log.device)
+    → LeavesOnly (state d) (state (seen v).log.device) (state d).may_leave → (state (seen v).log.device).failures ≡ (state d).failures
     → Ends state end r r' w w' (seen v) new → Session end r r' w w' (state d) (state new.log.device)
 used state d end r r' w w' v new lawful finds durable untouched carries moment no_failure ends = record {
   texts = ends.texts;
@@ -45,9 +45,9 @@ used state d end r r' w w' v new lawful finds durable untouched carries moment n
 -- and a strict one
 pub used_strictly : {D : Type 0} (state : D → DeviceState) (d : D) (end : StrictEnd) (r r' w w' : Option (List ℕ)) (v : Fs D)
     (new : Mounted D) → IsLawful (state d) → FindsState state d v
-    → ((state v.store.log.device).keeps_model → Only (state d).content (state v.store.log.device))
-    → IsUntouched (state d) (state v.store.log.device) → Carries (state d) (state v.store.log.device)
-    → LeavesOnly (state d) (state v.store.log.device) (state d).may_leave → (state v.store.log.device).failures ≡ (state d).failures
+    → ((state (seen v).log.device).keeps_model → Only (state d).content (state (seen v).log.device))
+    → IsUntouched (state d) (state (seen v).log.device) → Carries (state d) (state (seen v).log.device)
+    → LeavesOnly (state d) (state (seen v).log.device) (state d).may_leave → (state (seen v).log.device).failures ≡ (state d).failures
     → EndsBy state true end r r' w w' (seen v) new → StrictSession end r r' w w' (state d) (state new.log.device)
 used_strictly state d end r r' w w' v new lawful finds durable untouched carries moment no_failure ends = record {
   texts = ends.texts;
@@ -62,9 +62,9 @@ used_strictly state d end r r' w w' v new lawful finds durable untouched carries
 -- and one before a witness
 pub used_told : {D : Type 0} (state : D → DeviceState) (d : D) (strict : Bool) (end : StrictEnd) (r r' w w' : Option (List ℕ)) (v : Fs D)
     (new : Mounted D) (s s' : List Look) → IsLawful (state d) → FindsState state d v
-    → ((state v.store.log.device).keeps_model → Only (state d).content (state v.store.log.device))
-    → IsUntouched (state d) (state v.store.log.device) → Carries (state d) (state v.store.log.device)
-    → LeavesOnly (state d) (state v.store.log.device) (state d).may_leave → (state v.store.log.device).failures ≡ (state d).failures
+    → ((state (seen v).log.device).keeps_model → Only (state d).content (state (seen v).log.device))
+    → IsUntouched (state d) (state (seen v).log.device) → Carries (state d) (state (seen v).log.device)
+    → LeavesOnly (state d) (state (seen v).log.device) (state d).may_leave → (state (seen v).log.device).failures ≡ (state d).failures
     → EndsTold state strict end r r' w w' (seen v) new s s' → SessionTold strict end r r' w w' (state d) (state new.log.device) s s'
 used_told state d strict end r r' w w' v new s s' lawful finds durable untouched carries moment no_failure ends = record {
   texts = ends.ends.texts;

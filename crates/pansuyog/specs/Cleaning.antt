@@ -16,7 +16,7 @@ TellsDue None code = code ≡ not_mounted
 -- A mounted volume is cleaned by one pass, where one is due, if C is told that it is done. The device is told so many orders more at most.
 pub record IsCleanedOnce (old new : Fs QueueDevice) (code : ℤ) : Type 0 where
   pub done : code ≡ pos 0 → CleansOnce queue_state (seen old).log (seen new).log
-  pub few : length (told_of new.store.log.device) ≤ length (told_of old.store.log.device) + once_orders (segments_of (seen old))
+  pub few : length (told_of (seen new).log.device) ≤ length (told_of (seen old).log.device) + once_orders (segments_of (seen old))
 
 abbrev pub CleansOnceIn : Option (Fs QueueDevice) → Option (Fs QueueDevice) → ℤ → Type 0
 CleansOnceIn (Some old) (Some new) code = IsCleanedOnce old new code

@@ -11,6 +11,7 @@ use Rattle.lfs_format.specs.Making.{MayStand}
 use Rattle.lfs_format.specs.declared.fault.FormatFault.{FormatFault}
 use Rattle.lfs_format.specs.declared.fault.FormatFault.TheVariants as format_fault
 use Rattle.lfs_fs.specs.Mounting.{FindsState, IsRefused, MountsFs}
+use Rattle.lfs_fs.specs.Seen.{seen}
 use Rattle.lfs_fs.specs.declared.fs.Fs.{Fs}
 use Rattle.lfs_queue.specs.Images.{cells_of}
 use Rattle.lfs_queue.specs.Queue.{queue_state, room_of, start_of, told_of}
@@ -44,11 +45,11 @@ pub data IsNotTaken (old new : Volume) (code : ℤ) : Type 0 where
 pub record Mounts (device : QueueDevice) (fs : Fs QueueDevice) : Type 0 where
   pub mounts : MountsFs queue_state device fs
   pub only : FindsState queue_state device fs
-  pub durable : Only (queue_state device).content (queue_state fs.store.log.device)
-  pub no_failure : (queue_state fs.store.log.device).failures ≡ (queue_state device).failures
-  pub untouched : IsUntouched (queue_state device) (queue_state fs.store.log.device)
-  pub carries : Carries (queue_state device) (queue_state fs.store.log.device)
-  pub any_moment : LeavesOnly (queue_state device) (queue_state fs.store.log.device) (queue_state device).may_leave
+  pub durable : Only (queue_state device).content (queue_state (seen fs).log.device)
+  pub no_failure : (queue_state (seen fs).log.device).failures ≡ (queue_state device).failures
+  pub untouched : IsUntouched (queue_state device) (queue_state (seen fs).log.device)
+  pub carries : Carries (queue_state device) (queue_state (seen fs).log.device)
+  pub any_moment : LeavesOnly (queue_state device) (queue_state (seen fs).log.device) (queue_state device).may_leave
 
 -- It isn't, for this fault.
 pub record IsNotMounted (old new : QueueDevice) (fault : MountFault) : Type 0 where
@@ -101,5 +102,5 @@ pub data MakesFrom (old new : Volume) (room segments version : ℕ) (code : ℤ)
 
 -- What an unmounting leaves: the device that was in the volume.
 abbrev pub Unmounts : Option (Fs QueueDevice) → Source → Source → ℤ → Type 0
-Unmounts (Some fs) old new code = (code ≡ pos 0) × (new ≡ Device fs.store.log.device)
+Unmounts (Some fs) old new code = (code ≡ pos 0) × (new ≡ Device (seen fs).log.device)
 Unmounts None old new code = (code ≡ not_mounted) × (new ≡ old)

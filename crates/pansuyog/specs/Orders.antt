@@ -24,7 +24,7 @@ device_from (Device device) = Some device
 
 -- the device of a volume: that of the one that is mounted, or one that none is mounted on
 abbrev pub device_by : Option (Fs QueueDevice) → Source → Option QueueDevice
-device_by (Some fs) source = Some fs.store.log.device
+device_by (Some fs) source = Some (seen fs).log.device
 device_by None source = device_from source
 
 abbrev pub device_in : Volume → Option QueueDevice
@@ -72,7 +72,7 @@ pub data TellsRun (told carried : List Order) (number : ℕ) (code : ℤ) (first
 -- All orders that waited were carried out: the volume sees nothing of it.
 abbrev pub CarriesOut : Option (Fs QueueDevice) → Option (Fs QueueDevice) → Source → Source → ℤ → Type 0
 CarriesOut (Some old) (Some new) from to code =
-    (code ≡ pos 0) × (to ≡ from) × IsEmptied old.store.log.device new.store.log.device × IsStill queue_state (seen old) (seen new)
+    (code ≡ pos 0) × (to ≡ from) × IsEmptied (seen old).log.device (seen new).log.device × IsStill queue_state (seen old) (seen new)
 CarriesOut None None (Device old) (Device new) code = (code ≡ pos 0) × IsEmptied old new
 CarriesOut None None Nothing to code = (code ≡ not_mounted) × (to ≡ Nothing)
 CarriesOut None None (Image image) to code = (code ≡ not_mounted) × (to ≡ Image image)

@@ -14,6 +14,7 @@ use Rattle.lfs_files.specs.declared.fault.LogFault.TheVariants as log
 use Rattle.lfs_files.specs.declared.header.Header.{Header}
 use Rattle.lfs_files.specs.Files as files
 use Rattle.lfs_store.specs.declared.store.Store.{Store}
+use Rattle.lfs_store.specs.Seen.{files_of}
 use Rattle.lfs_path.specs.declared.walk_fault.WalkFault.{WalkFault}
 use Rattle.lfs_path.specs.declared.walk_fault.WalkFault.TheVariants as walk
 use Rattle.lfs_path.specs.Reaching.{EndsResolve, ResolvesTo}
@@ -26,7 +27,6 @@ use Rattle.lfs_entries.specs.Telling as telling
 use Rattle.lfs_entries.specs.Telling.{FailsWhere}
 use Rattle.lfs_fs.specs.declared.error.FsError.{FsError}
 use Rattle.lfs_fs.specs.declared.fs.Fs.{Fs}
-use Rattle.lfs_fs.specs.Drafted.{files_of}
 use Rattle.lfs_fs.specs.Faults.{error_of_entry, error_of_log, error_of_walk}
 use Rattle.lfs_fs.specs.Reading.{FindsObject, ReachesObject, RefusesPath}
 use Rattle.lfs_fs.specs.Refusals.{refusal_of}

@@ -11,10 +11,12 @@ use Rattle.lfs_model.specs.Stands.{LogMap}
 use Rattle.lfs_model.specs.Tree.{State, drop_nameless}
 use Rattle.lfs_model.specs.TreeOf.{LeavesOne, dropped}
 use Rattle.lfs_model.specs.Volume.{IsLogOf}
-use Rattle.lfs_store.specs.memory.declared.changes.Changes.{Changes}
-use Rattle.lfs_store.specs.memory.Batch.{staged, FitsBatch}
-use Rattle.lfs_store.specs.Accepting.{Accepts, Commits, Declines, Stores, StoresOver}
-use Rattle.lfs_model.specs.Totals.{IsCounted}
+use Rattle.lfs_store.specs.Accepting.{Accepts, Commits, Declines, HoldsNext}
+use Rattle.lfs_store.specs.StoreState.{Fits, with_draft}
+use Rattle.lfs_store.specs.log.LogState.{Holds}
+use Rattle.lfs_store.specs.Recounting.{AreTotals}
+use Rattle.lfs_store.specs.log.verify.declared.totals.BlockTotals.{BlockTotals}
+use Rattle.lfs_store.specs.declared.draft.Draft.{Draft}
 use Rattle.lfs_fs.specs.Volume.{Behaves, IsAt, IsIn, Mounted, Runs, Serves, segments_of}
 use Rattle.lfs_fs.proofs.volume.Nodes.{IsMapOf}
 use Rattle.lfs_fs.proofs.volume.Map.{map_of_volume, runs_over}
@@ -37,13 +39,11 @@ module _ {D : Type 0} (state : D → DeviceState) where
 
   -- A volume with another log, of the same number of segments; its totals and its open files are as they were.
   pub record IsRest (old new : Mounted D) : Type 0 where
-    pub blocks : new.blocks ≡ old.blocks
-    pub others : new.others ≡ old.others
+    pub totals : new.log.totals ≡ old.log.totals
     pub table : new.table ≡ old.table
 
-  pub counted_still : (old new : Mounted D) (m : LogMap) → IsRest old new → IsCounted m old.blocks old.others
-      → IsCounted m new.blocks new.others
-  counted_still old new m rest counted = record { stored = rest.blocks ∙ counted.stored; above = rest.others ∙ counted.above }
+  pub counted_still : (old new : Mounted D) (m : LogMap) → IsRest old new → AreTotals m old.log.totals → AreTotals m new.log.totals
+  counted_still old new m rest = subst (λ (t : BlockTotals). AreTotals m t) (sym rest.totals)
 
   module _ (old new : Mounted D) (call : Call) (lawful : IsLawful (state old.log.device)) (after : IsLawful (state new.log.device))
       (carries : Carries (state old.log.device) (state new.log.device))
@@ -76,15 +76,15 @@ module _ {D : Type 0} (state : D → DeviceState) where
     }
 
     -- ---- a draft is staged
-    module _ (c : Changes) (done : Accepts state old.log new.log c) (low : old.log.number < 2 ^ 62) (a : Answer)
+    module _ (d : Draft) (done : Accepts state old.log new.log d) (low : old.log.number < 2 ^ 62) (a : Answer)
         (fine : a ≡ Refuse Halted → ⊥) (none : acknowledges call a ≡ true → ⊥) where
       -- what the draft makes of a state that the volume is in
       pub record Drafts (p : Point) (m : LogMap) : Type 0 where
         pub next : State
-        pub fits : FitsBatch m c
-        pub map : IsMapOf (segments_of old) (staged c m) next
+        pub fits : Fits d m
+        pub map : IsMapOf (segments_of old) (with_draft d m) next
         pub handles : next.handles ≡ new.table
-        pub counted : IsCounted (staged c m) new.blocks new.others
+        pub counted : AreTotals (with_draft d m) new.log.totals
         pub steps : StepsOr (segments_of old) call p a (point_of state new next)
 
       pub accepts_by : Behaves state old new call a → ((p : Point) → (state new.log.device).keeps_model → IsAt state old p
@@ -93,7 +93,7 @@ module _ {D : Type 0} (state : D → DeviceState) where
           let drafts = each p keeps at k m0 m is in
           let log = map_dropped state old new keeps lawful after carries k m0 m p.state is in record {
             next = drafts.next;
-            runs = runs_over state old new k m0 m p.state is (staged c m) drafts.next
+            runs = runs_over state old new k m0 m p.state is (with_draft d m) drafts.next
                 (done.holds k m0 m keeps is.holds drafts.fits log) segments drafts.map drafts.handles drafts.counted
                 (λ e. (done.enough, (let o = done.saves.few in let size = segments in omega (arith, o, low, size))));
             steps = drafts.steps;
@@ -102,26 +102,26 @@ module _ {D : Type 0} (state : D → DeviceState) where
           }))
 
     -- ---- a commit is done
-    module _ (rest : IsRest old new) (done : Commits state old.log new.log) (saved : new.saved ≡ true) where
-      over : (k : CheckpointValue) (m0 m : LogMap) → (state new.log.device).keeps_model → (stores : Holds state old.log k m0 m)
+    module _ (rest : IsRest old new) (done : Commits state old.log new.log) where
+      over : (k : CheckpointValue) (m0 m : LogMap) → (state new.log.device).keeps_model → (holds : Holds state old.log k m0 m)
           → IsLogMap (dropped m) → HoldsNext state k.segments m0 m new.log m
-      over k m0 m keeps stores log =
-          let next = done.holds k m0 m keeps stores log in
-          let before = holds.log.segments in
-          let now = next.1.holds.log.segments in
+      over k m0 m keeps holds log =
+          let next = done.holds k m0 m keeps holds log in
+          let before = holds.segments in
+          let now = next.1.segments in
           record {
             checkpoint = next.0;
             acknowledged = dropped m;
             either = inr refl;
-            same = sym now ∙ done.segments ∙ before;
-            stores = subst (λ (b : Bool). Holds state new.log next.0 (dropped m) m) (sym saved) next.1;
+            same = now ∙ done.segments ∙ sym before;
+            holds = next.1;
           }
 
       -- what a stop leaves then is the state without its nodes of no name
       left_one : (k : CheckpointValue) (m0 m : LogMap) (s : State) → IsIn state old k m0 m s → (state new.log.device).keeps_model
           → IsLogMap (dropped m) → LeavesOne (state new.log.device) (drop_nameless s)
       left_one k m0 m s is keeps log c left = stands_dropped k.segments c m s
-          (subst (λ (n : ℕ). IsLogOf n m s) is.holds.log.segments is.log) (done.left k m0 m keeps is.holds log c left)
+          (subst (λ (n : ℕ). IsLogOf n m s) (sym is.holds.segments) is.log) (done.left k m0 m keeps is.holds log c left)
 
       pub commits_by : (a : Answer) → (a ≡ Refuse Halted → ⊥) → Behaves state old new call a
           → ((p : Point) → (state new.log.device).keeps_model → IsAt state old p
@@ -131,21 +131,21 @@ module _ {D : Type 0} (state : D → DeviceState) where
             next = p.state;
             runs = runs_over state old new k m0 m p.state is m p.state (over k m0 m keeps is.holds log) segments
                 (map_of_volume state old k m0 m p.state is)
-                (is.handles ∙ sym rest.table) (counted_still old new m rest is.counted) (λ e. absurd (let s = saved in cc));
+                (is.handles ∙ sym rest.table) (counted_still old new m rest is.counted) (λ e. absurd (let s = done.saved in cc));
             steps = each p keeps at;
             moment = done.moment k m0 m keeps is.holds log;
             saves = λ e. left_one k m0 m p.state is keeps log;
           }))
 
     -- ---- it isn't
-    module _ (c : Changes) (rest : IsRest old new) (declines : Declines state old.log new.log c)
+    module _ (d : Draft) (rest : IsRest old new) (declines : Declines state old.log new.log d)
         (low : old.log.number < 2 ^ 62) (r : Refusal) (fine : r ≡ Halted → ⊥) where
       not_halted : Refuse r ≡ Refuse Halted → ⊥
       not_halted e = fine (cc)
 
       pub declines_by : Behaves state old new call (Refuse r) → ((p : Point) → (state new.log.device).keeps_model → IsAt state old p
           → (k : CheckpointValue) (m0 m : LogMap) → IsIn state old k m0 m p.state
-          → FitsBatch m c × StepsOr (segments_of old) call p (Refuse r) (point_of state new p.state)) → Serves state old new call (Refuse r)
+          → Fits d m × StepsOr (segments_of old) call p (Refuse r) (point_of state new p.state)) → Serves state old new call (Refuse r)
       declines_by behaves each = runs_on (Refuse r) not_halted behaves (declines.halted ∙ was) (λ p keeps at k m0 m is. (
           let both = each p keeps at k m0 m is in
           let log = map_dropped state old new keeps lawful after carries k m0 m p.state is in record {

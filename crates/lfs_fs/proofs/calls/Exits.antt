@@ -1,5 +1,5 @@
 -- The ends of a call: what each of them makes of a volume.
-use Rattle.std.proofs.Common.{◌≡◌, ◌⊎◌, ◌≤◌, ◌<◌, ◌+◌, ◌/◌, ℕ, Bool, true, false, ◌&&◌, List, [], ◌∷◌, length, refl, sym, ◌∙◌, subst, ap}
+use Rattle.std.proofs.Common.{◌≡◌, ◌⊎◌, ◌≤◌, ◌<◌, ℕ, Bool, true, false, ◌&&◌, List, [], ◌∷◌, refl, sym, ◌∙◌, subst}
 use Rattle.std.proofs.Common.{inl, inr, ⊎_elim, arith}
 use Rattle.std.specs.List.{Contains}
 use Rattle.lfs_model.specs.Call.{Call, Answer, Refuse, commits}
@@ -16,11 +16,13 @@ use Rattle.lfs_model.specs.Crash.{StandsForOn}
 use Rattle.lfs_fs.proofs.volume.Stops.{leaves_states}
 use Rattle.lfs_model.specs.Volume.{IsLogOf}
 use Rattle.lfs_model.proofs.Moments.{carries_none, started, goes_on}
-use Rattle.lfs_store.specs.memory.declared.memory.LogMemory.{LogMemory}
 use Rattle.lfs_store.specs.memory.Present.{Looks}
-use Rattle.lfs_store.specs.segments.Table.{clean_in}
-use Rattle.lfs_store.specs.Accepting.{Stores}
-use Rattle.lfs_store.proofs.LogReads.{stores_still}
+use Rattle.lfs_store.specs.log.LogState.{LogState, Reads}
+use Rattle.lfs_store.specs.log.Thresholds.{HasReserve}
+use Rattle.lfs_store.specs.Accepting.{HasClean}
+use Rattle.lfs_store.specs.Recounting.{AreTotals}
+use Rattle.lfs_store.specs.log.verify.declared.totals.BlockTotals.{BlockTotals}
+use Rattle.lfs_store.proofs.of_log.LogReads.{held_still, settled}
 use Rattle.lfs_fs.specs.Volume.{Behaves, IsStill, Mounted, segments_of, IsIn, Runs, IsAt, LeavesSome, ServesAt, Serves}
 use Rattle.lfs_fs.proofs.calls.AnyDevice.{IsOrdinary, halted_behaves, not_halted, still_behaves}
 
@@ -36,25 +38,29 @@ module _ {D : Type 0} (state : D → DeviceState) where
   abbrev pub point_of : Mounted D → State → Point
   point_of v s = record { state = s; halted = v.log.halted; number = v.log.number; failures = (state v.log.device).failures }
 
+  -- a log that was only read has as many clean segments
+  pub clean_still : (a b : LogState D) → Reads state a b → HasClean a → HasClean b
+  clean_still a b reads clean = subst (λ (n : ℕ). HasReserve n b.clean) (sym reads.segments)
+      (subst (λ (n : ℕ). HasReserve a.segments n) (sym reads.clean) clean)
+
   pub still_in : (old new : Mounted D) (k : CheckpointValue) (m0 m : LogMap) (s : State) → IsStill state old new → IsIn state old k m0 m s
       → IsIn state new k m0 m s
   still_in old new k m0 m s still is = record {
-    stores = subst (λ (b : Bool). Holds state new.log k m0 m) (sym still.saved)
-        (stores_still state old.log new.log old.saved k m0 m still.reads is.holds);
+    holds = held_still state old.log new.log k m0 m still.reads is.holds;
     map = is.map;
     log = subst (λ (n : ℕ). IsLogOf n m s) same is.log;
     handles = is.handles ∙ sym still.table;
-    counted = record { stored = still.blocks ∙ is.counted.stored; above = still.others ∙ is.counted.above };
+    counted = subst (λ (t : BlockTotals). AreTotals m t) (sym still.reads.totals) is.counted;
     acknowledged = subst (λ (n : ℕ). IsTree n m0) same is.acknowledged;
     ready = λ e. (
-        let r = is.ready (sym still.saved ∙ e) in (
-          subst (λ (v : LogMemory). length v.usage.segments / 8 + 8 ≤ clean_in v.usage.segments) (sym still.reads.memory) r.0,
+        let r = is.ready (sym still.reads.saved ∙ e) in (
+          clean_still old.log new.log still.reads r.0,
           (let low = r.1 in let number = still.reads.number in omega (arith, low, number, same)),
         ));
   }
     where
       same : segments_of old ≡ segments_of new
-      same = ap (λ (v : LogMemory). length v.usage.segments) (sym still.reads.memory)
+      same = sym still.reads.segments
 
   -- what is left before a call is left by it
   left_still : (d d' : DeviceState) (ss : List State) → IsLawful d → LeavesSome state d → Looks d d' → LeavesStates d d' ss
@@ -169,7 +175,7 @@ module _ {D : Type 0} (state : D → DeviceState) where
     N = segments_of old
 
     same_count : N ≡ k.segments
-    same_count = is.holds.log.segments
+    same_count = sym is.holds.segments
 
     log_by : IsLogOf k.segments m s
     log_by = subst (λ (n : ℕ). IsLogOf n m s) same_count is.log
@@ -180,7 +186,7 @@ module _ {D : Type 0} (state : D → DeviceState) where
     pub leaves_by : (ss : List State) → LeavesOnly (state old.log.device) (state new.log.device) (StandsForOn k.segments m0 (dropped m))
         → LeavesStates (state old.log.device) (state new.log.device) (drop_nameless s ∷ ss)
     leaves_by ss leaves =
-        leaves_states (state old.log.device) lawful (carries.kept_before keeps) k m0 is.holds.log.running.settled
+        leaves_states (state old.log.device) lawful (carries.kept_before keeps) k m0 (settled state old.log k m0 m is.holds)
         (subst (λ (n : ℕ). IsTree n m0) same_count is.acknowledged)
         (state new.log.device) m s log_by ss leaves
 

@@ -1,12 +1,10 @@
 -- Calls over files, as the model's steps: what is told of each log map,
 -- in each state that the volume may be in; and what becomes of a draft.
-use Rattle.std.proofs.Common.{◌≡◌, ◌<◌, ◌≤◌, ◌+◌, ◌*◌, ℕ, true, false, List, Option, Some, None, Result, refl, sym, ◌∙◌, ap, subst}
+use Rattle.std.proofs.Common.{◌≡◌, ◌<◌, ◌≤◌, ◌+◌, ◌*◌, ℕ, true, false, List, Option, Some, None, Result, refl, sym, ◌∙◌, subst}
 use Rattle.std.proofs.Common.{inl, arith}
 use Rattle.lfs_model.specs.Call.{Answer, Call, Refuse, changes, cleans, is_ok, never_for_device, takes_no_memory}
 use Rattle.lfs_model.specs.Checkpoint.{CheckpointValue}
 use Rattle.lfs_model.specs.Device.{DeviceState, IsLawful}
-use Rattle.lfs_model.specs.Entry.{Data, Inode}
-use Rattle.lfs_model.specs.Memory.{parent}
 use Rattle.lfs_model.specs.Refusal as refusals
 use Rattle.lfs_model.specs.Refusal.{Refusal}
 use Rattle.lfs_model.specs.Stands.{LogMap}
@@ -19,10 +17,10 @@ use Rattle.lfs_files.specs.declared.fault.LogFault.TheVariants as log
 use Rattle.lfs_files.specs.Files as files
 use Rattle.lfs_files.specs.Files.{AreCounted}
 use Rattle.lfs_store.specs.declared.store.Store.{Store}
-use Rattle.lfs_store.specs.memory.Batch.{is_lost, room_for}
-use Rattle.lfs_store.specs.memory.declared.batch.Loss.{Loss}
-use Rattle.lfs_store.proofs.Apart.{draft_empty}
-use Rattle.lfs_store.proofs.Growths.{grown_fits}
+use Rattle.lfs_store.specs.StoreState.{asked_by, draft_of, drafted_of, volume_of}
+use Rattle.lfs_store.specs.Seen.{files_of}
+use Rattle.lfs_store.specs.log.verify.declared.totals.BlockTotals.{BlockTotals}
+use Rattle.lfs_fs.proofs.Known.{empty_apart, empty_draft}
 use Rattle.lfs_path.specs.declared.last.Last.{Last}
 use Rattle.lfs_path.specs.dirs.Growing.{GrowsDirectory}
 use Rattle.lfs_path.proofs.LastPieces.{last_says}
@@ -32,7 +30,6 @@ use Rattle.lfs_entries.specs.Telling as telling
 use Rattle.lfs_fs.specs.declared.error.FsError.{FsError}
 use Rattle.lfs_fs.specs.declared.fs.Fs.{Fs}
 use Rattle.lfs_fs.specs.Accepting.{StagesDraft, TurnsDown, need_of}
-use Rattle.lfs_fs.specs.Drafted.{files_of}
 use Rattle.lfs_fs.specs.Faults.{error_of_entry}
 use Rattle.lfs_fs.specs.Finishing.{EndsDraft, GivesUp}
 use Rattle.lfs_fs.specs.Naming.{Reaches}
@@ -40,7 +37,7 @@ use Rattle.lfs_fs.specs.Refusals.{refusal_of}
 use Rattle.lfs_fs.specs.Seen.{IsReady, OnlyReads, answer_by, seen}
 use Rattle.lfs_fs.specs.Volume.{Behaves, IsIn, IsStill, Mounted, Serves, segments_of}
 use Rattle.lfs_fs.proofs.calls.AnyDevice.{IsBounded, IsOrdinary}
-use Rattle.lfs_fs.proofs.calls.DraftSizes.{adds_grow}
+use Rattle.lfs_fs.proofs.calls.DraftSizes.{adds_fit}
 use Rattle.lfs_fs.proofs.calls.Drafts.{not_acknowledged}
 use Rattle.lfs_fs.proofs.calls.Exits.{served_still, still_in}
 use Rattle.lfs_fs.proofs.calls.Reads.{memory_serves}
@@ -100,24 +97,21 @@ module _ {D : Type 0} (state : D → DeviceState) (lawful : (d : D) → IsLawful
     checkpoint = k;
     acknowledged = m0;
     holds = (still_in state v (seen f) k m0 m s begun.still is).holds;
-    draft = sym (draft_empty (draft_of f.store) m begun.ready.empty).0;
+    draft = sym (empty_draft (draft_of f.store) m begun.ready.empty).0;
   }
 
   pub fits_now : (m : LogMap) → (files_of state f.store).fits m
-  fits_now m = (draft_empty (draft_of f.store) m begun.ready.empty).1
+  fits_now m = (empty_draft (draft_of f.store) m begun.ready.empty).1
 
   pub counted_now : (k : CheckpointValue) (m0 m : LogMap) (s : State) → IsIn state v k m0 m s
       → AreCounted m (files_of state f.store).drafted
   counted_now k m0 m s is =
       subst (λ t. IsCounted m t.data_blocks t.meta_blocks) (sym begun.drafted)
-      record { stored = begun.still.blocks ∙ is.counted.stored; above = begun.still.others ∙ is.counted.above }
+      (subst (λ (t : BlockTotals). IsCounted m t.data_blocks t.meta_blocks) (sym begun.still.reads.totals) is.counted)
 
   -- nothing is lost yet
   pub apart_now : (n : ℕ) → files.IsApart (files_of state f.store).lost n
-  apart_now n = record {
-    inode = ap (λ (x : Loss). is_lost x (Inode n)) begun.ready.empty.loss;
-    above = λ i. ap (λ (x : Loss). is_lost x (parent (Data n i))) begun.ready.empty.loss;
-  }
+  apart_now n = empty_apart (draft_of f.store) n begun.ready.empty
 
   -- in a state, at the last piece of the path
   pub reached_in : (path : List ℕ) (d : ℕ) (l : Last) → Reaches state v f path d (Some l) → (state (seen f).log.device).keeps_model
@@ -133,7 +127,8 @@ module _ {D : Type 0} (state : D → DeviceState) (lawful : (d : D) → IsLawful
   module _ (store : Store D) where
     -- What holds of each state that the volume may be in, where its device keeps the model up to the end.
     abbrev pub InEach : (LogMap → State → Type 0) → Type 0
-    InEach P = (k : CheckpointValue) (m0 m : LogMap) (s : State) → (state (volume_of store).device).keeps_model → IsIn state v k m0 m s → P m s
+    InEach P = (k : CheckpointValue) (m0 m : LogMap) (s : State) → (state (volume_of store).device).keeps_model → IsIn state v k m0 m s
+        → P m s
 
     -- what is told of files holds in a state
     pub told : (P : LogMap → Type 0) → telling.InEach (files_of state f.store) (files_of state store) P → InEach (λ m s. P m)
@@ -218,13 +213,12 @@ module _ {D : Type 0} (state : D → DeviceState) (lawful : (d : D) → IsLawful
     -- ---- changes were drafted
     module _ (redrafts : files.Redrafts (files_of state f.store) (files_of state store)) where
       pub still_ready : IsStill state (seen f) (seen after)
-      still_ready = still_drafted state f f.store store refl refl redrafts
+      still_ready = still_drafted state f f.store store refl redrafts
 
       -- memory takes a draft of so many headers and blocks
       pub takes_draft : (headers blocks : ℕ) → 2 * headers + 4 * blocks ≤ 452
-          → GrowsDirectory (files_of state f.store) (files_of state store) headers blocks → room_for store.draft.changes ≤ 456
-      takes_draft headers blocks few grows = grown_fits (draft_of f.store) store.draft.changes headers blocks few begun.ready.empty
-          (adds_grow state f.store store headers blocks grows)
+          → GrowsDirectory (files_of state f.store) (files_of state store) headers blocks → asked_by (draft_of store) ≤ 456
+      takes_draft headers blocks few grows = adds_fit state f.store store headers blocks few begun.ready.empty grows
 
       module _ (call : Call) (change : changes call ≡ true) (free : never_for_device call ≡ false)
           (memory : takes_no_memory call ≡ false) (unclean : cleans call ≡ false) where
@@ -251,7 +245,7 @@ module _ {D : Type 0} (state : D → DeviceState) (lawful : (d : D) → IsLawful
             answer = made.answer;
             ok = made.ok;
             fits = made.fits;
-            counted = subst (λ x. IsCounted x store.drafted.data_blocks store.drafted.meta_blocks) made.has.draft made.counted;
+            counted = subst (λ x. IsCounted x (drafted_of store).data_blocks (drafted_of store).meta_blocks) made.has.draft made.counted;
             map = λ room. subst (λ x. IsMapOf (segments_of v) x made.next) made.has.draft (made.is room);
             done = made.done;
             lacks = made.lacks;

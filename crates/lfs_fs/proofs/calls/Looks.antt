@@ -4,23 +4,24 @@ use Rattle.lfs_model.specs.Device.{DeviceState}
 use Rattle.lfs_files.specs.declared.fault.LogFault.{LogFault}
 use Rattle.lfs_files.specs.declared.fault.LogFault.TheVariants as log
 use Rattle.lfs_files.specs.declared.header.Header.{Header}
-use Rattle.lfs_store.specs.memory.Batch.{staged}
 use Rattle.lfs_store.specs.memory.Present.{HeaderAnswer}
 use Rattle.lfs_store.specs.log.LogState.{IsReadFault}
-use Rattle.lfs_store.specs.Reading.{ReadsHeader}
+use Rattle.lfs_store.specs.StoreState.{draft_of, with_draft}
 use Rattle.lfs_fs.specs.declared.error.FsError.{FsError}
 use Rattle.lfs_fs.specs.declared.error.FsError.TheVariants as error
 use Rattle.lfs_fs.specs.declared.fs.Fs.{Fs}
 use Rattle.lfs_fs.specs.Faults.{error_of_log}
-use Rattle.lfs_fs.specs.Seen.{HasHeader, LacksHeader}
+use Rattle.lfs_fs.specs.Seen.{HasHeader, LacksHeader, seen}
+use Rattle.lfs_fs.specs.Drafted.{EachDrafted}
 
 module _ {D : Type 0} (state : D → DeviceState) (old new : Fs D) (n : ℕ) where
   pub has_header : (found : Option Header) (h : Header) → found ≡ Some h
-      → ReadsHeader state (seen old).log (seen new).log (draft_of old.store) n found → HasHeader state old new n h
+      → EachDrafted state (seen old).log (seen new).log (draft_of old.store) (λ m. HeaderAnswer m n found) → HasHeader state old new n h
   has_header found h is answer k m0 m keeps holds =
       subst (λ (o : Option Header). HeaderAnswer (with_draft (draft_of old.store) m) n o) is (answer k m0 m keeps holds)
 
-  pub has_none : (found : Option Header) → found ≡ None → ReadsHeader state (seen old).log (seen new).log (draft_of old.store) n found
+  pub has_none : (found : Option Header) → found ≡ None
+      → EachDrafted state (seen old).log (seen new).log (draft_of old.store) (λ m. HeaderAnswer m n found)
       → LacksHeader state old new n error.Device
   has_none found is answer = inr (
     refl,

@@ -1,5 +1,5 @@
 -- Calls that only read, a call that opens a file, and calls that a fault ends, as steps of the model.
-use Rattle.std.proofs.Common.{◌≡◌, ◌+◌, ◌*◌, Bool, true, false, ◌&&◌, refl, inl, inr, arith}
+use Rattle.std.proofs.Common.{◌≡◌, ◌+◌, ◌*◌, ℕ, Bool, true, false, ◌&&◌, refl, inl, inr, arith}
 use Rattle.lfs_model.specs.Call.{Answer, Call, Refuse, Room, Space, changes, cleans, commits, is_ok, takes_no_memory, never_for_device}
 use Rattle.lfs_model.specs.Device.{DeviceState, IsLawful}
 use Rattle.lfs_model.specs.Refusal.{Device, NoMemory, Refusal}
@@ -54,9 +54,15 @@ module _ {D : Type 0} (state : D → DeviceState) (old new : Mounted D) (call : 
 
 module _ {D : Type 0} (state : D → DeviceState) (old new : Mounted D) (lawful : IsLawful (state old.log.device))
     (still : IsStill state old new) (was : old.log.halted ≡ false) where
+  abbrev stored : ℕ
+  stored = old.log.totals.data_blocks
+
+  abbrev above : ℕ
+  above = old.log.totals.meta_blocks
+
   pub space_serves : TotalsOfTree
-      → Serves state old new Space (Room old.blocks old.others (old.blocks + 7 * old.others + 720) (47 * segments_of old))
+      → Serves state old new Space (Room stored above (stored + 7 * above + 720) (47 * segments_of old))
   space_serves totals = told_serves state old new Space lawful still was
-      (Room old.blocks old.others (old.blocks + 7 * old.others + 720) (47 * segments_of old)) tt refl refl refl (λ k m0 m s keeps is.
-      space_step (segments_of old) m s (map_of_volume state old k m0 m s is) totals (headers_of_volume state old k m0 m s is) old.blocks
-      old.others is.counted)
+      (Room stored above (stored + 7 * above + 720) (47 * segments_of old)) tt refl refl refl (λ k m0 m s keeps is.
+      space_step (segments_of old) m s (map_of_volume state old k m0 m s is) totals (headers_of_volume state old k m0 m s is) stored above
+      is.counted)

@@ -1,20 +1,20 @@
 -- Calls on files are calls on a store.
-use Rattle.std.proofs.Common.{◌≡◌, ◌<◌, ℕ, List, refl, sym, ◌∙◌, ap, subst}
+use Rattle.std.proofs.Common.{◌≡◌, ◌<◌, ℕ, List, refl, sym, ap, subst}
 use Rattle.lfs_model.specs.Device.{DeviceState}
 use Rattle.lfs_model.specs.Refusal as model
-use Rattle.lfs_model.specs.Refusal.{Refusal}
 use Rattle.lfs_model.specs.Stands.{LogMap}
 use Rattle.lfs_model.specs.Tree.{Tree}
 use Rattle.lfs_model.specs.TreeOf.{tree_in}
 use Rattle.lfs_model.specs.Walk.{At, End, Refused}
 use Rattle.lfs_files.specs.Files as files
-use Rattle.lfs_files.specs.Files.{Counted, WritesFile}
+use Rattle.lfs_files.specs.Files.{Counted}
 use Rattle.lfs_store.specs.declared.store.Store.{Store}
 use Rattle.lfs_store.specs.log.verify.declared.totals.BlockTotals.{BlockTotals}
 use Rattle.lfs_store.specs.log.LogState.{LogState, Reads}
-use Rattle.lfs_store.specs.memory.Batch.{staged}
-use Rattle.lfs_store.specs.Seen.{StagedLog}
-use Rattle.lfs_store.proofs.LogReads.{reads_none}
+use Rattle.lfs_store.specs.StoreState.{draft_of, drafted_of, volume_of, with_draft}
+use Rattle.lfs_store.specs.Seen.{files_of}
+use Rattle.lfs_store.proofs.of_log.LogReads.{reads_none}
+use Rattle.lfs_fs.proofs.Known.{reads_staged}
 use Rattle.lfs_path.specs.declared.walk_fault.WalkFault.{WalkFault}
 use Rattle.lfs_path.specs.declared.walk_fault.WalkFault.TheVariants as walk
 use Rattle.lfs_path.specs.Reaching.{EndsParent, IsParent}
@@ -23,7 +23,7 @@ use Rattle.lfs_path.specs.Trees.{HasTree, here}
 use Rattle.lfs_fs.specs.declared.fs.Fs.{Fs}
 use Rattle.lfs_fs.specs.Seen.{seen}
 use Rattle.lfs_fs.specs.Volume.{IsStill}
-use Rattle.lfs_fs.specs.Drafted.{EachDrafted, EndsRefused, WalksTo, files_of}
+use Rattle.lfs_fs.specs.Drafted.{EachDrafted, EndsRefused, WalksTo}
 
 -- two numbers as totals
 abbrev totals_of : Counted → BlockTotals
@@ -32,89 +32,61 @@ totals_of t = record { data_blocks = t.data_blocks; meta_blocks = t.meta_blocks 
 module _ {D : Type 0} (state : D → DeviceState) (a b : Store D) where
   -- what is told of files is told of each log map, with the draft
   pub each_drafted : (P : LogMap → Type 0) → ((m m' : LogMap) → (files_of state b).device.keeps_model → (files_of state a).has m m' → P m')
-      → EachDrafted state a.log b.log a.draft.changes P
+      → EachDrafted state (volume_of a) (volume_of b) (draft_of a) P
   each_drafted P all k m0 m keeps holds =
-      all m (staged a.draft.changes m) keeps record { checkpoint = k; acknowledged = m0; holds = holds; draft = refl }
+      all m (with_draft (draft_of a) m) keeps record { checkpoint = k; acknowledged = m0; holds = holds; draft = refl }
 
   -- ---- calls that only read
   module _ (reads : files.Reads (files_of state a) (files_of state b)) where
-    pub log_reads : Reads state a.log b.log
-    log_reads = record {
-      looks = reads.looks;
-      memory = ap (λ (s : StagedLog). s.memory) reads.staged;
-      number = ap (λ (s : StagedLog). s.number) reads.staged;
-      version = ap (λ (s : StagedLog). s.version) reads.staged;
-      upgraded = ap (λ (s : StagedLog). s.upgraded) reads.staged;
-      saved = reads.saved;
-      halted = reads.halted;
-      totals = ap totals_of reads.totals;
-    }
+    pub log_reads : Reads state (volume_of a) (volume_of b)
+    log_reads = reads_staged state (volume_of a) (volume_of b) reads.looks reads.staged
 
-    pub same_totals : b.log.totals ≡ a.log.totals
-    same_totals = ap totals_of reads.totals
-
-    pub same_drafted : b.drafted ≡ a.drafted
+    pub same_drafted : drafted_of b ≡ drafted_of a
     same_drafted = ap totals_of reads.drafted
 
   -- ---- walks of a path
   pub ends_refused : (W : Tree → End → Type 0) (fault : WalkFault) → TellsRefusal (files_of state a) (files_of state b) HasTree W fault
-      → EndsRefused state a.log b.log a.draft.changes W fault
+      → EndsRefused state (volume_of a) (volume_of b) (draft_of a) W fault
   ends_refused W = by
     where
       each : (P : LogMap → Type 0) → ((m m' : LogMap) → (files_of state b).device.keeps_model → (files_of state a).has m m' → HasTree m'
-          → P m') → EachDrafted state a.log b.log a.draft.changes (λ m. HasTree m → P m)
+          → P m') → EachDrafted state (volume_of a) (volume_of b) (draft_of a) (λ m. HasTree m → P m)
       each P all = each_drafted (λ m. HasTree m → P m) all
 
       by : (fault : WalkFault) → TellsRefusal (files_of state a) (files_of state b) HasTree W fault
-          → EndsRefused state a.log b.log a.draft.changes W fault
+          → EndsRefused state (volume_of a) (volume_of b) (draft_of a) W fault
       by walk.NoEntry ends = each (λ m. W (tree_in m) (Refused model.NoEntry)) ends
       by walk.NotDir ends = each (λ m. W (tree_in m) (Refused model.NotDir)) ends
       by walk.NameTooLong ends = each (λ m. W (tree_in m) (Refused model.NameTooLong)) ends
       by walk.Inval ends = each (λ m. W (tree_in m) (Refused model.Inval)) ends
       by walk.Loop ends = each (λ m. W (tree_in m) (Refused model.Loop)) ends
       by walk.NoMemory ends = tt
-      by (walk.Log fault) ends = each (λ m. (state a.log.device).failures < (state b.log.device).failures) ends
+      by (walk.Log fault) ends = each (λ m. (state (volume_of a).device).failures < (state (volume_of b).device).failures) ends
 
   pub ends_parent : (path chain : List ℕ) (d : ℕ) → d ≡ here chain → Tells (files_of state a) (files_of state b) HasTree
-      (IsParent path chain) → WalksTo state a.log b.log a.draft.changes (EndsParent path) (At d)
+      (IsParent path chain) → WalksTo state (volume_of a) (volume_of b) (draft_of a) (EndsParent path) (At d)
   ends_parent path chain d same tells k m0 m keeps holds tree =
-      subst (λ (n : ℕ). EndsParent path (tree_in (staged a.draft.changes m)) (At n)) (sym same)
-      (tells m (staged a.draft.changes m) keeps record { checkpoint = k; acknowledged = m0; holds = holds; draft = refl } tree).ends
+      subst (λ (n : ℕ). EndsParent path (tree_in (with_draft (draft_of a) m)) (At n)) (sym same)
+      (tells m (with_draft (draft_of a) m) keeps record { checkpoint = k; acknowledged = m0; holds = holds; draft = refl } tree).ends
 
   -- ---- calls that change the draft
   module _ (redrafts : files.Redrafts (files_of state a) (files_of state b)) where
-    pub log_redrafts : Reads state a.log b.log
-    log_redrafts = record {
-      looks = redrafts.looks;
-      memory = ap (λ (s : StagedLog). s.memory) redrafts.staged;
-      number = ap (λ (s : StagedLog). s.number) redrafts.staged;
-      version = ap (λ (s : StagedLog). s.version) redrafts.staged;
-      upgraded = ap (λ (s : StagedLog). s.upgraded) redrafts.staged;
-      saved = redrafts.saved;
-      halted = redrafts.halted;
-      totals = ap totals_of redrafts.totals;
-    }
+    pub log_redrafts : Reads state (volume_of a) (volume_of b)
+    log_redrafts = reads_staged state (volume_of a) (volume_of b) redrafts.looks redrafts.staged
 
 -- a volume whose store was changed no more than its draft, from where it has the same log and totals
-pub still_drafted : {D : Type 0} (state : D → DeviceState) (old : Fs D) (a b : Store D) → a.log ≡ (seen old).log
-    → a.log.saved ≡ (seen old).log.saved
+pub still_drafted : {D : Type 0} (state : D → DeviceState) (old : Fs D) (a b : Store D) → volume_of a ≡ (seen old).log
     → files.Redrafts (files_of state a) (files_of state b)
     → IsStill state (seen old) (seen record { alloc = old.alloc; store = b; handles = old.handles })
-still_drafted {D} state old a b log saved redrafts = record {
-  reads = subst (λ (h : LogState D). Reads state h b.log) log (log_redrafts state a b redrafts);
-  saved = redrafts.saved ∙ saved;
-  blocks = ap (λ (t : BlockTotals). t.data_blocks) (ap totals_of redrafts.totals ∙ ap (λ (h : LogState D). h.totals) log);
-  others = ap (λ (t : BlockTotals). t.meta_blocks) (ap totals_of redrafts.totals ∙ ap (λ (h : LogState D). h.totals) log);
+still_drafted {D} state old a b log redrafts = record {
+  reads = subst (λ (h : LogState D). Reads state h (volume_of b)) log (log_redrafts state a b redrafts);
   table = refl;
 }
 
 -- a volume whose log is as it was
 pub still_logged : {D : Type 0} (state : D → DeviceState) (old new : Fs D) → (seen new).log ≡ (seen old).log
-    → (seen new).log.saved ≡ (seen old).log.saved → new.handles ≡ old.handles → IsStill state (seen old) (seen new)
-still_logged {D} state old new log saved handles = record {
+    → new.handles ≡ old.handles → IsStill state (seen old) (seen new)
+still_logged {D} state old new log handles = record {
   reads = subst (λ (h : LogState D). Reads state (seen old).log h) (sym log) (reads_none state (seen old).log);
-  saved = saved;
-  blocks = ap (λ (h : LogState D). h.totals.data_blocks) log;
-  others = ap (λ (h : LogState D). h.totals.meta_blocks) log;
   table = handles;
 }

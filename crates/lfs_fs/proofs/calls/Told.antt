@@ -8,14 +8,13 @@ use Rattle.lfs_files.specs.Files as files
 use Rattle.lfs_files.specs.Files.{FilesState}
 use Rattle.lfs_store.specs.declared.draft.Draft.{Draft}
 use Rattle.lfs_store.specs.declared.store.Store.{Store}
-use Rattle.lfs_store.specs.Seen.{StagedLog}
+use Rattle.lfs_store.specs.Seen.{StagedLog, files_of}
 use Rattle.lfs_path.specs.dirs.Growing.{GrowsDirectory}
 use Rattle.lfs_entries.specs.declared.fault.EntryFault.{EntryFault}
 use Rattle.lfs_entries.specs.declared.fault.EntryFault.TheVariants as fault
 use Rattle.lfs_entries.specs.Telling.{DraftsOnly, FailsAt}
 use Rattle.lfs_fs.specs.declared.error.FsError.{FsError}
 use Rattle.lfs_fs.specs.declared.fs.Fs.{Fs}
-use Rattle.lfs_fs.specs.Drafted.{files_of}
 use Rattle.lfs_fs.specs.Faults.{error_of_entry}
 use Rattle.lfs_fs.specs.Finishing.{Finishes}
 use Rattle.lfs_fs.specs.Refusals.{refusal_of}
@@ -27,13 +26,7 @@ use Rattle.lfs_fs.proofs.calls.Files.{rose_where, still_ready, with_store}
 
 -- a volume with these open files
 abbrev pub with_open : {D : Type 0} → Fs D → Handles → Mounted D
-with_open f table = record {
-  log = (seen f).log;
-  saved = (seen f).log.saved;
-  blocks = (seen f).log.totals.data_blocks;
-  others = (seen f).log.totals.meta_blocks;
-  table = table;
-}
+with_open f table = record { log = (seen f).log; table = table }
 
 module _ {D : Type 0} (state : D → DeviceState) (lawful : (d : D) → IsLawful (state d)) (v : Mounted D) (f : Fs D)
     (begun : IsBegun state v f) (store : Store D) where

@@ -1,5 +1,5 @@
 -- The ends of a clean, as steps of the model.
-use Rattle.std.proofs.Common.{◌≡◌, ◌<◌, ◌≤◌, ◌+◌, ◌/◌, ◌^◌, false, ℕ, length, refl, sym, ◌∙◌, ap, subst, inl, inr, arith}
+use Rattle.std.proofs.Common.{◌≡◌, ◌<◌, ◌≤◌, ◌+◌, ◌/◌, ◌^◌, false, ℕ, refl, sym, ◌∙◌, subst, inl, inr, arith}
 use Rattle.lfs_model.specs.Call.{Answer, Clean, Done, Refuse}
 use Rattle.lfs_model.specs.Checkpoint.{CheckpointValue, IsSegmentCount}
 use Rattle.lfs_model.specs.Device.{DeviceState, IsLawful}
@@ -11,10 +11,12 @@ use Rattle.lfs_files.specs.declared.fault.LogFault.TheVariants as log
 use Rattle.lfs_store.specs.cleaner.Room.{HaltsLater, IsRoomFault, once_orders, room_orders}
 use Rattle.lfs_store.specs.log.LogState.{LogState}
 use Rattle.lfs_store.specs.declared.store.Store.{Store}
-use Rattle.lfs_store.specs.log.verify.declared.totals.BlockTotals.{BlockTotals}
-use Rattle.lfs_store.specs.Accepting.{CannotMakeRoom, HasClean, MakesRoom, most_written}
-use Rattle.lfs_store.proofs.Acceptings.{room_stores, written_most}
+use Rattle.lfs_store.specs.Accepting.{HasClean}
 use Rattle.lfs_store.proofs.of_cleaner.Onces.{once_within}
+use Rattle.lfs_store.specs.StoreState.{volume_of}
+use Rattle.lfs_store.specs.cleaner.Room.{FailsRoom, LacksRoom, MakesRoom, MayNotMakeRoom, most_checkpoints}
+use Rattle.lfs_fs.proofs.Known.{few_checkpoints}
+use Rattle.lfs_store.proofs.Acceptings.{room_holds}
 use Rattle.lfs_fs.specs.declared.error.FsError.{FsError}
 use Rattle.lfs_fs.specs.declared.error.FsError.TheVariants as error
 use Rattle.lfs_fs.specs.declared.fs.Fs.{Fs}
@@ -55,7 +57,7 @@ module _ {D : Type 0} (state : D → DeviceState) (lawful : (d : D) → IsLawful
       (tells : TellsAtMost state old.log new.log (room_orders (segments_of old))) where
     -- the log map is as it was, and what isn't saved after it wasn't before
     module _ (room : MakesRoom state old.log new.log) where
-      ready : new.saved ≡ false → (old.saved ≡ false → HasClean old.log × (old.log.number ≤ 2 ^ 62 + segments_of old / 8))
+      ready : new.log.saved ≡ false → (old.log.saved ≡ false → HasClean old.log × (old.log.number ≤ 2 ^ 62 + segments_of old / 8))
           → HasClean new.log × (new.log.number ≤ 2 ^ 62 + segments_of new / 8)
       ready e before =
           let none = room.unsaved e in
@@ -73,13 +75,13 @@ module _ {D : Type 0} (state : D → DeviceState) (lawful : (d : D) → IsLawful
           runs_on state old new Clean (lawful old.log.device) (lawful new.log.device) room.keeps.carries room.keeps.segments was
           room.keeps.later a fine
           (write_behaves state old new Clean a refl rest.table none (λ never e. absurd (cc))
-          (clean_bounded state old new (let few = room.keeps.number in let most = written_most D old.log old.saved in
+          (clean_bounded state old new (let few = room.keeps.number in let most = few_checkpoints old.log in
           omega (arith, few, most)) tells)) room.keeps.running (λ p keeps at k m0 m is. (
           let log = map_dropped state old new keeps (lawful old.log.device) (lawful new.log.device) room.keeps.carries k m0 m p.state is in
           record {
             next = p.state;
             runs = runs_over state old new k m0 m p.state is m p.state
-                (room_stores state old.log old.saved new.log new.saved room k m0 m keeps is.holds log) room.keeps.segments
+                (room_holds state old.log new.log room k m0 m keeps is.holds log) room.keeps.segments
                 (map_of_volume state old k m0 m p.state is) (is.handles ∙ sym rest.table)
                 (counted_still state old new m rest is.counted) (λ e. ready e is.ready);
             steps = steps p keeps at k m0 m is;
@@ -99,10 +101,9 @@ module _ {D : Type 0} (state : D → DeviceState) (lawful : (d : D) → IsLawful
           inr (Device, refl, (refl, (let f = at.failures in omega (arith, f, rose))), refl))
 
       -- there is room where the device keeps the model
-      pub clean_full_serves : old.log.totals.data_blocks ≡ old.blocks → old.log.totals.meta_blocks ≡ old.others
-          → MayNotMakeRoom state old.log new.log → Serves state old new Clean (Refuse Device)
-      clean_full_serves stored above cannot = ends_by (Refuse Device) (λ e. cc) (λ e. cc) (λ p keeps at k m0 m is.
-          absurd (cannot k m0 m keeps (has_room state old (lawful old.log.device) stored above low k m0 m p.state is)))
+      pub clean_full_serves : MayNotMakeRoom state old.log new.log → Serves state old new Clean (Refuse Device)
+      clean_full_serves cannot = ends_by (Refuse Device) (λ e. cc) (λ e. cc) (λ p keeps at k m0 m is.
+          absurd (cannot k m0 m keeps (has_room state old (lawful old.log.device) low k m0 m p.state is)))
 
   -- ---- the call
   module _ (old : Fs D) (store : Store D) (was : (seen old).log.halted ≡ false) (totals : (volume_of store).totals ≡ (seen old).log.totals)
@@ -112,37 +113,29 @@ module _ {D : Type 0} (state : D → DeviceState) (lawful : (d : D) → IsLawful
     new = record { alloc = old.alloc; store = store; handles = old.handles }
 
     rest : IsRest state (seen old) (seen new)
-    rest = record {
-      blocks = ap (λ (t : BlockTotals). t.data_blocks) totals;
-      others = ap (λ (t : BlockTotals). t.meta_blocks) totals;
-      table = refl;
-    }
+    rest = record { totals = totals; table = refl }
 
     pub cleaned_serves : MakesRoom state (seen old).log (volume_of store)
         → Serves state (seen old) (seen new) Clean Done
     cleaned_serves room = clean_done_serves (seen old) (seen new) was rest low tells room
 
-    clean_fault : (fault : LogFault) → (fault ≡ log.Full → MakesRoom state (seen old).log (volume_of store))
-        → (fault ≡ log.Full → MayNotMakeRoom state (seen old).log (volume_of store))
-        → (fault ≡ log.Device → MakesRoom state (seen old).log (volume_of store))
-        → (fault ≡ log.Device → IsRoomFault state (seen old).log (volume_of store))
+    clean_fault : (fault : LogFault) → (fault ≡ log.Full → LacksRoom state (seen old).log (volume_of store))
+        → (fault ≡ log.Device → FailsRoom state (seen old).log (volume_of store))
         → (fault ≡ log.Halted → HaltsLater state (seen old).log (volume_of store) (most_checkpoints (seen old).log))
         → Serves state (seen old) (seen new) Clean (Refuse (refusal_of (error_of_log fault)))
-    clean_fault log.Full full never kept failed halted =
-        clean_full_serves (seen old) (seen new) was rest low tells (full refl) refl refl (never refl)
-    clean_fault log.Device full never kept failed halted =
-        clean_failed_serves (seen old) (seen new) was rest low tells (kept refl) (failed refl)
-    clean_fault log.Halted full never kept failed halted =
+    clean_fault log.Full full device halted =
+        let lacks = full refl in clean_full_serves (seen old) (seen new) was rest low tells lacks.makes lacks.never
+    clean_fault log.Device full device halted =
+        let fails = device refl in clean_failed_serves (seen old) (seen new) was rest low tells fails.makes fails.fault
+    clean_fault log.Halted full device halted =
         halts_serves state lawful (seen old) (seen new) Clean was refl refl (most_checkpoints (seen old).log)
-        (written_most D (seen old).log (seen old).log.saved) (λ few. clean_bounded state (seen old) (seen new) few tells) (halted refl)
+        (few_checkpoints (seen old).log) (λ few. clean_bounded state (seen old) (seen new) few tells) (halted refl)
 
     pub clean_fails : (fault : LogFault) (e : FsError) → e ≡ error_of_log fault
-        → (fault ≡ log.Full → MakesRoom state (seen old).log (volume_of store))
-        → (fault ≡ log.Full → MayNotMakeRoom state (seen old).log (volume_of store))
-        → (fault ≡ log.Device → MakesRoom state (seen old).log (volume_of store))
-        → (fault ≡ log.Device → IsRoomFault state (seen old).log (volume_of store))
+        → (fault ≡ log.Full → LacksRoom state (seen old).log (volume_of store))
+        → (fault ≡ log.Device → FailsRoom state (seen old).log (volume_of store))
         → (fault ≡ log.Halted → HaltsLater state (seen old).log (volume_of store) (most_checkpoints (seen old).log))
         → Serves state (seen old) (seen new) Clean (Refuse (refusal_of e))
-    clean_fails fault e is full never kept failed halted =
+    clean_fails fault e is full device halted =
         subst (λ (x : FsError). Serves state (seen old) (seen new) Clean (Refuse (refusal_of x))) (sym is)
-        (clean_fault fault full never kept failed halted)
+        (clean_fault fault full device halted)

@@ -1,34 +1,33 @@
 -- Where a volume is in a state there is room that can be made: what the tree needs is within the volume, and what was saved is at rest.
-use Rattle.std.proofs.Common.{◌≡◌, ◌<◌, ◌^◌, ◌∙◌, arith}
+use Rattle.std.proofs.Common.{◌<◌, ◌^◌, arith}
 use Rattle.lfs_model.specs.Checkpoint.{CheckpointValue}
 use Rattle.lfs_model.specs.Device.{DeviceState, IsLawful}
 use Rattle.lfs_model.specs.Stands.{LogMap}
 use Rattle.lfs_model.specs.Tree.{State}
 use Rattle.lfs_model.proofs.Committed.{dropped_log}
-use Rattle.lfs_store.specs.Accepting.{CanMakeRoom}
-use Rattle.lfs_store.proofs.Acceptings.{written_most}
 use Rattle.lfs_store.proofs.TreeTotals.{totals_of_tree}
-use Rattle.lfs_store.proofs.of_cleaner.RoomBounds.{segment_count}
+use Rattle.lfs_store.specs.cleaner.Room.{MayMakeRoom}
+use Rattle.lfs_store.proofs.of_log.LogReads.{segment_count}
+use Rattle.lfs_fs.proofs.Known.{few_checkpoints}
 use Rattle.lfs_fs.specs.Volume.{IsIn, Mounted, segments_of}
 use Rattle.lfs_fs.proofs.volume.Nodes.{need_counted}
 use Rattle.lfs_fs.proofs.volume.Map.{headers_of_volume, map_of_volume}
 
 module _ {D : Type 0} (state : D → DeviceState) (v : Mounted D) (lawful : IsLawful (state v.log.device))
-    (stored : v.log.totals.data_blocks ≡ v.blocks) (above : v.log.totals.meta_blocks ≡ v.others)
     (low : v.log.number < 2 ^ 62) (k : CheckpointValue) (m0 m : LogMap) (s : State) (is : IsIn state v k m0 m s) where
   pub has_room : MayMakeRoom state v.log k m0 m
   has_room =
       let needs = (need_counted totals_of_tree (segments_of v) m s (map_of_volume state v k m0 m s is)
-      (headers_of_volume state v k m0 m s is) v.blocks v.others is.counted).0 in
+      (headers_of_volume state v k m0 m s is) v.log.totals.data_blocks v.log.totals.meta_blocks is.counted).0 in
       let room = is.log.sound.room in
       let most = (segment_count state v.log k m0 m lawful is.holds).most in
-      let few = written_most D v.log v.saved in
+      let few = few_checkpoints v.log in
       record {
-        stores = is.holds;
+        holds = is.holds;
         map = is.map;
         shown = dropped_log (segments_of v) m s is.log is.map;
-        counted = record { stored = stored ∙ is.counted.stored; above = above ∙ is.counted.above };
-        need = omega (arith, needs, room, stored, above);
+        counted = is.counted;
+        need = omega (arith, needs, room);
         enough = λ e. (is.ready e).0;
         number = omega (arith, low, most, few);
       }

@@ -10,15 +10,15 @@ use Rattle.lfs_files.specs.Files as files
 use Rattle.lfs_files.specs.Files.{FilesState}
 use Rattle.lfs_store.specs.declared.draft.Draft.{Draft}
 use Rattle.lfs_store.specs.declared.store.Store.{Store}
-use Rattle.lfs_store.specs.Seen.{StagedLog}
+use Rattle.lfs_store.specs.Seen.{StagedLog, files_of}
 use Rattle.lfs_store.proofs.TreeTotals.{totals_of_tree}
+use Rattle.lfs_store.specs.StoreState.{drafted_of}
 use Rattle.lfs_path.specs.declared.last.Last.{Last}
 use Rattle.lfs_entries.specs.declared.fault.EntryFault.{EntryFault}
 use Rattle.lfs_entries.specs.NewNames.{CountsName, DraftsName, HasFurther}
 use Rattle.lfs_fs.specs.declared.error.FsError.{FsError}
 use Rattle.lfs_fs.specs.declared.fs.Fs.{Fs}
 use Rattle.lfs_fs.specs.Accepting.{need_of}
-use Rattle.lfs_fs.specs.Drafted.{files_of}
 use Rattle.lfs_fs.specs.Finishing.{Finishes}
 use Rattle.lfs_fs.specs.Seen.{answer_by, seen}
 use Rattle.lfs_fs.specs.Volume.{Mounted, Serves, segments_of}
@@ -56,7 +56,7 @@ module _ {D : Type 0} (state : D → DeviceState) (lawful : (d : D) → IsLawful
       (counted_now state lawful v f begun k m0 m st is) in
       let needs : need (linked N st a b n d) ≡ need_of after
       = ap need (sym (linked_tree g made.links made.names))
-      ∙ (need_shaped totals_of_tree made.map shape store.drafted.data_blocks store.drafted.meta_blocks counted).0 in
+      ∙ (need_shaped totals_of_tree made.map shape (drafted_of store).data_blocks (drafted_of store).meta_blocks counted).0 in
       let done = λ (room : need_of after ≤ 47 * N).
       link_done N b g.names d at.walk g.enters.taken (few_links g) (omega (arith, needs, room)) in
       record {

@@ -13,6 +13,7 @@ use Rattle.lfs_files.specs.declared.header.Header.{Header}
 use Rattle.lfs_files.specs.Files as files
 use Rattle.lfs_files.specs.Headers.{as_header}
 use Rattle.lfs_store.specs.declared.store.Store.{Store}
+use Rattle.lfs_store.specs.Seen.{files_of}
 use Rattle.lfs_path.specs.declared.last.Last.{Last}
 use Rattle.lfs_path.specs.Reaching.{EndsParent}
 use Rattle.lfs_path.proofs.LastPieces.{last_says}
@@ -23,7 +24,6 @@ use Rattle.lfs_entries.specs.OldEntries.{HasEntry}
 use Rattle.lfs_fs.specs.declared.error.FsError.{FsError}
 use Rattle.lfs_fs.specs.declared.error.FsError.TheVariants as error
 use Rattle.lfs_fs.specs.declared.fs.Fs.{Fs}
-use Rattle.lfs_fs.specs.Drafted.{files_of}
 use Rattle.lfs_fs.specs.Faults.{error_of_entry}
 use Rattle.lfs_fs.specs.Naming.{BeginsAt, FindsPlace, LacksPlace, Reaches}
 use Rattle.lfs_fs.specs.Refusals.{refusal_of}

@@ -5,12 +5,12 @@ use Rattle.lfs_model.specs.Device.{DeviceState, IsLawful}
 use Rattle.lfs_model.specs.Refusal.{NoMemory}
 use Rattle.lfs_model.specs.Step.{Step, rows_of}
 use Rattle.lfs_store.specs.declared.store.Store.{Store}
+use Rattle.lfs_store.specs.Seen.{files_of}
 use Rattle.lfs_entries.specs.declared.rows.TreeRow.{TreeRow}
 use Rattle.lfs_entries.specs.Telling as telling
 use Rattle.lfs_entries.specs.Telling.{FailsWhere}
 use Rattle.lfs_fs.specs.declared.fs.Fs.{Fs}
 use Rattle.lfs_fs.specs.Answers.{row_of}
-use Rattle.lfs_fs.specs.Drafted.{files_of}
 use Rattle.lfs_fs.specs.Reading.{AreListable, HasRows}
 use Rattle.lfs_fs.specs.Seen.{Begins, seen}
 use Rattle.lfs_fs.specs.Volume.{Mounted, Serves, segments_of}

@@ -11,8 +11,8 @@ use Rattle.lfs_store.specs.log.verify.declared.fault.MountFault.TheVariants.{NoM
 use Rattle.lfs_store.specs.log.verify.declared.tables.Tables.{Tables}
 use Rattle.lfs_store.specs.log.verify.Loading.{HasTables}
 use Rattle.lfs_store.specs.log.verify.Take.{Looks}
-use Rattle.lfs_store.specs.Accepting.{MountsStore, Stores}
 use Rattle.lfs_store.specs.Recounting.{AreTotals, MountsTotals}
+use Rattle.lfs_store.specs.log.LogState.{Holds, Mounts}
 use Rattle.lfs_tree.specs.Checking.{HasTree}
 use Rattle.lfs_fs.specs.declared.fs.Fs.{Fs}
 use Rattle.lfs_fs.specs.Mounting.{FindsState, IsMountFault, IsRefused, MountsFs}
@@ -50,12 +50,12 @@ state_found c t has =
 -- ---- the volume behind it
 module _ {D : Type 0} (state : D → DeviceState) (d d' : D) (lawful : IsLawful (state d)) (looks : Looks (state d) (state d')) (v : Fs D)
     (same : (seen v).log.device ≡ d')
-    (stores : Mounts state d' (seen v).log) (counts : MountsTotals state d' (seen v).log (seen v).log.totals)
+    (mounts : Mounts state d' (seen v).log) (counts : MountsTotals state d' (seen v).log (seen v).log.totals)
     (durable : (state d').keeps_model → Only (state d).content (state d')) where
-  stores_first : Mounts state d (seen v).log
-  stores_first =
+  mounts_first : Mounts state d (seen v).log
+  mounts_first =
       subst (λ (c : Content). (m : LogMap) → (state (seen v).log.device).keeps_model → (is : StandsLog c m)
-      → Holds state (seen v).log is.checkpoint m m) looks.untouched.content stores
+      → Holds state (seen v).log is.checkpoint m m) looks.untouched.content mounts
 
   counts_first : MountsTotals state d (seen v).log (seen v).log.totals
   counts_first =
@@ -72,8 +72,8 @@ module _ {D : Type 0} (state : D → DeviceState) (d d' : D) (lawful : IsLawful 
     mounts_fs s keeps is = record {
       point = point_of state (seen v) s;
       same = refl;
-      running = found_running state d (seen v) stores_first keeps s is lawful.now;
-      at = found_at state d (seen v) stores_first keeps s is lawful.now closed
+      running = found_running state d (seen v) mounts_first keeps s is lawful.now;
+      at = found_at state d (seen v) mounts_first keeps s is lawful.now closed
           (counts_first is.log keeps (record { checkpoint = is.checkpoint; newest = is.found; stands = is.stands })) saved
           (durable_now keeps);
     }

@@ -9,8 +9,8 @@ use Rattle.lfs_model.specs.TreeOf.{IsTree, Stands}
 use Rattle.lfs_model.specs.Volume.{IsLogOf}
 use Rattle.lfs_model.proofs.Committed.{mounted_log}
 use Rattle.lfs_model.proofs.Decodes.{are_sized, decoding}
-use Rattle.lfs_store.specs.Accepting.{MountsStore, Stores}
-use Rattle.lfs_model.specs.Totals.{IsCounted}
+use Rattle.lfs_store.specs.log.LogState.{Holds, Mounts}
+use Rattle.lfs_store.specs.Recounting.{AreTotals}
 use Rattle.lfs_fs.specs.Volume.{IsAt, IsIn, Mounted, segments_of}
 use Rattle.lfs_fs.proofs.calls.Exits.{point_of}
 
@@ -23,22 +23,22 @@ module _ {D : Type 0} (state : D → DeviceState) (d : D) (v : Mounted D) (mount
   abbrev found_log : StandsLog (state d).content is.log
   found_log = record { checkpoint = is.checkpoint; newest = is.found; stands = is.stands }
 
-  found_stores : Holds state v.log is.checkpoint is.log is.log
-  found_stores = mounts is.log keeps found_log
+  found_holds : Holds state v.log is.checkpoint is.log is.log
+  found_holds = mounts is.log keeps found_log
 
   -- it isn't halted
   pub found_running : v.log.halted ≡ false
-  found_running = found_stores.holds.running
+  found_running = found_holds.running
 
   pub found_map : IsLogMap is.log
   found_map = (decoding (state d).content is.checkpoint is.log (are_sized (state d).content all) is.stands).0
 
   same_segments : segments_of v ≡ is.checkpoint.segments
-  same_segments = found_stores.holds.log.segments
+  same_segments = sym found_holds.segments
 
-  pub found_in : v.table ≡ [] → IsCounted is.log v.blocks v.others → v.saved ≡ true → IsIn state v is.checkpoint is.log is.log s
+  pub found_in : v.table ≡ [] → AreTotals is.log v.log.totals → v.log.saved ≡ true → IsIn state v is.checkpoint is.log is.log s
   found_in closed counted saved = record {
-    stores = found_stores;
+    holds = found_holds;
     map = found_map;
     log = subst (λ (n : ℕ). IsLogOf n is.log s) (sym same_segments) (mounted_log (state d).content all s is);
     handles = is.closed ∙ sym closed;
@@ -48,7 +48,7 @@ module _ {D : Type 0} (state : D → DeviceState) (d : D) (v : Mounted D) (mount
   }
 
   -- where a stop leaves what was there
-  pub found_at : v.table ≡ [] → IsCounted is.log v.blocks v.others → v.saved ≡ true → Only (state d).content (state v.log.device)
+  pub found_at : v.table ≡ [] → AreTotals is.log v.log.totals → v.log.saved ≡ true → Only (state d).content (state v.log.device)
       → IsAt state v (point_of state v s)
   found_at closed counted saved only = record {
     halted = refl;

@@ -12,9 +12,10 @@ use Rattle.lfs_files.specs.Files as files
 use Rattle.lfs_files.specs.Files.{FilesState}
 use Rattle.lfs_store.specs.declared.draft.Draft.{Draft}
 use Rattle.lfs_store.specs.declared.store.Store.{Store}
-use Rattle.lfs_store.specs.Seen.{StagedLog}
+use Rattle.lfs_store.specs.Seen.{StagedLog, files_of}
 use Rattle.lfs_store.specs.log.LogState.{IsVacant}
 use Rattle.lfs_store.proofs.TreeTotals.{totals_of_tree}
+use Rattle.lfs_store.specs.StoreState.{drafted_of}
 use Rattle.lfs_path.specs.declared.last.Last.{Last}
 use Rattle.lfs_entries.specs.declared.fault.EntryFault.{EntryFault}
 use Rattle.lfs_entries.specs.NewObjects.{makes_directory}
@@ -22,7 +23,6 @@ use Rattle.lfs_entries.specs.NewNames.{CountsEntry, DraftsEntry, HasEntry}
 use Rattle.lfs_fs.specs.declared.error.FsError.{FsError}
 use Rattle.lfs_fs.specs.declared.fs.Fs.{Fs}
 use Rattle.lfs_fs.specs.Accepting.{need_of}
-use Rattle.lfs_fs.specs.Drafted.{files_of}
 use Rattle.lfs_fs.specs.Finishing.{Finishes}
 use Rattle.lfs_fs.specs.Naming.{BeginsAt}
 use Rattle.lfs_fs.specs.Refusals.{refusal_of}
@@ -83,7 +83,7 @@ module _ {D : Type 0} (state : D → DeviceState) (lawful : (d : D) → IsLawful
       (counted_now state lawful v g begun k m0 m st is) in
       let needs : need (with_new st.tree d path (new_node of.kind)) ≡ need_of after
       = ap need (sym (new_tree new made.object made.links made.names))
-      ∙ (need_shaped totals_of_tree made.map shape store.drafted.data_blocks store.drafted.meta_blocks counted).0 in
+      ∙ (need_shaped totals_of_tree made.map shape (drafted_of store).data_blocks (drafted_of store).meta_blocks counted).0 in
       let done = λ (room : need_of after ≤ 47 * segments_of v).
       new_done of st new.same at.walk new.enters.taken own (top_least new) (omega (arith, needs, room)) in
       record {

@@ -6,11 +6,11 @@ use Rattle.lfs_model.specs.Device.{DeviceState, IsLawful}
 use Rattle.lfs_model.specs.PathText.{text_refusal}
 use Rattle.lfs_model.specs.Refusal.{Refusal}
 use Rattle.lfs_model.specs.Walk.{At}
-use Rattle.lfs_store.specs.memory.Batch.{IsNoChange}
 use Rattle.lfs_store.specs.log.LogState.{Reads}
 use Rattle.lfs_store.specs.declared.draft.Draft.{Draft}
 use Rattle.lfs_store.specs.declared.store.Store.{Store}
-use Rattle.lfs_store.proofs.LogReads.{reads_more}
+use Rattle.lfs_store.specs.StoreState.{IsEmpty, draft_of, drafted_of, volume_of}
+use Rattle.lfs_store.proofs.of_log.LogReads.{reads_more}
 use Rattle.lfs_path.specs.declared.last.Last.{Last}
 use Rattle.lfs_path.specs.Lasts.{HasLast}
 use Rattle.lfs_path.specs.Reaching.{EndsParent}
@@ -30,9 +30,6 @@ module _ {D : Type 0} (state : D → DeviceState) where
   pub still_more : (a b c : Mounted D) → IsLawful (state a.log.device) → IsStill state a b → IsStill state b c → IsStill state a c
   still_more a b c lawful one two = record {
     reads = reads_more state a.log b.log c.log lawful one.reads two.reads;
-    saved = two.saved ∙ one.saved;
-    blocks = two.blocks ∙ one.blocks;
-    others = two.others ∙ one.others;
     table = two.table ∙ one.table;
   }
 
@@ -43,17 +40,15 @@ bytes_of (x ∷ xs) fits = (let first = (fits 0).fits in omega (arith, first), b
 
 module _ {D : Type 0} (state : D → DeviceState) (lawful : (d : D) → IsLawful (state d)) (old begun : Fs D) (begins : Begins old begun)
     (store : Store D) (reads : Reads state (seen begun).log (volume_of store))
-    (saved : (volume_of store).saved ≡ (seen begun).log.saved) (totals : (volume_of store).totals ≡ (seen begun).log.totals)
-    (draft : store.draft ≡ begun.store.draft)
-    (drafted : store.drafted ≡ drafted_of begun.store) where
+    (draft : draft_of store ≡ draft_of begun.store) (drafted : drafted_of store ≡ drafted_of begun.store) where
   -- the call came to the directory of the last piece
   pub reaches : (p : List ℕ) → AreBytes p → (d : ℕ) → (piece : Option Last) → HasLast p piece
       → WalksTo state (seen begun).log (volume_of store) (draft_of begun.store) (EndsParent p) (At d)
       → Reaches state (seen begun) (record { alloc = begun.alloc; store = store; handles = begun.handles }) p d piece
   reaches p bytes d piece last walks = record {
     still = still;
-    empty = subst (λ (x : Draft). IsNoChange x.changes) (sym draft) begins.empty;
-    drafted = drafted ∙ begins.drafted ∙ sym totals;
+    empty = subst (λ (x : Draft). IsEmpty x) (sym draft) begins.empty;
+    drafted = drafted ∙ begins.drafted ∙ sym reads.totals;
     bytes = bytes;
     last = last;
     walk = walked state (seen begun) _ (lawful (seen begun).log.device) still was (draft_of begun.store) begins.empty (EndsParent p)
@@ -61,10 +56,10 @@ module _ {D : Type 0} (state : D → DeviceState) (lawful : (d : D) → IsLawful
   }
     where
       still : IsStill state (seen begun) (seen (record { alloc = begun.alloc; store = store; handles = begun.handles }))
-      still = still_read state lawful old begun begins store reads saved totals
+      still = still_read state lawful old begun begins store reads
 
       was : (seen begun).log.halted ≡ false
-      was = was_running state lawful old begun begins store reads saved totals
+      was = was_running state lawful old begun begins store reads
 
 -- ---- a link's text that is refused
 

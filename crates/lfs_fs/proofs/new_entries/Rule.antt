@@ -13,6 +13,8 @@ use Rattle.lfs_files.specs.declared.header.Header.{Header}
 use Rattle.lfs_files.specs.Files as files
 use Rattle.lfs_files.specs.Files.{FilesState}
 use Rattle.lfs_store.specs.declared.store.Store.{Store}
+use Rattle.lfs_store.specs.StoreState.{volume_of}
+use Rattle.lfs_store.specs.Seen.{files_of}
 use Rattle.lfs_path.specs.declared.last.Last.{Last}
 use Rattle.lfs_entries.specs.declared.fault.EntryFault.{EntryFault}
 use Rattle.lfs_entries.specs.Looking.{IsHolder, LooksUp}
@@ -22,7 +24,6 @@ use Rattle.lfs_fs.specs.declared.error.FsError.{FsError}
 use Rattle.lfs_fs.specs.declared.error.FsError.TheVariants as error
 use Rattle.lfs_entries.specs.Telling.{AsksOnly}
 use Rattle.lfs_fs.specs.declared.fs.Fs.{Fs}
-use Rattle.lfs_fs.specs.Drafted.{files_of}
 use Rattle.lfs_fs.specs.Faults.{error_of_entry}
 use Rattle.lfs_fs.specs.Naming.{BeginsAt, BeginsNowhere}
 use Rattle.lfs_fs.specs.Refusals.{refusal_of}
@@ -69,7 +70,8 @@ module _ {D : Type 0} (state : D → DeviceState) (lawful : (d : D) → IsLawful
   at k m0 m s keeps is =
       reached_in state lawful (seen old) f begun path d l begins.reached (reads.looks.carries.kept_before keeps) k m0 m s is
 
-  pub see : (k : CheckpointValue) (m0 m : LogMap) (s : State) → (state (volume_of store).device).keeps_model → IsIn state (seen old) k m0 m s
+  pub see : (k : CheckpointValue) (m0 m : LogMap) (s : State) → (state (volume_of store).device).keeps_model
+      → IsIn state (seen old) k m0 m s
       → (P : LogMap → Type 0) → telling.InEach (files_of state f.store) (files_of state store) P → P m
   see k m0 m s keeps is P each = told state lawful (seen old) f begun store P each k m0 m s keeps is
 

@@ -9,8 +9,9 @@ use Rattle.lfs_files.specs.Files as files
 use Rattle.lfs_files.specs.Files.{FilesState}
 use Rattle.lfs_store.specs.declared.draft.Draft.{Draft}
 use Rattle.lfs_store.specs.declared.store.Store.{Store}
-use Rattle.lfs_store.specs.Seen.{StagedLog}
+use Rattle.lfs_store.specs.Seen.{StagedLog, files_of}
 use Rattle.lfs_store.proofs.TreeTotals.{totals_of_tree}
+use Rattle.lfs_store.specs.StoreState.{drafted_of}
 use Rattle.lfs_path.specs.declared.last.Last.{Last}
 use Rattle.lfs_entries.specs.declared.entry.Entry.{Entry}
 use Rattle.lfs_entries.specs.declared.fault.EntryFault.{EntryFault}
@@ -20,7 +21,6 @@ use Rattle.lfs_entries.specs.OldNames.{CountsDrop, DraftsDrop, HasDropped, HasOl
 use Rattle.lfs_entries.specs.Telling.{FailsWhere}
 use Rattle.lfs_fs.specs.declared.error.FsError.{FsError}
 use Rattle.lfs_fs.specs.declared.fs.Fs.{Fs}
-use Rattle.lfs_fs.specs.Drafted.{files_of}
 use Rattle.lfs_fs.specs.Finishing.{Finishes}
 use Rattle.lfs_fs.specs.Seen.{answer_by, seen}
 use Rattle.lfs_fs.specs.Volume.{Mounted, Serves, segments_of}
@@ -61,7 +61,7 @@ module _ {D : Type 0} (state : D → DeviceState) (lawful : (d : D) → IsLawful
         let counted = counts m m dropped.map keeps here dropped.has (has_old go).both (go.shaped.long d) map.map
         (counted_now state lawful v f begun k m0 m st is) in
         let room = room_shaped totals_of_tree (segments_of v) dropped.map (gone st path d) map
-        (gone_shape go s' is_open opens_in shut_in dropped) store.drafted.data_blocks store.drafted.meta_blocks counted in
+        (gone_shape go s' is_open opens_in shut_in dropped) (drafted_of store).data_blocks (drafted_of store).meta_blocks counted in
         record {
           next = gone st path d;
           answer = Done;

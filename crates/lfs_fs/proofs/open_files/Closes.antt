@@ -1,5 +1,5 @@
 -- The ends of a close, and of a sync through a handle, as steps of the model.
-use Rattle.std.proofs.Common.{◌≡◌, ◌≤◌, ◌<◌, ◌+◌, ◌/◌, ◌^◌, ◌==◌, ◌&&◌, ℕ, Bool, true, false, length, Some, refl, sym, ◌∙◌, ap, subst}
+use Rattle.std.proofs.Common.{◌≡◌, ◌≤◌, ◌<◌, ◌+◌, ◌/◌, ◌^◌, ◌==◌, ◌&&◌, ℕ, true, false, Some, refl, sym, ◌∙◌, ap, subst}
 use Rattle.std.proofs.Common.{inl, inr, ⊎_elim, arith}
 use Rattle.std.proofs.lemmas.Bool.{eq-eqb}
 use Rattle.std.specs.Ordering.{nat_cmp}
@@ -16,7 +16,6 @@ use Rattle.lfs_model.specs.Refusal.{Worn}
 use Rattle.lfs_model.specs.Run.{IsExcused, Point, StepsOr, acknowledges}
 use Rattle.lfs_model.specs.Stands.{LogMap}
 use Rattle.lfs_model.specs.Step.{Step}
-use Rattle.lfs_model.specs.Totals.{IsCounted}
 use Rattle.lfs_model.specs.Tree.{Handles, State, names, opened, without}
 use Rattle.lfs_model.specs.TreeOf.{IsTree}
 use Rattle.lfs_files.specs.declared.fault.LogFault.{LogFault}
@@ -24,19 +23,15 @@ use Rattle.lfs_files.specs.declared.fault.LogFault.TheVariants as log
 use Rattle.lfs_files.specs.declared.header.Header as headers
 use Rattle.lfs_store.specs.declared.store.Store.{Store}
 use Rattle.lfs_store.specs.log.verify.declared.totals.BlockTotals.{BlockTotals}
-use Rattle.lfs_store.specs.memory.Batch.{IsNoChange}
 use Rattle.lfs_store.specs.memory.Present.{as_header}
 use Rattle.lfs_store.specs.memory.Removing.{without_file}
-use Rattle.lfs_store.specs.segments.Table.{clean_in}
-use Rattle.lfs_store.specs.log.LogState.{Alters, LogState, Holds, IsKept, IsReadFault, IsRemoved, Reads}
-use Rattle.lfs_store.specs.Accepting.{Forgets, HasClean, Stores}
-use Rattle.lfs_store.specs.Recounting.{CountsGone}
+use Rattle.lfs_store.specs.log.LogState.{Alters, Holds, IsKept, IsReadFault, IsRemoved, Reads}
+use Rattle.lfs_store.specs.Accepting.{HasClean}
+use Rattle.lfs_store.specs.Recounting.{AreTotals, CountsGone}
 use Rattle.lfs_store.specs.log.Saving.{commit_orders}
-use Rattle.lfs_store.specs.cleaner.Room.{IsAtRest}
-use Rattle.lfs_store.proofs.of_cleaner.of_log.Unsaved.{kept_saved}
-use Rattle.lfs_store.proofs.Forgotten.{forgets}
-use Rattle.lfs_store.proofs.LogReads.{fault_more, held_still, reads_none}
 use Rattle.lfs_store.proofs.Recounted.{kept_more, removed_more}
+use Rattle.lfs_store.specs.StoreState.{IsEmpty, draft_of, volume_of}
+use Rattle.lfs_store.proofs.of_log.LogReads.{fault_more, held_still, reads_none}
 use Rattle.lfs_fs.specs.declared.error.FsError.{FsError}
 use Rattle.lfs_fs.specs.declared.fs.Fs.{Fs}
 use Rattle.lfs_fs.specs.Faults.{error_of_log}
@@ -155,15 +150,15 @@ module _ {D : Type 0} (state : D → DeviceState) (lawful : (d : D) → IsLawful
   pub record Alterations (p : Point) (k : CheckpointValue) (m0 : LogMap) : Type 0 where
     pub next : State
     pub present : LogMap
-    pub saved : new.saved ≡ old.saved
-    pub stores : Holds state new.log k m0 present
+    pub saved : new.log.saved ≡ old.log.saved
+    pub holds : Holds state new.log k m0 present
     pub map : IsMapOf (segments_of old) present next
     pub handles : next.handles ≡ new.table
-    pub counted : IsCounted present new.blocks new.others
+    pub counted : AreTotals present new.log.totals
     pub steps : StepsOr (segments_of old) call p a (point_of state new next)
 
-  clean_still : HasClean old.log → HasClean new.log
-  clean_still clean =
+  clean_kept : HasClean old.log → HasClean new.log
+  clean_kept clean =
       subst (λ (x : ℕ). x / 8 + 8 ≤ new.log.clean) (sym alters.segments)
       (subst (λ (c : ℕ). old.log.segments / 8 + 8 ≤ c) (sym alters.clean) clean)
 
@@ -180,7 +175,7 @@ module _ {D : Type 0} (state : D → DeviceState) (lawful : (d : D) → IsLawful
           saved = m0;
           present = does.present;
           is = record {
-            stores = does.holds;
+            holds = does.holds;
             map = does.map.map;
             log = (subst (λ (l : ℕ). IsMapOf l does.present does.next) (sym alters.segments) does.map).log;
             handles = does.handles;
@@ -188,7 +183,7 @@ module _ {D : Type 0} (state : D → DeviceState) (lawful : (d : D) → IsLawful
             acknowledged = subst (λ (l : ℕ). IsTree l m0) (sym alters.segments) is.acknowledged;
             ready = λ e. (
                 let r = is.ready (sym does.saved ∙ e) in (
-                  clean_still r.0,
+                  clean_kept r.0,
                   subst (λ (l : ℕ). new.log.number ≤ 2 ^ 62 + l / 8) (sym alters.segments)
                       (subst (λ (x : ℕ). x ≤ 2 ^ 62 + segments_of old / 8) (sym alters.number) r.1),
                 ));
@@ -229,19 +224,6 @@ module _ {D : Type 0} (state : D → DeviceState) (lawful : (d : D) → IsLawful
     one_commit = λ unclean clean. tells_none state old.log new.log commit_orders alters.looks.told;
   }
 
--- what is at rest stays so where nothing is gone
-still_at_rest : {D : Type 0} (state : D → DeviceState) (h h' : LogState D) → IsKept state h h' → IsAtRest h → IsAtRest h'
-still_at_rest state h h' kept rest =
-    let few = kept.alters.few in
-    let many = rest.many in
-    let segments = kept.alters.segments in
-    let clean = kept.alters.clean in
-    record {
-      nothing = kept_saved h h' rest.nothing (omega (arith, few)) kept.alters.upgraded (kept.untaken rest.untaken);
-      untaken = kept.untaken rest.untaken;
-      many = omega (arith, many, segments, clean);
-    }
-
 -- ---- close
 
 module _ {D : Type 0} (state : D → DeviceState) (lawful : (d : D) → IsLawful (state d)) where
@@ -264,12 +246,12 @@ module _ {D : Type 0} (state : D → DeviceState) (lawful : (d : D) → IsLawful
       closed_handles s same = ap (without nat_cmp h) same ∙ sym table
 
       -- the file keeps a name, or another handle
-      pub close_keeps : new.saved ≡ old.saved → Reads state old.log new.log → new.blocks ≡ old.blocks → new.others ≡ old.others
+      pub close_keeps : Reads state old.log new.log
           → ((k : CheckpointValue) (m0 m : LogMap) (s : State) → (state new.log.device).keeps_model → IsIn state old k m0 m s
           → (names s.tree n == 0 && opened (without nat_cmp h s.handles) n == 0) ≡ false)
           → Serves state old new (Close h) Done
-      close_keeps saved reads blocks others stays =
-          table_serves state old new (lawful old.log.device) (lawful new.log.device) was (Close h) Done reads saved blocks others refl refl
+      close_keeps reads stays =
+          table_serves state old new (lawful old.log.device) (lawful new.log.device) was (Close h) Done reads refl refl
           (λ e. cc) (λ p keeps here k m0 m is. record {
             next = closed (segments_of old) p.state h p.state.tree;
             map = closed_map (segments_of old) m p.state (map_of_volume state old k m0 m p.state is) h n (opened_in p.state is.handles)
@@ -285,13 +267,11 @@ module _ {D : Type 0} (state : D → DeviceState) (lawful : (d : D) → IsLawful
       module _ (links : ℕ) (nameless : links ≡ 0) (shut : opened (without nat_cmp h old.table) n ≡ 0)
           (there : (k : CheckpointValue) (m0 m : LogMap) (s : State) → (state new.log.device).keeps_model → IsIn state old k m0 m s
           → (g : Header) × (m.header n ≡ Some g) × (g.links ≡ links)) where
-        pub close_removes : ((k : CheckpointValue) (m0 m : LogMap) (s : State) → (state new.log.device).keeps_model
-            → IsIn state old k m0 m s → is_nameless m n ≡ true → new.saved ≡ old.saved)
-            → IsRemoved state old.log new.log n → Forgets state old.log new.log n
+        pub close_removes : IsRemoved state old.log new.log n
             → ((k : CheckpointValue) (m0 m : LogMap) → (state new.log.device).keeps_model → Holds state old.log k m0 m → IsLogMap m
-            → IsLogMap (without_file n m) → IsCounted m old.blocks old.others → IsCounted (without_file n m) new.blocks new.others)
+            → IsLogMap (without_file n m) → AreTotals m old.log.totals → AreTotals (without_file n m) new.log.totals)
             → Serves state old new (Close h) Done
-        close_removes saved gone forgets counted =
+        close_removes gone counted =
             altered_serves state lawful old new was gone.alters (Close h) Done (closes_behaves state lawful old new was gone.alters
             (Close h) Done refl refl) (λ e. cc) (λ e. cc) (λ p keeps here k m0 m is. (
             let map = map_of_volume state old k m0 m p.state is in
@@ -306,9 +286,8 @@ module _ {D : Type 0} (state : D → DeviceState) (lawful : (d : D) → IsLawful
             record {
               next = closed (segments_of old) p.state h (without nat_cmp n p.state.tree);
               present = without_file n m;
-              saved = saved k m0 m p.state keeps is hidden;
-              stores = subst (λ (b : Bool). Holds state new.log k m0 (without_file n m)) (sym (saved k m0 m p.state keeps is hidden))
-                  (forgets k m0 m keeps is.holds hidden);
+              saved = gone.nameless k m0 m keeps is.holds hidden;
+              holds = gone.holds k m0 m keeps is.holds;
               map = next_map;
               handles = closed_handles p.state is.handles;
               counted = counted k m0 m keeps is.holds is.map next_map.map is.counted;
@@ -317,23 +296,18 @@ module _ {D : Type 0} (state : D → DeviceState) (lawful : (d : D) → IsLawful
             }))
 
     -- a call of the device failed
-    pub close_fails : new.saved ≡ old.saved → IsKept state old.log new.log → IsReadFault state old.log new.log → new.blocks ≡ old.blocks
-        → new.others ≡ old.others
+    pub close_fails : IsKept state old.log new.log → IsReadFault state old.log new.log → new.log.totals ≡ old.log.totals
         → new.table ≡ old.table → Serves state old new (Close h) (Refuse Device)
-    close_fails saved kept fault blocks others table =
+    close_fails kept fault totals table =
         altered_serves state lawful old new was kept.alters (Close h) (Refuse Device) (kept_behaves state lawful old new was
         kept.alters (Close h) (Refuse Device) table tt) (λ e. cc) (λ e. cc) (λ p keeps here k m0 m is. record {
           next = p.state;
           present = m;
-          saved = saved;
-          stores = record {
-            holds = kept.holds k m0 m keeps is.holds;
-            nothing_new = λ e. is.holds.nothing_new (sym saved ∙ e);
-            rest = λ e. still_at_rest state old.log new.log kept (is.holds.rest (sym saved ∙ e));
-          };
+          saved = kept.saved;
+          holds = kept.holds k m0 m keeps is.holds;
           map = map_of_volume state old k m0 m p.state is;
           handles = is.handles ∙ sym table;
-          counted = record { stored = blocks ∙ is.counted.stored; above = others ∙ is.counted.above };
+          counted = subst (λ (t : BlockTotals). AreTotals m t) (sym totals) is.counted;
           steps = (let rose = fault k m0 m keeps is.holds in
               inr (Device, refl, (refl, (let f = here.failures in omega (arith, f, rose))), refl));
         })
@@ -353,8 +327,8 @@ module _ {D : Type 0} (state : D → DeviceState) (lawful : (d : D) → IsLawful
   pub close_shared : (handles : Handles) → IsClosed handles → (opened (without nat_cmp h old.handles) n ≡ 0 → ⊥)
       → Serves state (seen old) (seen (with_parts old.store handles)) (Close h) Done
   close_shared handles table some =
-      close_keeps state lawful (seen old) (seen (with_parts old.store handles)) was h n opens table refl
-      (reads_none state (seen old).log) refl refl
+      close_keeps state lawful (seen old) (seen (with_parts old.store handles)) was h n opens table
+      (reads_none state (seen old).log)
       (λ k m0 m s keeps is. open_stays (names s.tree n) (opened (without nat_cmp h s.handles) n)
       (subst (λ hs. opened (without nat_cmp h hs) n ≡ 0 → ⊥) (sym is.handles) some))
 
@@ -378,7 +352,7 @@ module _ {D : Type 0} (state : D → DeviceState) (lawful : (d : D) → IsLawful
         → Serves state (seen old) (seen (with_parts mid.store handles)) (Close h) Done
     close_named handles table some =
         close_keeps state lawful (seen old) (seen (with_parts mid.store handles)) was h n opens
-        (closed_then handles table) reads.still.saved reads.still.reads reads.still.blocks reads.still.others
+        (closed_then handles table) reads.still.reads
         (λ k m0 m s keeps is. (
         let names_is = names_by (segments_of (seen old)) m s (map_of_volume state (seen old) k m0 m s is) h n
         (ap (find nat_cmp h) is.handles ∙ opens) (as_header head) (there k m0 m s keeps is) in
@@ -388,18 +362,19 @@ module _ {D : Type 0} (state : D → DeviceState) (lawful : (d : D) → IsLawful
     module _ (store : Store D) where
       pub close_last : (handles : Handles) → IsClosedNow handles → head.links ≤ 0
           → opened (without nat_cmp h old.handles) n ≡ 0
-          → IsRemoved state (seen mid).log (volume_of store) n → CountsGone state (seen mid).log (volume_of store) n (seen mid).log.totals (volume_of store).totals
+          → IsRemoved state (seen mid).log (volume_of store) n
+          → CountsGone state (seen mid).log (volume_of store) n (seen mid).log.totals (volume_of store).totals
           → Serves state (seen old) (seen (with_parts store handles)) (Close h) Done
       close_last handles table none shut gone counts =
-          let all = removed_more state (seen old).log (seen mid).log (volume_of store) n (lawful (seen old).log.device) reads.still.reads gone in
+          let all =
+          removed_more state (seen old).log (seen mid).log (volume_of store) n (lawful (seen old).log.device) reads.still.reads gone in
           close_removes state lawful (seen old) (seen (with_parts store handles)) was h n opens
           (closed_then handles table) head.links (omega (arith, none)) shut
           (λ k m0 m s keeps is. (as_header head, there k m0 m s (gone.alters.looks.carries.kept_before keeps) is, refl))
-          (λ k m0 m s keeps is off. all.nameless k m0 m keeps is.holds off)
-          all (forgets state (seen old).log (volume_of store) (seen old).log.saved n all)
+          all
           (λ k m0 m keeps holds map map' counted.
           counts k m0 m keeps (held_still state (seen old).log (seen mid).log k m0 m reads.still.reads holds) map map'
-          record { stored = reads.still.blocks ∙ counted.stored; above = reads.still.others ∙ counted.above })
+          (subst (λ (t : BlockTotals). AreTotals m t) (sym reads.still.reads.totals) counted))
 
       -- a call of the device failed
       pub close_faults : (fault : LogFault) (e : FsError) → e ≡ error_of_log fault → IsKept state (seen mid).log (volume_of store)
@@ -411,11 +386,10 @@ module _ {D : Type 0} (state : D → DeviceState) (lawful : (d : D) → IsLawful
           (by fault halted full)
         where
           device : Serves state (seen old) (seen (with_parts store mid.handles)) (Close h) (Refuse Device)
-          device = close_fails state lawful (seen old) (seen (with_parts store mid.handles)) was h n opens (kept.saved ∙ reads.still.saved)
+          device = close_fails state lawful (seen old) (seen (with_parts store mid.handles)) was h n opens
               (kept_more state (seen old).log (seen mid).log (volume_of store) (lawful (seen old).log.device) reads.still.reads kept)
               (fault_more state (seen old).log (seen mid).log (volume_of store) reads.still.reads failed)
-              (ap (λ (t : BlockTotals). t.data_blocks) totals ∙ reads.still.blocks) (ap (λ (t : BlockTotals). t.meta_blocks) totals
-              ∙ reads.still.others) reads.still.table
+              (totals ∙ reads.still.reads.totals) reads.still.table
 
           by : (x : LogFault) → (x ≡ log.Halted → (seen mid).log.halted ≡ true) → (x ≡ log.Full → ⊥)
               → Serves state (seen old) (seen (with_parts store mid.handles)) (Close h) (Refuse (refusal_of (error_of_log x)))

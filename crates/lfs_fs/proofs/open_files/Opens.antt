@@ -30,8 +30,7 @@ open_quiet path = record { free = refl; memory = refl; leaves = refl; unclean = 
 -- ---- a file gets a handle
 
 module _ {D : Type 0} (state : D → DeviceState) (lawful : (d : D) → IsLawful (state d)) where
-  module _ (old new : Mounted D) (reads : Reads state old.log new.log) (saved : new.saved ≡ old.saved) (blocks : new.blocks ≡ old.blocks)
-      (others : new.others ≡ old.others) (was : old.log.halted ≡ false)
+  module _ (old new : Mounted D) (reads : Reads state old.log new.log) (was : old.log.halted ≡ false)
       (p : List ℕ) (n : ℕ) (walks : (k : CheckpointValue) (m0 m : LogMap) (s : State) → (state new.log.device).keeps_model
       → IsIn state old k m0 m s → Resolve s.tree p true (At n))
       (files : (k : CheckpointValue) (m0 m : LogMap) (s : State) → (state new.log.device).keeps_model → IsIn state old k m0 m s
@@ -40,7 +39,7 @@ module _ {D : Type 0} (state : D → DeviceState) (lawful : (d : D) → IsLawful
         → new.table ≡ put nat_cmp h n old.table → Serves state old new (Open p) (Handle h)
     open_gives h some first table =
         table_serves state old new (lawful old.log.device) (lawful new.log.device) was (Open p)
-        (Handle h) reads saved blocks others refl refl (λ e. cc) (λ q keeps here k m0 m is. (
+        (Handle h) reads refl refl (λ e. cc) (λ q keeps here k m0 m is. (
         let walk = walks k m0 m q.state keeps is in
         let map = map_of_volume state old k m0 m q.state is in
         let file = files k m0 m q.state keeps is in
@@ -78,6 +77,6 @@ module _ {D : Type 0} {state : D → DeviceState} (lawful : (d : D) → IsLawful
     pub opens_file : (h : ℕ) → h < 64 → least_handle f.handles ≡ h → (table : Handles) → table ≡ put nat_cmp h n f.handles
         → Serves state v (record (seen f) { table = table }) (Open path) (Handle h)
     opens_file h some first table opened = let still = looked.begun.still in
-        open_gives state lawful v (record (seen f) { table = table }) still.reads still.saved still.blocks still.others
+        open_gives state lawful v (record (seen f) { table = table }) still.reads
         (was state lawful v f looked.begun) path n looked.walk file_is h some (ap least_handle (sym still.table) ∙ first)
         (opened ∙ ap (put nat_cmp h n) still.table)

@@ -1,5 +1,5 @@
 -- Calls that change the table of open files alone, as steps of the model.
-use Rattle.std.proofs.Common.{◌≡◌, ℕ, true, false, length, refl, sym, ◌∙◌, ap, subst, inl, arith}
+use Rattle.std.proofs.Common.{◌≡◌, ℕ, true, false, refl, sym, ◌∙◌, subst, inl, arith}
 use Rattle.lfs_model.specs.Call.{Answer, Call, is_ok}
 use Rattle.lfs_model.specs.Checkpoint.{CheckpointValue}
 use Rattle.lfs_model.specs.Crash.{StandsForOn}
@@ -10,10 +10,9 @@ use Rattle.lfs_model.specs.Stands.{LogMap}
 use Rattle.lfs_model.specs.Tree.{State}
 use Rattle.lfs_model.specs.TreeOf.{dropped}
 use Rattle.lfs_model.proofs.Moments.{goes_on, started}
-use Rattle.lfs_model.proofs.Settled.{settled_stands}
-use Rattle.lfs_store.specs.memory.declared.memory.LogMemory.{LogMemory}
 use Rattle.lfs_store.specs.memory.Present.{Looks}
 use Rattle.lfs_store.specs.log.LogState.{Reads}
+use Rattle.lfs_store.proofs.of_log.LogReads.{acknowledged}
 use Rattle.lfs_fs.specs.Volume.{IsStill, IsAt, IsIn, Mounted, Serves, changes_handles, segments_of}
 use Rattle.lfs_fs.proofs.calls.AnyDevice.{ok_refuses_none, opens_behaves}
 use Rattle.lfs_fs.proofs.calls.Drafts.{runs_on}
@@ -31,16 +30,15 @@ module _ {D : Type 0} (state : D → DeviceState) (old new : Mounted D) (lawful 
       looks.carries looks.time (λ c left. here c (looks.untouched.crash c left))
     where
       here : AllLeft (state old.log.device) (StandsForOn k.segments m0 (dropped m))
-      here c left = inl (settled_stands (state old.log.device) k m0 is.holds.log.running.settled c left)
+      here c left = inl (acknowledged state old.log k m0 m is.holds c left)
 
   -- ---- the table alone
-  module _ (call : Call) (a : Answer) (reads : Reads state old.log new.log) (saved : new.saved ≡ old.saved)
-      (blocks : new.blocks ≡ old.blocks) (others : new.others ≡ old.others) where
+  module _ (call : Call) (a : Answer) (reads : Reads state old.log new.log) where
     abbrev mid : Mounted D
     mid = record new { table = old.table }
 
     still_mid : IsStill state old mid
-    still_mid = record { reads = reads; saved = saved; blocks = blocks; others = others; table = refl }
+    still_mid = record { reads = reads; table = refl }
 
     segments_same : segments_of new ≡ segments_of old
     segments_same = reads.segments
@@ -67,7 +65,7 @@ module _ {D : Type 0} (state : D → DeviceState) (old new : Mounted D) (lawful 
             saved = m0;
             present = m;
             is = record {
-              stores = now.holds;
+              holds = now.holds;
               map = now.map;
               log = (subst (λ (l : ℕ). IsMapOf l m turns.next) (sym segments_same) turns.map).log;
               handles = turns.handles;

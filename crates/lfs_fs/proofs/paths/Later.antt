@@ -13,10 +13,9 @@ use Rattle.lfs_model.specs.TreeOf.{tree_in}
 use Rattle.lfs_model.specs.Walk.{At, End, Refused}
 use Rattle.lfs_files.specs.declared.fault.LogFault.TheVariants as log
 use Rattle.lfs_store.specs.declared.draft.Draft.{Draft}
-use Rattle.lfs_store.specs.memory.Batch.{IsNoChange}
-use Rattle.lfs_store.specs.memory.declared.changes.Changes.{Changes}
 use Rattle.lfs_store.specs.log.LogState.{LogState, Reads}
-use Rattle.lfs_store.proofs.LogReads.{held_still}
+use Rattle.lfs_store.specs.StoreState.{IsEmpty, draft_of, drafted_of}
+use Rattle.lfs_store.proofs.of_log.LogReads.{held_still}
 use Rattle.lfs_path.specs.declared.last.Last.{Last}
 use Rattle.lfs_path.specs.declared.walk_fault.WalkFault.{WalkFault}
 use Rattle.lfs_path.specs.declared.walk_fault.WalkFault.TheVariants as walk
@@ -37,15 +36,15 @@ use Rattle.lfs_fs.proofs.paths.Walks.{walk_ends, walked}
 
 -- what is told of a walk that ends refused, from the log before it was read
 module _ {D : Type 0} (state : D → DeviceState) (h h' h'' : LogState D) (reads : Reads state h h')
-    (c : Changes) (W : Tree → End → Type 0) where
-  each_after : (P : LogMap → Type 0) → EachDrafted state h' h'' c P → EachDrafted state h h'' c P
+    (d : Draft) (W : Tree → End → Type 0) where
+  each_after : (P : LogMap → Type 0) → EachDrafted state h' h'' d P → EachDrafted state h h'' d P
   each_after P all k m0 m keeps holds = all k m0 m keeps (held_still state h h' k m0 m reads holds)
 
-  to_after : (e : End) → WalksTo state h' h'' c W e → WalksTo state h h'' c W e
+  to_after : (e : End) → WalksTo state h' h'' d W e → WalksTo state h h'' d W e
   to_after e ends = each_after (λ m. HasTree m → W (tree_in m) e) ends
 
-  refused_after : (fault : WalkFault) → EndsRefused state h' h'' c W fault
-      → EndsRefused state h h'' c W fault
+  refused_after : (fault : WalkFault) → EndsRefused state h' h'' d W fault
+      → EndsRefused state h h'' d W fault
   refused_after walk.NoEntry ends = to_after (Refused model.NoEntry) ends
   refused_after walk.NotDir ends = to_after (Refused model.NotDir) ends
   refused_after walk.NameTooLong ends = to_after (Refused model.NameTooLong) ends
@@ -72,7 +71,7 @@ module _ {D : Type 0} (state : D → DeviceState) (lawful : (d : D) → IsLawful
       → Reaches state v next p d piece
   later_reaches counted p bytes d piece last walks = record {
     still = still_next;
-    empty = subst (λ (x : Draft). IsNoChange x.changes) (sym only.draft) empty;
+    empty = subst (λ (x : Draft). IsEmpty x) (sym only.draft) empty;
     drafted = only.drafted ∙ counted ∙ sym only.still.reads.totals;
     bytes = bytes;
     last = last;

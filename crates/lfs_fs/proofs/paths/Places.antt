@@ -12,12 +12,12 @@ use Rattle.lfs_model.specs.Walk.{Refused}
 use Rattle.lfs_files.specs.Files as files
 use Rattle.lfs_store.specs.declared.draft.Draft.{Draft}
 use Rattle.lfs_store.specs.declared.store.Store.{Store}
-use Rattle.lfs_store.specs.memory.Batch.{IsNoChange}
+use Rattle.lfs_store.specs.StoreState.{IsEmpty}
+use Rattle.lfs_store.specs.Seen.{files_of}
 use Rattle.lfs_path.specs.declared.last.Last.{Last}
 use Rattle.lfs_path.specs.Reaching.{EndsParent}
 use Rattle.lfs_fs.specs.declared.error.FsError.{FsError}
 use Rattle.lfs_fs.specs.declared.fs.Fs.{Fs}
-use Rattle.lfs_fs.specs.Drafted.{files_of}
 use Rattle.lfs_fs.specs.Naming.{BeginsAt, BeginsNowhere, BeginsOnly, FindsPlace, LacksPlace, Reaches}
 use Rattle.lfs_fs.specs.Refusals.{refusal_of}
 use Rattle.lfs_fs.specs.Seen.{Begins, IsReady, OnlyReads, seen}
@@ -26,7 +26,7 @@ use Rattle.lfs_fs.proofs.paths.Later.{later_reaches, later_refused}
 use Rattle.lfs_fs.proofs.paths.Looks.{only_none}
 use Rattle.lfs_fs.proofs.paths.Ends.{store_reads}
 use Rattle.lfs_fs.proofs.read.Ends.{begun_running, halted_serves}
-use Rattle.lfs_fs.proofs.calls.StoreCalls.{log_reads, same_drafted, same_totals}
+use Rattle.lfs_fs.proofs.calls.StoreCalls.{log_reads, same_drafted}
 
 module _ {D : Type 0} (state : D → DeviceState) where
   -- ---- volumes that may draft
@@ -37,15 +37,14 @@ module _ {D : Type 0} (state : D → DeviceState) where
   pub ready_after : (old new : Fs D) → IsReady old → OnlyReads state old new → IsReady new
   ready_after old new ready reads = record {
     running = reads.still.reads.halted ∙ ready.running;
-    empty = subst (λ (d : Draft). IsNoChange d.changes) (sym reads.draft) ready.empty;
+    empty = subst (λ (d : Draft). IsEmpty d) (sym reads.draft) ready.empty;
   }
 
   -- a store that was read for the walk of a path
   pub path_read : (old : Fs D) (store : Store D) → files.Reads (files_of state old.store) (files_of state store)
       → OnlyReads state old (record { alloc = old.alloc; store = store; handles = old.handles })
   path_read old store reads = store_reads state old (record { alloc = old.alloc; store = store; handles = old.handles })
-      (log_reads state old.store store reads) reads.draft reads.saved (same_totals state old.store store reads)
-      (same_drafted state old.store store reads) refl
+      (log_reads state old.store store reads) reads.draft (same_drafted state old.store store reads) refl
 
   -- a call that has begun changed nothing
   pub begun_still : (old begun : Fs D) → Begins old begun → IsStill state (seen old) (seen begun)

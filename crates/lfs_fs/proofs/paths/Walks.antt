@@ -11,9 +11,9 @@ use Rattle.lfs_model.specs.Tree.{State, Tree}
 use Rattle.lfs_model.specs.TreeOf.{tree_in}
 use Rattle.lfs_model.specs.Walk.{End, Refused}
 use Rattle.lfs_files.specs.declared.fault.LogFault.TheVariants as log
-use Rattle.lfs_store.specs.memory.declared.changes.Changes.{Changes}
-use Rattle.lfs_store.specs.memory.Batch.{IsNoChange, staged}
-use Rattle.lfs_store.proofs.Apart.{draft_empty}
+use Rattle.lfs_store.specs.StoreState.{IsEmpty, with_draft}
+use Rattle.lfs_store.specs.declared.draft.Draft.{Draft}
+use Rattle.lfs_fs.proofs.Known.{empty_draft}
 use Rattle.lfs_path.specs.declared.walk_fault.WalkFault.{WalkFault}
 use Rattle.lfs_path.specs.declared.walk_fault.WalkFault.TheVariants as walk
 use Rattle.lfs_path.specs.Trees.{HasTree}
@@ -36,26 +36,26 @@ module _ {D : Type 0} (state : D → DeviceState) (v : Mounted D) (k : Checkpoin
   tree_of_volume = tree_maps.sound (segments_of v) s m is.log.sound is.log.is (headers_of_volume state v k m0 m s is) is.log.formed
 
   -- with nothing drafted it is the same
-  pub walked_drafted : (c : Changes) → IsNoChange c → HasTree (staged c m)
-  walked_drafted c none = subst (λ (x : LogMap). HasTree x) (sym (draft_empty c m none).0) tree_of_volume
+  pub walked_drafted : (d : Draft) → IsEmpty d → HasTree (with_draft d m)
+  walked_drafted d none = subst (λ (x : LogMap). HasTree x) (sym (empty_draft d m none).0) tree_of_volume
 
-  pub tree_drafted : (c : Changes) → IsNoChange c → tree_in (staged c m) ≡ s.tree
-  tree_drafted c none = ap (λ (x : LogMap). tree_in x) (draft_empty c m none).0 ∙ sym is.log.is
+  pub tree_drafted : (d : Draft) → IsEmpty d → tree_in (with_draft d m) ≡ s.tree
+  tree_drafted d none = ap (λ (x : LogMap). tree_in x) (empty_draft d m none).0 ∙ sym is.log.is
 
 module _ {D : Type 0} (state : D → DeviceState) (old new : Mounted D) (lawful : IsLawful (state old.log.device))
     (still : IsStill state old new) (was : old.log.halted ≡ false)
-    (c : Changes) (none : IsNoChange c) (W : Tree → End → Type 0) where
+    (d : Draft) (none : IsEmpty d) (W : Tree → End → Type 0) where
   -- a walk of the log map is one of the state
-  pub walked : (e : End) → WalksTo state old.log new.log c W e → (k : CheckpointValue) (m0 m : LogMap) (s : State)
+  pub walked : (e : End) → WalksTo state old.log new.log d W e → (k : CheckpointValue) (m0 m : LogMap) (s : State)
       → (state new.log.device).keeps_model → IsIn state old k m0 m s → W s.tree e
-  walked e walks k m0 m s keeps is = subst (λ (t : Tree). W t e) (tree_drafted state old k m0 m s is c none)
-      (walks k m0 m keeps is.holds (walked_drafted state old k m0 m s is c none))
+  walked e walks k m0 m s keeps is = subst (λ (t : Tree). W t e) (tree_drafted state old k m0 m s is d none)
+      (walks k m0 m keeps is.holds (walked_drafted state old k m0 m s is d none))
 
   -- a walk without an end refuses the call
   module _ (call : Call) (free : never_for_device call ≡ false) (unclean : cleans call ≡ false) (memory : takes_no_memory call ≡ false)
       (steps : (k : CheckpointValue) (m0 m : LogMap) (s : State) → (state new.log.device).keeps_model → IsIn state old k m0 m s
       → (r : Refusal) → W s.tree (Refused r) → Step (segments_of old) s call (Refuse r) s) where
-    walk_refused : (r : Refusal) → IsOrdinary (Refuse r) → WalksTo state old.log new.log c W (Refused r)
+    walk_refused : (r : Refusal) → IsOrdinary (Refuse r) → WalksTo state old.log new.log d W (Refused r)
         → Serves state old new call (Refuse r)
     walk_refused r ordinary walks = served_still state old new call (Refuse r) lawful still was ordinary (λ p keeps here k m0 m is. (
         let step = steps k m0 m p.state keeps is r (walked (Refused r) walks k m0 m p.state keeps is) in
@@ -63,7 +63,7 @@ module _ {D : Type 0} (state : D → DeviceState) (old new : Mounted D) (lawful 
         (not_acknowledged call r)
 
     pub walk_ends : (fault : WalkFault) → (fault ≡ walk.Log log.Halted → old.log.halted ≡ true) → (fault ≡ walk.Log log.Full → ⊥)
-        → EndsRefused state old.log new.log c W fault
+        → EndsRefused state old.log new.log d W fault
         → Serves state old new call (Refuse (refusal_of (error_of_walk fault)))
     walk_ends walk.NoEntry halted other ends = walk_refused refusals.NoEntry tt ends
     walk_ends walk.NotDir halted other ends = walk_refused refusals.NotDir tt ends
@@ -75,6 +75,6 @@ module _ {D : Type 0} (state : D → DeviceState) (old new : Mounted D) (lawful 
     walk_ends (walk.Log log.Full) halted other ends = absurd (other refl)
     walk_ends (walk.Log log.Device) halted other ends =
         served_still state old new call (Refuse Device) lawful still was tt (λ p keeps here k m0 m is. (
-        let rose = ends k m0 m keeps is.holds (walked_drafted state old k m0 m p.state is c none) in
+        let rose = ends k m0 m keeps is.holds (walked_drafted state old k m0 m p.state is d none) in
         inr (Device, refl, (free, (let f = here.failures in omega (arith, f, rose))), refl)))
         (not_acknowledged call Device)

@@ -11,6 +11,7 @@ use Rattle.lfs_model.specs.Step.{Step}
 use Rattle.lfs_files.specs.declared.header.Header.{Header}
 use Rattle.lfs_files.specs.Headers.{as_header}
 use Rattle.lfs_store.specs.declared.store.Store.{Store}
+use Rattle.lfs_store.specs.Seen.{files_of}
 use Rattle.lfs_path.specs.dirs.Directory.{names_at}
 use Rattle.lfs_path.specs.Seeing.{HasObject}
 use Rattle.lfs_entries.specs.declared.fault.EntryFault.{EntryFault}
@@ -23,7 +24,6 @@ use Rattle.lfs_entries.specs.Telling.{FailsWhere}
 use Rattle.lfs_fs.specs.declared.error.FsError.{FsError}
 use Rattle.lfs_fs.specs.declared.fs.Fs.{Fs}
 use Rattle.lfs_fs.specs.Answers.{entry_of}
-use Rattle.lfs_fs.specs.Drafted.{files_of}
 use Rattle.lfs_fs.specs.Reading.{ReachesObject, stat_call}
 use Rattle.lfs_fs.specs.Refusals.{refusal_of}
 use Rattle.lfs_fs.specs.Seen.{Begins, GivesNone, seen}

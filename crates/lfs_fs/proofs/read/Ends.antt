@@ -1,5 +1,5 @@
 -- What a call that begins makes of its end, and ends after which nothing has changed.
-use Rattle.std.proofs.Common.{◌≡◌, ◌<◌, ◌+◌, ◌*◌, ℕ, Bool, true, false, ◌&&◌, length, Some}
+use Rattle.std.proofs.Common.{◌≡◌, ◌<◌, ◌+◌, ◌*◌, ℕ, Bool, true, false, ◌&&◌, Some}
 use Rattle.std.proofs.Common.{refl, sym, ◌∙◌, ap, subst, inl, inr, arith}
 use Rattle.lfs_model.specs.Call.{Answer, Call, FormatVersion, Refuse, Room, Space, Version, changes, cleans, commits, is_ok}
 use Rattle.lfs_model.specs.Call.{never_for_device}
@@ -11,8 +11,10 @@ use Rattle.lfs_model.specs.Step.{Step}
 use Rattle.lfs_model.specs.Tree.{State}
 use Rattle.lfs_files.specs.declared.header.Header.{Header}
 use Rattle.lfs_store.specs.memory.Present.{as_header}
-use Rattle.lfs_store.proofs.LogReads.{reads_none}
 use Rattle.lfs_store.proofs.TreeTotals.{totals_of_tree}
+use Rattle.lfs_store.specs.StoreState.{IsEmpty, draft_of, drafted_of}
+use Rattle.lfs_store.proofs.of_log.LogReads.{reads_none}
+use Rattle.lfs_fs.proofs.Known.{empty_draft}
 use Rattle.lfs_fs.specs.declared.error.FsError.{FsError}
 use Rattle.lfs_fs.specs.declared.error.FsError.TheVariants as error
 use Rattle.lfs_fs.specs.declared.fs.Fs.{Fs}
@@ -21,8 +23,6 @@ use Rattle.lfs_fs.specs.Answers.{room_of}
 use Rattle.lfs_fs.specs.Refusals.{refusal_of}
 use Rattle.lfs_fs.specs.Seen.{Begins, HasHeader, OnlyReads, seen}
 use Rattle.lfs_fs.specs.Volume.{IsIn, IsStill, Mounted, Serves, segments_of}
-use Rattle.lfs_store.proofs.Apart.{no_change}
-use Rattle.lfs_store.specs.memory.Batch.{IsNoChange}
 use Rattle.lfs_fs.proofs.calls.AnyDevice.{IsOrdinary}
 use Rattle.lfs_fs.proofs.calls.Steps.{never_worn}
 use Rattle.lfs_fs.proofs.calls.Drafts.{not_acknowledged}
@@ -34,7 +34,7 @@ use Rattle.lfs_fs.proofs.calls.Reads.{space_serves, told_serves}
 module _ {D : Type 0} (state : D → DeviceState) where
   -- a volume is still where nothing is read
   pub still_none : (v : Mounted D) → IsStill state v v
-  still_none v = record { reads = reads_none state v.log; saved = refl; blocks = refl; others = refl; table = refl }
+  still_none v = record { reads = reads_none state v.log; table = refl }
 
   -- a call of a halted volume doesn't begin
   pub halted_serves : (old new : Fs D) (call : Call) (fault : FsError) → IsLawful (state (seen old).log.device) → new ≡ old
@@ -122,5 +122,5 @@ module _ {D : Type 0} (state : D → DeviceState) (old new : Fs D) (call : Call)
 
   -- a header of the draft is that of the log map
   pub header_there : (n : ℕ) (head : Header) → HasHeader state old new n head → InEnd (λ m s. m.header n ≡ Some (as_header head))
-  header_there n head there k m0 m s keeps is = ap (λ (x : LogMap). x.header n) (sym (no_change (draft_of old.store) m empty))
+  header_there n head there k m0 m s keeps is = ap (λ (x : LogMap). x.header n) (sym (empty_draft (draft_of old.store) m empty).0)
       ∙ there k m0 m keeps is.holds

@@ -11,9 +11,10 @@ use Rattle.lfs_model.specs.Step.{Step, last_dots, no_last}
 use Rattle.lfs_model.specs.Tree.{Handles, State}
 use Rattle.lfs_files.specs.declared.fault.LogFault.TheVariants as log
 use Rattle.lfs_files.specs.Files as files
-use Rattle.lfs_files.specs.Files.{FilesState}
 use Rattle.lfs_store.specs.declared.store.Store.{Store}
 use Rattle.lfs_store.proofs.TreeTotals.{totals_of_tree}
+use Rattle.lfs_store.specs.StoreState.{volume_of}
+use Rattle.lfs_store.specs.Seen.{files_of}
 use Rattle.lfs_path.specs.declared.last.Last.{Last}
 use Rattle.lfs_path.specs.Lasts.{HasLast}
 use Rattle.lfs_path.specs.Laws.{SaysLast}
@@ -31,7 +32,6 @@ use Rattle.lfs_fs.specs.declared.error.FsError.{FsError}
 use Rattle.lfs_fs.specs.declared.error.FsError.TheVariants as error
 use Rattle.lfs_fs.specs.declared.fs.Fs.{Fs}
 use Rattle.lfs_fs.specs.Accepting.{need_of}
-use Rattle.lfs_fs.specs.Drafted.{files_of}
 use Rattle.lfs_fs.specs.Faults.{error_of_entry}
 use Rattle.lfs_fs.specs.Finishing.{Finishes}
 use Rattle.lfs_fs.specs.Naming.{Reaches}
@@ -144,7 +144,8 @@ module _ {D : Type 0} (state : D → DeviceState) (lawful : (d : D) → IsLawful
           stays k m0 m s keeps is = same_step (files_of state f.store) (files_of state store) (here_in k m0 m s keeps is)
               (λ P all. told state lawful v f begun store P all k m0 m s keeps is) same
 
-          pub same_ends : (r : Result (Unit {0}) FsError) → OnOk r ((volume_of store).number < 2 ^ 62) → OnErr r (2 ^ 62 ≤ (volume_of store).number)
+          pub same_ends : (r : Result (Unit {0}) FsError) → OnOk r ((volume_of store).number < 2 ^ 62)
+              → OnErr r (2 ^ 62 ≤ (volume_of store).number)
               → IfErr r (λ e. e ≡ error.Worn) → Serves state v (seen now) (Rename a b) (answer_by (λ _. Done) r)
           same_ends (Ok u) young aged is = served_still state v (seen now) (Rename a b) Done (lawful v.log.device)
               (still_after state lawful v f begun store still) was tt

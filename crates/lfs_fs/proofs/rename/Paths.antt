@@ -14,7 +14,8 @@ use Rattle.lfs_files.specs.declared.fault.LogFault.TheVariants as log
 use Rattle.lfs_files.specs.Files as files
 use Rattle.lfs_store.specs.declared.draft.Draft.{Draft}
 use Rattle.lfs_store.specs.declared.store.Store.{Store}
-use Rattle.lfs_store.specs.memory.Batch.{IsNoChange}
+use Rattle.lfs_store.specs.StoreState.{IsEmpty}
+use Rattle.lfs_store.specs.Seen.{files_of}
 use Rattle.lfs_path.specs.declared.last.Last.{Last}
 use Rattle.lfs_path.specs.declared.walk_fault.WalkFault.{WalkFault}
 use Rattle.lfs_path.specs.declared.walk_fault.WalkFault.TheVariants as walk
@@ -24,7 +25,6 @@ use Rattle.lfs_path.specs.Telling.{Tells, TellsRefusal}
 use Rattle.lfs_path.specs.Trees.{HasTree, IsChain, here}
 use Rattle.lfs_fs.specs.declared.error.FsError.{FsError}
 use Rattle.lfs_fs.specs.declared.fs.Fs.{Fs}
-use Rattle.lfs_fs.specs.Drafted.{files_of}
 use Rattle.lfs_fs.specs.Faults.{error_of_walk}
 use Rattle.lfs_fs.specs.Naming.{Reaches}
 use Rattle.lfs_fs.specs.Refusals.{refusal_of}
@@ -64,7 +64,7 @@ module _ {D : Type 0} (state : D → DeviceState) (lawful : (d : D) → IsLawful
   reaches_both bytes chain to last tells = record {
     first = record {
       still = still_after state lawful v f begun store only.still;
-      empty = subst (λ (x : Draft). IsNoChange x.changes) (sym only.draft) reached.empty;
+      empty = subst (λ (x : Draft). IsEmpty x) (sym only.draft) reached.empty;
       drafted = only.drafted ∙ reached.drafted ∙ sym only.still.reads.totals;
       bytes = reached.bytes;
       last = reached.last;

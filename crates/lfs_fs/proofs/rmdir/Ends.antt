@@ -17,6 +17,7 @@ use Rattle.lfs_files.specs.Files as files
 use Rattle.lfs_files.specs.Files.{FilesState}
 use Rattle.lfs_files.specs.Headers.{as_header}
 use Rattle.lfs_store.specs.declared.store.Store.{Store}
+use Rattle.lfs_store.specs.Seen.{files_of}
 use Rattle.lfs_path.specs.declared.last.Last.{Last}
 use Rattle.lfs_path.specs.Seeing.{HasHeader}
 use Rattle.lfs_path.specs.Telling.{TellsFault}
@@ -31,7 +32,6 @@ use Rattle.lfs_entries.specs.OldNames.{CountsDrop, DraftsDrop, HasOld}
 use Rattle.lfs_entries.specs.Telling.{FailsWhere, InEach}
 use Rattle.lfs_fs.specs.declared.error.FsError.{FsError}
 use Rattle.lfs_fs.specs.declared.fs.Fs.{Fs}
-use Rattle.lfs_fs.specs.Drafted.{files_of}
 use Rattle.lfs_fs.specs.Faults.{error_of_entry}
 use Rattle.lfs_fs.specs.Finishing.{Finishes}
 use Rattle.lfs_fs.specs.Naming.{Reaches}

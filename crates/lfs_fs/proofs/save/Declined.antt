@@ -3,10 +3,10 @@ use Rattle.std.proofs.Common.{◌≡◌, ◌≤◌, ◌^◌, ◌<◌, ◌+◌, �
 use Rattle.lfs_model.specs.Call.{Call, Done, Refuse, Sync, changes, takes_no_memory, never_for_device}
 use Rattle.lfs_model.specs.Device.{DeviceState, IsLawful}
 use Rattle.lfs_model.specs.Refusal.{Device, NoMemory}
-use Rattle.lfs_store.specs.memory.declared.changes.Changes.{Changes}
-use Rattle.lfs_store.specs.memory.Batch.{FitsBatch}
 use Rattle.lfs_store.specs.log.Saving.{commit_orders}
 use Rattle.lfs_store.specs.Accepting.{Commits, Declines, IsAcceptFault}
+use Rattle.lfs_store.specs.StoreState.{Fits}
+use Rattle.lfs_store.specs.declared.draft.Draft.{Draft}
 use Rattle.lfs_fs.specs.Volume.{CommitsFew, Mounted, Serves, TellsAtMost, segments_of}
 use Rattle.lfs_fs.proofs.calls.AnyDevice.{IsBounded, change_writes, not_both, sync_bounded, write_behaves}
 use Rattle.lfs_fs.proofs.calls.Steps.{never_worn}
@@ -18,10 +18,10 @@ use Rattle.lfs_fs.proofs.calls.Exits.{map_dropped}
 
 module _ {D : Type 0} (state : D → DeviceState) (old new : Mounted D) (lawful : IsLawful (state old.log.device))
     (after : IsLawful (state new.log.device)) where
-  pub sync_serves : IsRest state old new → Commits state old.log new.log → new.saved ≡ true
+  pub sync_serves : IsRest state old new → Commits state old.log new.log
       → TellsAtMost state old.log new.log commit_orders → Serves state old new Sync Done
-  sync_serves rest done saved tells =
-      commits_by state old new Sync lawful after done.carries done.segments done.was_running later rest done saved Done (λ e. cc)
+  sync_serves rest done tells =
+      commits_by state old new Sync lawful after done.carries done.segments done.was_running later rest done Done (λ e. cc)
       (write_behaves state old new Sync Done refl rest.table (λ e. cc) (λ takes e. absurd (cc)) (sync_bounded state old new few tells))
       (λ p keeps at. inl (sync_done (segments_of old) p.state, never_worn (segments_of old) Sync p refl refl))
     where
@@ -30,7 +30,7 @@ module _ {D : Type 0} (state : D → DeviceState) (old new : Mounted D) (lawful 
       one_more false n = omega arith
 
       later : old.log.number ≤ new.log.number
-      later = subst (λ (n : ℕ). old.log.number ≤ n) (sym done.number) (one_more old.saved old.log.number)
+      later = subst (λ (n : ℕ). old.log.number ≤ n) (sym done.number) (one_more old.log.saved old.log.number)
 
       one_most : (b : Bool) (n k : ℕ) → cond b n (n + 1) ≤ n + k + 1
       one_most true n k = omega arith
@@ -38,28 +38,28 @@ module _ {D : Type 0} (state : D → DeviceState) (old new : Mounted D) (lawful 
 
       few : CommitsFew old new
       few = subst (λ (n : ℕ). n ≤ old.log.number + segments_of old / 8 + 1) (sym done.number)
-          (one_most old.saved old.log.number (segments_of old / 8))
+          (one_most old.log.saved old.log.number (segments_of old / 8))
 
 -- ---- drafts
 
 module _ {D : Type 0} (state : D → DeviceState) (old new : Mounted D) (call : Call) (lawful : IsLawful (state old.log.device))
     (after : IsLawful (state new.log.device)) (was : old.log.halted ≡ false)
-    (later : old.log.number ≤ new.log.number) (c : Changes) (rest : IsRest state old new) (declines : Declines state old.log
-    new.log c) (low : old.log.number < 2 ^ 62) (fits : InEach state old (λ m s. FitsBatch m c))
+    (later : old.log.number ≤ new.log.number) (d : Draft) (rest : IsRest state old new) (declines : Declines state old.log
+    new.log d) (low : old.log.number < 2 ^ 62) (fits : InEach state old (λ m s. Fits d m))
     (bounded : IsBounded state old new call) where
   -- memory has no room
   pub no_room_serves : changes call ≡ true → takes_no_memory call ≡ false → Serves state old new call (Refuse NoMemory)
   no_room_serves change takes =
-      declines_by state old new call lawful after declines.carries declines.segments was later c rest declines low NoMemory (λ e. cc)
+      declines_by state old new call lawful after declines.carries declines.segments was later d rest declines low NoMemory (λ e. cc)
       (write_behaves state old new call (Refuse NoMemory) (change_writes call change) rest.table (λ e. cc)
       (λ never e. absurd (not_both (takes_no_memory call) never takes)) bounded) (λ p keeps at k m0 m is.
       (fits k m0 m p.state (declines.carries.kept_before keeps) is, inr (NoMemory, refl, takes, refl)))
 
   -- a call of the device failed
-  pub accept_fault_serves : changes call ≡ true → never_for_device call ≡ false → IsAcceptFault state old.log new.log c
+  pub accept_fault_serves : changes call ≡ true → never_for_device call ≡ false → IsAcceptFault state old.log new.log d
       → Serves state old new call (Refuse Device)
   accept_fault_serves change free fault =
-      declines_by state old new call lawful after declines.carries declines.segments was later c rest declines low Device (λ e. cc)
+      declines_by state old new call lawful after declines.carries declines.segments was later d rest declines low Device (λ e. cc)
       (write_behaves state old new call (Refuse Device) (change_writes call change) rest.table (λ e. cc) (λ never e. absurd (cc)) bounded)
       (λ p keeps at k m0 m is. (
       let fit = fits k m0 m p.state (declines.carries.kept_before keeps) is in

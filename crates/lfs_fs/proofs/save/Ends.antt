@@ -1,15 +1,15 @@
 -- The ends of a sync, as steps of the model.
-use Rattle.std.proofs.Common.{◌≡◌, true, false, refl, sym, ap, subst, arith}
+use Rattle.std.proofs.Common.{◌≡◌, true, false, refl, sym, subst, arith}
 use Rattle.lfs_model.specs.Call.{Done, Refuse, Sync}
 use Rattle.lfs_model.specs.Device.{DeviceState, IsLawful}
 use Rattle.lfs_files.specs.declared.fault.LogFault.{LogFault}
 use Rattle.lfs_files.specs.declared.fault.LogFault.TheVariants as log
 use Rattle.lfs_store.specs.log.LogState.{Halts, IsFull}
 use Rattle.lfs_store.specs.declared.store.Store.{Store}
-use Rattle.lfs_store.specs.log.verify.declared.totals.BlockTotals.{BlockTotals}
 use Rattle.lfs_store.specs.log.Saving.{commit_orders}
 use Rattle.lfs_store.specs.Accepting.{Commits}
 use Rattle.lfs_store.proofs.of_cleaner.Rooms.{halts_at_once}
+use Rattle.lfs_store.specs.StoreState.{volume_of}
 use Rattle.lfs_fs.specs.declared.error.FsError.{FsError}
 use Rattle.lfs_fs.specs.declared.fs.Fs.{Fs}
 use Rattle.lfs_fs.specs.Faults.{error_of_log}
@@ -30,38 +30,26 @@ module _ {D : Type 0} (state : D → DeviceState) (lawful : (d : D) → IsLawful
   abbrev new : Fs D
   new = record { alloc = old.alloc; store = store; handles = old.handles }
 
-  pub sync_done_serves : Commits state (seen old).log (volume_of store) → (volume_of store).saved ≡ true
-      → Serves state (seen old) (seen new) Sync Done
-  sync_done_serves done saved = sync_serves state (seen old) (seen new) (lawful (seen old).log.device) (lawful (volume_of store).device)
-      (record {
-        blocks = ap (λ (t : BlockTotals). t.data_blocks) totals;
-        others = ap (λ (t : BlockTotals). t.meta_blocks) totals;
-        table = refl;
-      }) done saved tells
+  pub sync_done_serves : Commits state (seen old).log (volume_of store) → Serves state (seen old) (seen new) Sync Done
+  sync_done_serves done = sync_serves state (seen old) (seen new) (lawful (seen old).log.device) (lawful (volume_of store).device)
+      (record { totals = totals; table = refl }) done tells
 
-  module _ (kept : (volume_of store).saved ≡ (seen old).log.saved) where
-    same_seen : (volume_of store) ≡ (seen old).log → seen new ≡ seen old
-    same_seen same = λ i. record {
-      log = same i;
-      saved = kept i;
-      blocks = (totals i).data_blocks;
-      others = (totals i).meta_blocks;
-      table = old.handles;
-    }
+  same_seen : volume_of store ≡ (seen old).log → seen new ≡ seen old
+  same_seen same = λ i. record { log = same i; table = old.handles }
 
-    sync_fault : (fault : LogFault) → (fault ≡ log.Full → ((volume_of store) ≡ (seen old).log) × IsFull (seen old).log) → (fault ≡ log.Full
-        → (seen old).log.saved ≡ false) → (fault ≡ log.Halted → Halts state (seen old).log (volume_of store)) → (fault ≡ log.Device → ⊥)
-        → Serves state (seen old) (seen new) Sync (Refuse (refusal_of (error_of_log fault)))
-    sync_fault log.Full full unsaved halted device =
-        subst (λ (v : Mounted D). Serves state (seen old) v Sync (Refuse (refusal_of (error_of_log log.Full))))
-        (sym (same_seen (full refl).0)) (full_serves state (seen old) (lawful (seen old).log.device) was (unsaved refl) (full refl).1)
-    sync_fault log.Halted full unsaved halted device = halts_serves state lawful (seen old) (seen new) Sync was refl refl 0 (omega arith)
-        (λ few. sync_bounded state (seen old) (seen new) few tells) (halts_at_once state (seen old).log (volume_of store) (halted refl))
-    sync_fault log.Device full unsaved halted device = absurd (device refl)
+  sync_fault : (fault : LogFault) → (fault ≡ log.Full → (volume_of store ≡ (seen old).log) × IsFull (seen old).log) → (fault ≡ log.Full
+      → (seen old).log.saved ≡ false) → (fault ≡ log.Halted → Halts state (seen old).log (volume_of store)) → (fault ≡ log.Device → ⊥)
+      → Serves state (seen old) (seen new) Sync (Refuse (refusal_of (error_of_log fault)))
+  sync_fault log.Full full unsaved halted device =
+      subst (λ (v : Mounted D). Serves state (seen old) v Sync (Refuse (refusal_of (error_of_log log.Full))))
+      (sym (same_seen (full refl).0)) (full_serves state (seen old) (lawful (seen old).log.device) was (unsaved refl) (full refl).1)
+  sync_fault log.Halted full unsaved halted device = halts_serves state lawful (seen old) (seen new) Sync was refl refl 0 (omega arith)
+      (λ few. sync_bounded state (seen old) (seen new) few tells) (halts_at_once state (seen old).log (volume_of store) (halted refl))
+  sync_fault log.Device full unsaved halted device = absurd (device refl)
 
-    pub sync_fails : (fault : LogFault) (e : FsError) → e ≡ error_of_log fault
-        → (fault ≡ log.Full → ((volume_of store) ≡ (seen old).log) × IsFull (seen old).log) → (fault ≡ log.Full → (seen old).log.saved ≡ false)
-        → (fault ≡ log.Halted → Halts state (seen old).log (volume_of store)) → (fault ≡ log.Device → ⊥)
-        → Serves state (seen old) (seen new) Sync (Refuse (refusal_of e))
-    sync_fails fault e is full unsaved halted device = subst (λ (x : FsError).
-        Serves state (seen old) (seen new) Sync (Refuse (refusal_of x))) (sym is) (sync_fault fault full unsaved halted device)
+  pub sync_fails : (fault : LogFault) (e : FsError) → e ≡ error_of_log fault
+      → (fault ≡ log.Full → (volume_of store ≡ (seen old).log) × IsFull (seen old).log) → (fault ≡ log.Full → (seen old).log.saved ≡ false)
+      → (fault ≡ log.Halted → Halts state (seen old).log (volume_of store)) → (fault ≡ log.Device → ⊥)
+      → Serves state (seen old) (seen new) Sync (Refuse (refusal_of e))
+  sync_fails fault e is full unsaved halted device = subst (λ (x : FsError).
+      Serves state (seen old) (seen new) Sync (Refuse (refusal_of x))) (sym is) (sync_fault fault full unsaved halted device)

@@ -1,29 +1,24 @@
 -- A sync never finds too few clean segments, and never lacks a number.
-use Rattle.std.proofs.Common.{◌≡◌, ◌<◌, ◌≤◌, ◌+◌, ◌-◌, ◌*◌, ◌^◌, false, length, refl, sym, subst, ⊎_elim, arith}
+use Rattle.std.proofs.Common.{◌≡◌, ◌<◌, ◌≤◌, ◌+◌, ◌-◌, ◌*◌, ◌^◌, false, refl, ⊎_elim, arith}
 use Rattle.lfs_model.specs.Call.{Refuse, Sync}
-use Rattle.lfs_model.specs.Checkpoint.{IsSegmentCount}
 use Rattle.lfs_model.specs.Device.{DeviceState, IsLawful}
 use Rattle.lfs_model.specs.Refusal.{Device}
 use Rattle.lfs_model.specs.Tree.{State}
 use Rattle.lfs_model.proofs.Moments.{carries_none}
-use Rattle.lfs_model.proofs.Newest.{newest_fits}
-use Rattle.lfs_store.specs.segments.Table.{clean_in}
 use Rattle.lfs_store.specs.log.LogState.{IsFull}
 use Rattle.lfs_fs.specs.Volume.{Mounted, Runs, Serves}
 use Rattle.lfs_store.specs.log.Saving.{commit_orders}
+use Rattle.lfs_store.proofs.of_log.LogReads.{segment_count}
 use Rattle.lfs_fs.proofs.calls.AnyDevice.{sync_bounded, tells_none, write_behaves}
 
 module _ {D : Type 0} (state : D → DeviceState) (v : Mounted D) (lawful : IsLawful (state v.log.device)) (was : v.log.halted ≡ false)
-    (unsaved : v.saved ≡ false) (full : IsFull v.log) where
+    (unsaved : v.log.saved ≡ false) (full : IsFull v.log) where
   never_full : (s : State) → Runs state v s → ⊥
   never_full s r =
-      let settled = r.is.holds.log.running.settled in
-      let fits = ((newest_fits (state v.log.device).content lawful.now).0 r.checkpoint).0 settled.newest in
-      let same = r.is.holds.log.segments in
       let ready = r.is.ready unsaved in
       let clean = ready.0 in
       let low = ready.1 in
-      let count : IsSegmentCount v.log.segments = subst IsSegmentCount (sym same) fits.held.fits.segments in
+      let count = segment_count state v.log r.checkpoint r.saved r.present lawful r.is.holds in
       let eighths = count.eighths in
       let most = count.most in
       ⊎_elim

@@ -11,6 +11,7 @@ use Rattle.lfs_files.specs.declared.fault.LogFault.TheVariants as log
 use Rattle.lfs_files.specs.Files as files
 use Rattle.lfs_files.specs.Files.{FilesState}
 use Rattle.lfs_store.specs.declared.store.Store.{Store}
+use Rattle.lfs_store.specs.Seen.{files_of}
 use Rattle.lfs_path.specs.declared.last.Last.{Last}
 use Rattle.lfs_entries.specs.declared.entry.Entry.{Entry}
 use Rattle.lfs_entries.specs.declared.fault.EntryFault.{EntryFault}
@@ -21,7 +22,6 @@ use Rattle.lfs_entries.specs.OldNames.{CountsDrop, DraftsDrop, HasOld}
 use Rattle.lfs_entries.specs.Telling.{FailsWhere}
 use Rattle.lfs_fs.specs.declared.error.FsError.{FsError}
 use Rattle.lfs_fs.specs.declared.fs.Fs.{Fs}
-use Rattle.lfs_fs.specs.Drafted.{files_of}
 use Rattle.lfs_fs.specs.Finishing.{Finishes}
 use Rattle.lfs_fs.specs.Naming.{Reaches}
 use Rattle.lfs_fs.specs.Seen.{IsReady, answer_by, seen}

@@ -11,10 +11,9 @@ use Rattle.lfs_model.specs.TreeOf.{IsTree, dropped}
 use Rattle.lfs_model.specs.Walk.{At, Resolve}
 use Rattle.lfs_model.proofs.Committed.{dropped_tree}
 use Rattle.lfs_model.proofs.Keeps.{open_keeps}
-use Rattle.lfs_model.proofs.ObjectMaps.{laid_headers}
-use Rattle.lfs_model.proofs.ObjectNeeds.{laid_long}
-use Rattle.lfs_store.specs.Accepting.{HasClean, StoresOver}
-use Rattle.lfs_model.specs.Totals.{IsCounted}
+use Rattle.lfs_store.specs.Accepting.{HasClean, HoldsNext}
+use Rattle.lfs_store.specs.Recounting.{AreTotals}
+use Rattle.lfs_fs.proofs.Below.{map_headers, map_long}
 use Rattle.lfs_fs.specs.Volume.{IsIn, Mounted, Runs, segments_of}
 use Rattle.lfs_fs.proofs.volume.Nodes.{IsMapOf, IsShaped, shape_of}
 use Rattle.lfs_fs.proofs.paths.Steps.{open_file, with_handle}
@@ -24,11 +23,7 @@ use Rattle.lfs_fs.proofs.paths.Steps.{open_file, with_handle}
 module _ {D : Type 0} (state : D → DeviceState) (v : Mounted D) (k : CheckpointValue) (m0 m : LogMap) (s : State)
     (is : IsIn state v k m0 m s) where
   pub map_of_volume : IsMapOf (segments_of v) m s
-  map_of_volume = let running = is.holds.log.running in record {
-    map = is.map;
-    long = laid_long (state v.log.device).content m running.memory _ running.laid;
-    log = is.log;
-  }
+  map_of_volume = record { map = is.map; long = map_long state v.log k m0 m is.holds; log = is.log }
 
   -- the version that the log has
   pub version_of_volume : s.version ≡ v.log.version
@@ -36,7 +31,7 @@ module _ {D : Type 0} (state : D → DeviceState) (v : Mounted D) (k : Checkpoin
 
   -- its headers are those of inodes
   pub headers_of_volume : (n : ℕ) (h : Header) → m.header n ≡ Some h → IsHeaderOf n h
-  headers_of_volume = let running = is.holds.log.running in laid_headers (state v.log.device).content m running.memory _ running.laid
+  headers_of_volume = map_headers state v.log k m0 m is.holds
 
   pub shape_of_volume : IsShaped m
   shape_of_volume = shape_of (segments_of v) m s map_of_volume headers_of_volume
@@ -54,14 +49,14 @@ module _ {D : Type 0} (state : D → DeviceState) (old new : Mounted D) (k : Che
 
   pub runs_over : (m' : LogMap) (next : State) → HoldsNext state k.segments m0 m new.log m' → segments_of new ≡ segments_of old
       → IsMapOf (segments_of old) m' next
-      → next.handles ≡ new.table → IsCounted m' new.blocks new.others
-      → (new.saved ≡ false → HasClean new.log × (new.log.number ≤ 2 ^ 62 + segments_of new / 8)) → Runs state new next
+      → next.handles ≡ new.table → AreTotals m' new.log.totals
+      → (new.log.saved ≡ false → HasClean new.log × (new.log.number ≤ 2 ^ 62 + segments_of new / 8)) → Runs state new next
   runs_over m' next over same map handles counted ready = record {
     checkpoint = over.checkpoint;
     saved = over.acknowledged;
     present = m';
     is = record {
-      stores = over.holds;
+      holds = over.holds;
       map = map.map;
       log = (subst (λ (n : ℕ). IsMapOf n m' next) (sym same) map).log;
       handles = handles;

@@ -11,7 +11,6 @@ use Rattle.lfs_model.specs.Device.{DeviceState, IsLawful}
 use Rattle.lfs_model.specs.Encodes.{IsLogMap}
 use Rattle.lfs_model.specs.Entry as entry
 use Rattle.lfs_model.specs.Inode.{IsForm, IsSize}
-use Rattle.lfs_model.specs.Memory.{parent}
 use Rattle.lfs_model.specs.Need.{need}
 use Rattle.lfs_model.specs.Objects.{IsDirectory, IsHeaderOf, IsObject}
 use Rattle.lfs_model.specs.Refusal as refusal
@@ -33,12 +32,12 @@ use Rattle.lfs_store.specs.declared.draft.Draft.{Draft}
 use Rattle.lfs_store.specs.declared.store.Store.{Store}
 use Rattle.lfs_store.specs.log.LogState.{LogState}
 use Rattle.lfs_store.specs.log.verify.declared.totals.BlockTotals.{BlockTotals}
-use Rattle.lfs_store.specs.memory.declared.batch.Loss.{Loss}
-use Rattle.lfs_store.specs.memory.Batch.{FitsBatch, IsNoChange, is_lost, staged}
 use Rattle.lfs_store.specs.Recounting.{AreTotals}
-use Rattle.lfs_store.proofs.Apart.{draft_empty}
-use Rattle.lfs_store.proofs.LogReads.{held_still}
 use Rattle.lfs_store.proofs.TreeTotals.{totals_of_tree}
+use Rattle.lfs_store.specs.StoreState.{Fits, IsEmpty, draft_of, drafted_of, volume_of, with_draft}
+use Rattle.lfs_store.specs.Seen.{files_of}
+use Rattle.lfs_store.proofs.of_log.LogReads.{held_still}
+use Rattle.lfs_fs.proofs.Known.{empty_apart, empty_draft}
 use Rattle.lfs_path.specs.dirs.Directory.{slot_count}
 use Rattle.lfs_path.specs.dirs.Finding.{IsDirectoryFault}
 use Rattle.lfs_path.specs.dirs.Widening.{CountsWidened, HasWidened, Widens, WidensNames, wide}
@@ -48,7 +47,6 @@ use Rattle.lfs_fs.specs.declared.error.FsError.{FsError}
 use Rattle.lfs_fs.specs.declared.error.FsError.TheVariants as error
 use Rattle.lfs_fs.specs.declared.fs.Fs.{Fs}
 use Rattle.lfs_fs.specs.Accepting.{StagesDraft, TurnsDown, need_of}
-use Rattle.lfs_fs.specs.Drafted.{files_of}
 use Rattle.lfs_fs.specs.Faults.{error_of_store}
 use Rattle.lfs_fs.specs.Refusals.{refusal_of}
 use Rattle.lfs_fs.specs.Seen.{HasHeader, LacksHeader, OnlyReads, answer_by, seen}
@@ -111,7 +109,7 @@ module _ {D : Type 0} (state : D → DeviceState) (lawful : (d : D) → IsLawful
     pub whole_later : ReachesWhole state v mid path n
     whole_later = record {
       still = still_more state lawful v (seen old) (seen mid) reached.still only.still;
-      empty = subst (λ (d : Draft). IsNoChange d.changes) (sym only.draft) reached.empty;
+      empty = subst (λ (d : Draft). IsEmpty d) (sym only.draft) reached.empty;
       drafted = only.drafted ∙ reached.drafted ∙ sym only.still.reads.totals;
       walk = λ k m0 m s keeps is. reached.walk k m0 m s (only.still.reads.looks.carries.kept_before keeps) is;
     }
@@ -119,7 +117,7 @@ module _ {D : Type 0} (state : D → DeviceState) (lawful : (d : D) → IsLawful
     pub header_in : (head : Header) → HasHeader state old mid n head → (k : CheckpointValue) (m0 m : LogMap) (s : State)
         → (state (seen mid).log.device).keeps_model → IsIn state v k m0 m s → m.header n ≡ Some (as_header head)
     header_in head has k m0 m s keeps is =
-        ap (λ (x : LogMap). x.header n) (sym (draft_empty (draft_of old.store) m reached.empty).0)
+        ap (λ (x : LogMap). x.header n) (sym (empty_draft (draft_of old.store) m reached.empty).0)
         ∙ has k m0 m keeps (held_still state v.log (seen old).log k m0 m reached.still.reads is.holds)
 
     -- an object that is there has one, unless a call of the device failed
@@ -133,7 +131,7 @@ module _ {D : Type 0} (state : D → DeviceState) (lawful : (d : D) → IsLawful
         (let before = reached.still.reads.looks.carries.failures in omega (arith, before, rose)))
         (λ none. absurd (resolved_there (segments_of v) s is.log.sound path true n (whole_later.walk k m0 m s keeps is)
         (no_header_none (segments_of v) m s is.log n
-        (ap (λ (x : LogMap). x.header n) (sym (draft_empty (draft_of old.store) m reached.empty).0) ∙ none))))
+        (ap (λ (x : LogMap). x.header n) (sym (empty_draft (draft_of old.store) m reached.empty).0) ∙ none))))
         (failed.1 k m0 m keeps (held_still state v.log (seen old).log k m0 m reached.still.reads is.holds)))))
         lacks
 
@@ -198,7 +196,7 @@ module _ {D : Type 0} (state : D → DeviceState) (lawful : (d : D) → IsLawful
   -- it isn't drafted: memory was refused, or a call of the device failed
   module _ (a : Fs D) (head : Header) (narrow : ReachesNarrow state v a path n head) (tried gone : Store D)
       (redrafts : files.Redrafts (files_of state a.store) (files_of state tried))
-      (same_log : gone.log ≡ tried.log) (same_saved : gone.log.saved ≡ tried.log.saved) where
+      (same_log : volume_of gone ≡ volume_of tried) where
     abbrev left : Fs D
     left = record { alloc = a.alloc; store = gone; handles = a.handles }
 
@@ -207,8 +205,8 @@ module _ {D : Type 0} (state : D → DeviceState) (lawful : (d : D) → IsLawful
 
     still_left : IsStill state v (seen left)
     still_left = still_more state lawful v (seen mid) (seen left)
-        (still_more state lawful v (seen a) (seen mid) narrow.whole.still (still_drafted state a a.store tried refl refl redrafts))
-        (still_logged state mid left same_log same_saved refl)
+        (still_more state lawful v (seen a) (seen mid) narrow.whole.still (still_drafted state a a.store tried refl redrafts))
+        (still_logged state mid left same_log refl)
 
     undrafted : (fault : StoreFault)
         → ((fault ≡ store.NoMemory → ⊥) → IsDirectoryFault (files_of state a.store) (files_of state tried) n head)
@@ -220,7 +218,8 @@ module _ {D : Type 0} (state : D → DeviceState) (lawful : (d : D) → IsLawful
     undrafted (store.Log log.Full) failed halted other = absurd (other refl)
     undrafted (store.Log log.Device) failed halted other =
         failed_serves state v (seen left) (Widen path) (lawful v.log.device) still_left was refl (λ k m0 m s keeps is.
-        let keeps_tried : (state tried.log.device).keeps_model = subst (λ (h : LogState D). (state h.device).keeps_model) same_log keeps in
+        let keeps_tried : (state (volume_of tried).device).keeps_model =
+        subst (λ (h : LogState D). (state h.device).keeps_model) same_log keeps in
         let before = redrafts.looks.carries.kept_before keeps_tried in
         let there = narrow.there k m0 m s before is in
         let shaped = shape_of_volume state v k m0 m s is in
@@ -228,7 +227,7 @@ module _ {D : Type 0} (state : D → DeviceState) (lawful : (d : D) → IsLawful
           checkpoint = k;
           acknowledged = m0;
           holds = held_still state v.log (seen a).log k m0 m narrow.whole.still.reads is.holds;
-          draft = sym (draft_empty (draft_of a.store) m narrow.whole.empty).0;
+          draft = sym (empty_draft (draft_of a.store) m narrow.whole.empty).0;
         } (shaped.directories n (as_header head) there narrow.directory) in
         let first = narrow.whole.still.reads.looks.carries.failures in
         let same = ap (λ (h : LogState D). (state h.device).failures) same_log in
@@ -254,9 +253,10 @@ module _ {D : Type 0} (state : D → DeviceState) (lawful : (d : D) → IsLawful
     reached = is_narrow.whole
 
     still : IsStill state v (seen ready)
-    still = still_more state lawful v (seen a) (seen ready) reached.still (still_drafted state a a.store b refl refl redrafts)
+    still = still_more state lawful v (seen a) (seen ready) reached.still (still_drafted state a a.store b refl redrafts)
 
-    module _ (keeps : (state b.log.device).keeps_model) (k : CheckpointValue) (m0 m : LogMap) (s : State) (is : IsIn state v k m0 m s) where
+    module _ (keeps : (state (volume_of b).device).keeps_model) (k : CheckpointValue) (m0 m : LogMap) (s : State)
+        (is : IsIn state v k m0 m s) where
       before : (state (seen a).log.device).keeps_model
       before = redrafts.looks.carries.kept_before keeps
 
@@ -281,7 +281,7 @@ module _ {D : Type 0} (state : D → DeviceState) (lawful : (d : D) → IsLawful
         checkpoint = k;
         acknowledged = m0;
         holds = held_still state v.log (seen a).log k m0 m reached.still.reads is.holds;
-        draft = sym (draft_empty (draft_of a.store) m reached.empty).0;
+        draft = sym (empty_draft (draft_of a.store) m reached.empty).0;
       }
 
       widened_map : HasWidened (files_of state b) m m n head
@@ -344,17 +344,17 @@ module _ {D : Type 0} (state : D → DeviceState) (lawful : (d : D) → IsLawful
       narrow = ap (λ (f : ℕ). f == 1) (form_here a reached head is_narrow.there k m0 m s before is is_narrow.directory ∙ is_narrow.narrow)
 
       -- ---- the totals
-      counted : AreTotals (staged b.draft.changes m) b.drafted
+      counted : AreTotals (with_draft (draft_of b) m) (drafted_of b)
       counted =
           let totals : AreTotals m (seen a).log.totals =
-          record { stored = reached.still.blocks ∙ is.counted.stored; above = reached.still.others ∙ is.counted.above } in
-          subst (λ (x : LogMap). AreTotals x b.drafted) widened_map.has.draft
+          subst (λ (t : BlockTotals). AreTotals m t) (sym reached.still.reads.totals) is.counted in
+          subst (λ (x : LogMap). AreTotals x (drafted_of b)) widened_map.has.draft
           (counts m m m' keeps has widened_map.has record { map = is.map; there = there } (map_here.long n) directory known kept
           (subst (λ (t : BlockTotals). AreTotals m t) (sym reached.drafted) totals))
 
       needs : need (widened s.tree n) ≡ need_of ready
-      needs = ap need (sym tree) ∙ (need_shaped totals_of_tree m' shape b.drafted.data_blocks b.drafted.meta_blocks
-          (subst (λ (x : LogMap). AreTotals x b.drafted) (sym widened_map.has.draft) counted)).0
+      needs = ap need (sym tree) ∙ (need_shaped totals_of_tree m' shape (drafted_of b).data_blocks (drafted_of b).meta_blocks
+          (subst (λ (x : LogMap). AreTotals x (drafted_of b)) (sym widened_map.has.draft) counted)).0
 
       done : need_of ready ≤ 47 * segments_of v → Step (segments_of v) s (Widen path) Done (with_tree s (widened s.tree n))
       done room = widen_done (segments_of v) s path n walk dir two narrow (let same = needs in omega (arith, same, room))
@@ -387,15 +387,12 @@ module _ {D : Type 0} (state : D → DeviceState) (lawful : (d : D) → IsLawful
         after = map_by shape (widen_keeps (segments_of v) s (with_tree s (widened s.tree n)) path Done is.log.sound (done room))
             (is.log.version ∙ sym widened_map.file.only.version) tree links_are
 
-      fits_here : FitsBatch m b.draft.changes
-      fits_here = widens.fits m m has (draft_empty (draft_of a.store) m reached.empty).1 record {
+      fits_here : Fits (draft_of b) m
+      fits_here = widens.fits m m has (empty_draft (draft_of a.store) m reached.empty).1 record {
         staged = λ none. absurd (let some = there in cc);
         there = there;
         header = wide_fits n head fits is_narrow.directory;
-        apart = record {
-          inode = ap (λ (x : Loss). is_lost x (entry.Inode n)) reached.empty.loss;
-          above = λ i. ap (λ (x : Loss). is_lost x (parent (entry.Data n i))) reached.empty.loss;
-        };
+        apart = empty_apart (draft_of a.store) n reached.empty;
       }
 
     pub widen_ends : (new : Fs D) → new.handles ≡ ready.handles → {X : Type 0} (r : Result X FsError) → OnOk r (StagesDraft state ready new)

@@ -16,11 +16,11 @@ use Rattle.lfs_model.specs.TreeOf.{AreFormed, object, slots}
 use Rattle.lfs_model.proofs.Raising.{raised_kept, raised_tree}
 use Rattle.lfs_model.proofs.Widening.{upgrade_keeps}
 use Rattle.lfs_store.specs.log.verify.declared.totals.BlockTotals.{BlockTotals}
-use Rattle.lfs_store.specs.memory.Batch.{staged}
 use Rattle.lfs_store.specs.declared.store.Store.{Store}
 use Rattle.lfs_store.specs.Making.{DraftsUpgrade}
 use Rattle.lfs_store.specs.Recounting.{AreTotals, CountsUpgraded}
 use Rattle.lfs_store.proofs.TreeTotals.{totals_of_tree}
+use Rattle.lfs_store.specs.StoreState.{draft_of, drafted_of, volume_of, with_draft}
 use Rattle.lfs_fs.specs.declared.error.FsError.{FsError}
 use Rattle.lfs_fs.specs.declared.error.FsError.TheVariants as error
 use Rattle.lfs_fs.specs.declared.fs.Fs.{Fs}
@@ -116,36 +116,35 @@ module _ {D : Type 0} (state : D → DeviceState) (lawful : (d : D) → IsLawful
       → OnErr r (2 ^ 62 ≤ (seen mid).log.number) → IfErr r (λ fault. fault ≡ error.Worn)
       → Serves state (seen mid) (seen mid) Upgrade (answer_by (λ _. Done) r)
   upgrade_nothing two =
-      nothing_ends state lawful (seen mid) (seen mid) (still_logged state mid mid refl refl refl) running Upgrade refl (λ e. cc)
+      nothing_ends state lawful (seen mid) (seen mid) (still_logged state mid mid refl refl) running Upgrade refl (λ e. cc)
       (λ k m0 m s keeps is. subst (λ (x : State). Step (segments_of (seen mid)) s Upgrade Done x)
       (same_state s (version_of_volume state (seen mid) k m0 m s is ∙ two)) (upgrade_step (segments_of (seen mid)) s))
 
-  module _ (b : Store D) (same_log : b.log ≡ (seen mid).log) (same_saved : b.log.saved ≡ (seen mid).log.saved)
-      (same_drafted : b.drafted ≡ drafted_of mid.store)
-      (drafts : DraftsUpgrade b.draft.changes) (counts : CountsUpgraded b.draft.changes) where
+  module _ (b : Store D) (same_log : volume_of b ≡ (seen mid).log) (same_drafted : drafted_of b ≡ drafted_of mid.store)
+      (drafts : DraftsUpgrade (draft_of b).changes) (counts : CountsUpgraded (draft_of b).changes) where
     abbrev ready : Fs D
     ready = record { alloc = mid.alloc; store = b; handles = mid.handles }
 
     still : IsStill state (seen mid) (seen ready)
-    still = still_logged state mid ready same_log same_saved refl
+    still = still_logged state mid ready same_log refl
 
     module _ (k : CheckpointValue) (m0 m : LogMap) (s : State) (is : IsIn state (seen mid) k m0 m s) where
-      after : IsMapOf (segments_of (seen mid)) (staged b.draft.changes m) (upgraded s)
+      after : IsMapOf (segments_of (seen mid)) (with_draft (draft_of b) m) (upgraded s)
       after = subst (λ (x : LogMap). IsMapOf (segments_of (seen mid)) x (upgraded s)) (sym (drafts.map m))
           (raised_map (segments_of (seen mid)) m s (map_of_volume state (seen mid) k m0 m s is))
 
-      totals : AreTotals (staged b.draft.changes m) b.drafted
-      totals = subst (λ (t : BlockTotals). AreTotals (staged b.draft.changes m) t) (sym (same_drafted ∙ begun.drafted))
-          (counts m (seen mid).log.totals record { stored = is.counted.stored; above = is.counted.above })
+      totals : AreTotals (with_draft (draft_of b) m) (drafted_of b)
+      totals = subst (λ (t : BlockTotals). AreTotals (with_draft (draft_of b) m) t) (sym (same_drafted ∙ begun.drafted))
+          (counts m (seen mid).log.totals is.counted)
 
-      headers : (n : ℕ) (h : Header) → (staged b.draft.changes m).header n ≡ Some h → m.header n ≡ Some h
+      headers : (n : ℕ) (h : Header) → (with_draft (draft_of b) m).header n ≡ Some h → m.header n ≡ Some h
       headers n h there = ap (λ (x : LogMap). x.header n) (sym (drafts.map m)) ∙ there
 
-      room : b.drafted.data_blocks + 7 * b.drafted.meta_blocks + 720 ≤ 47 * segments_of (seen mid)
-      room = room_shaped totals_of_tree (segments_of (seen mid)) (staged b.draft.changes m) (upgraded s) after
-          (shape_of (segments_of (seen mid)) (staged b.draft.changes m) (upgraded s) after
+      room : (drafted_of b).data_blocks + 7 * (drafted_of b).meta_blocks + 720 ≤ 47 * segments_of (seen mid)
+      room = room_shaped totals_of_tree (segments_of (seen mid)) (with_draft (draft_of b) m) (upgraded s) after
+          (shape_of (segments_of (seen mid)) (with_draft (draft_of b) m) (upgraded s) after
           (λ n h there. headers_of_volume state (seen mid) k m0 m s is n h (headers n h there)))
-          b.drafted.data_blocks b.drafted.meta_blocks totals
+          (drafted_of b).data_blocks (drafted_of b).meta_blocks totals
 
     pub upgrade_ends : (new : Fs D) → new.handles ≡ ready.handles → {X : Type 0} (r : Result X FsError)
         → OnOk r (StagesDraft state ready new) → IfErr r (TurnsDown state ready new)

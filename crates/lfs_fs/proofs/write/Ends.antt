@@ -13,24 +13,16 @@ use Rattle.lfs_model.specs.Stands.{LogMap}
 use Rattle.lfs_model.specs.Tree.{Handles, State}
 use Rattle.lfs_model.specs.TreeOf.{dropped}
 use Rattle.lfs_model.proofs.Moments.{carries_then, goes_on, joined, started}
-use Rattle.lfs_model.proofs.Settled.{settled_stands}
-use Rattle.lfs_store.specs.memory.declared.changes.Changes.{Changes}
 use Rattle.lfs_files.specs.declared.fault.LogFault.TheVariants as log
-use Rattle.lfs_store.specs.memory.declared.memory.LogMemory.{LogMemory}
-use Rattle.lfs_store.specs.memory.Batch.{FitsBatch, IsNoChange, staged}
-use Rattle.lfs_store.specs.segments.Table.{clean_in}
-use Rattle.lfs_store.specs.cleaner.Room.{HaltsLater, room_orders}
-use Rattle.lfs_store.specs.log.LogState.{LogState, Holds, IsReadFault, Reads}
+use Rattle.lfs_store.specs.cleaner.Room.{HaltsLater, MayNotMakeRoom, most_checkpoints, room_orders}
+use Rattle.lfs_store.specs.log.LogState.{Holds, IsReadFault, LeavesSaved, LogState, Reads}
 use Rattle.lfs_files.specs.declared.fault.StoreFault.{StoreFault}
 use Rattle.lfs_files.specs.declared.fault.StoreFault.TheVariants as store
 use Rattle.lfs_store.specs.declared.store.Store.{Store}
 use Rattle.lfs_store.specs.log.verify.declared.totals.BlockTotals.{BlockTotals}
 use Rattle.lfs_model.specs.declared.Order.{Order}
 use Rattle.lfs_store.specs.log.Saving.{commit_orders}
-use Rattle.lfs_store.specs.Accepting.{Accepts, CannotMakeRoom, Declines, HasClean, IsAcceptFault, LeavesEither, SavesFew, Stores}
-use Rattle.lfs_store.specs.Accepting.{most_written}
-use Rattle.lfs_store.proofs.Apart.{draft_empty}
-use Rattle.lfs_store.proofs.LogReads.{fault_more, held_still, reads_more, reads_none, stores_still}
+use Rattle.lfs_store.specs.Accepting.{Accepts, Declines, IsAcceptFault, SavesFew}
 use Rattle.lfs_fs.specs.declared.error.FsError.{FsError}
 use Rattle.lfs_fs.specs.declared.error.FsError.TheVariants as error
 use Rattle.lfs_fs.specs.declared.fs.Fs.{Fs}
@@ -45,12 +37,15 @@ use Rattle.lfs_fs.proofs.save.Declined.{accept_fault_serves, no_room_serves}
 use Rattle.lfs_fs.proofs.calls.Drafts.{InEach, IsRest, not_acknowledged, accepts_by}
 use Rattle.lfs_fs.proofs.volume.Nodes.{IsFileOf, opened_file, IsMapOf}
 use Rattle.lfs_fs.proofs.clean.Room.{has_room}
-use Rattle.lfs_store.proofs.Acceptings.{written_most}
-use Rattle.lfs_fs.proofs.calls.Exits.{halts_at, map_dropped, served_still, still_in, point_of}
+use Rattle.lfs_fs.proofs.calls.Exits.{clean_still, halts_at, map_dropped, point_of, served_still, still_in}
 use Rattle.lfs_fs.proofs.calls.Reads.{fault_serves, memory_serves}
-use Rattle.lfs_model.specs.Totals.{IsCounted}
 use Rattle.lfs_model.specs.Step.{Step}
 use Rattle.lfs_model.specs.Run.{acknowledges}
+use Rattle.lfs_store.specs.StoreState.{Fits, IsEmpty, draft_of, drafted_of, volume_of, with_draft}
+use Rattle.lfs_store.specs.Recounting.{AreTotals}
+use Rattle.lfs_store.specs.declared.draft.Draft.{Draft}
+use Rattle.lfs_store.proofs.of_log.LogReads.{acknowledged, fault_more, held_still, reads_more, reads_none}
+use Rattle.lfs_fs.proofs.Known.{empty_draft, few_checkpoints}
 use Rattle.lfs_fs.proofs.calls.Steps.{not_worn, refused_not_worn, worn}
 
 -- why a draft isn't staged, by the fault of the store
@@ -92,13 +87,10 @@ module _ {D : Type 0} (state : D → DeviceState) (lawful : (d : D) → IsLawful
         reads.looks.carries reads.looks.time (λ c left. here c (reads.looks.untouched.crash c left))
       where
         here : AllLeft (state a.device) (StandsForOn k.segments m0 (dropped m))
-        here c left = inl (settled_stands (state a.device) k m0 is.log.running.settled c left)
+        here c left = inl (acknowledged state a k m0 m is c left)
 
-    clean_still : HasClean a → HasClean b
-    clean_still = subst (λ (v : LogMemory). length v.usage.segments / 8 + 8 ≤ clean_in v.usage.segments) (sym reads.memory)
-
-    stores_read : (saved : Bool) (k : CheckpointValue) (m0 m : LogMap) → Holds state a k m0 m → Holds state b k m0 m
-    stores_read saved k m0 m stores = stores_still state a b saved k m0 m reads stores
+    holds_read : (k : CheckpointValue) (m0 m : LogMap) → Holds state a k m0 m → Holds state b k m0 m
+    holds_read k m0 m holds = held_still state a b k m0 m reads holds
 
     module _ (h : LogState D) where
       -- what is told after the reads is told after what was before them
@@ -107,50 +99,50 @@ module _ {D : Type 0} (state : D → DeviceState) (lawful : (d : D) → IsLawful
         room = told_before (room_orders a.segments)
             (subst (λ (n : ℕ). TellsAtMost state b h (room_orders n)) same_segments tells.room);
         one_commit = λ clean. told_before commit_orders (tells.one_commit
-            (subst (λ (v : LogMemory). length v.usage.segments / 8 + 16 ≤ clean_in v.usage.segments) (sym reads.memory) clean));
+            (let same = reads.clean in let size = same_segments in omega (arith, clean, same, size)));
       }
         where
           told_before : (most : ℕ) → TellsAtMost state b h most → TellsAtMost state a h most
           told_before most = subst (λ (told : List Order). length (state h.device).told ≤ length told + most) reads.looks.told
 
-      leaves_after : (saved : Bool) → LeavesSaved state b h → LeavesSaved state a h
-      leaves_after saved leaves k m0 m keeps stores log =
+      leaves_after : LeavesSaved state b h → LeavesSaved state a h
+      leaves_after leaves k m0 m keeps holds log =
           joined (state a.device) (state b.device) (state h.device) (StandsForOn k.segments m0 (dropped m))
           (StandsForOn k.segments m0 (dropped m)) (StandsForOn k.segments m0 (dropped m))
-          (quiet_reads k m0 m holds) (leaves k m0 m keeps (stores_read saved k m0 m stores) log) (λ c x. x) (λ c x. x)
+          (quiet_reads k m0 m holds) (leaves k m0 m keeps (holds_read k m0 m holds) log) (λ c x. x) (λ c x. x)
 
-      saves_after : (saved saved' : Bool) → SavesFew b h → SavesFew a h
-      saves_after saved saved' saves = record {
+      saves_after : SavesFew b h → SavesFew a h
+      saves_after saves = record {
         number = (let more = saves.number in let same = reads.number in omega (arith, more, same));
         few = (let most = saves.few in let same = reads.number in let size = same_segments in omega (arith, most, same, size));
-        ready = λ clean now. saves.ready (λ e. clean_still (clean e)) now;
+        ready = λ clean now. saves.ready (λ e. clean_still state a b reads (clean (sym reads.saved ∙ e))) now;
       }
 
-      pub accepts_after : (saved saved' : Bool) (c : Changes) → Accepts state b h c → Accepts state a h c
-      accepts_after saved saved' c done = record {
+      pub accepts_after : (d : Draft) → Accepts state b h d → Accepts state a h d
+      accepts_after d done = record {
         carries = carries_then (state a.device) (state b.device) (state h.device) reads.looks.carries done.carries;
         halted = done.halted ∙ reads.halted;
         segments = done.segments ∙ same_segments;
         enough = done.enough;
         unsaved = done.unsaved;
-        saves = saves_after saved saved' done.saves;
-        stores = λ k m0 m keeps stores. done.holds k m0 m keeps (stores_read saved k m0 m stores);
-        moment = leaves_after saved done.moment;
+        saves = saves_after done.saves;
+        holds = λ k m0 m keeps holds. done.holds k m0 m keeps (holds_read k m0 m holds);
+        moment = leaves_after done.moment;
       }
 
-      pub declines_after : (saved saved' : Bool) (c : Changes) → Declines state b h c → Declines state a h c
-      declines_after saved saved' c done = record {
+      pub declines_after : (d : Draft) → Declines state b h d → Declines state a h d
+      declines_after d done = record {
         carries = carries_then (state a.device) (state b.device) (state h.device) reads.looks.carries done.carries;
         halted = done.halted ∙ reads.halted;
         segments = done.segments ∙ same_segments;
-        saves = saves_after saved saved' done.saves;
-        stores = λ k m0 m keeps stores. done.holds k m0 m keeps (stores_read saved k m0 m stores);
-        moment = leaves_after saved done.moment;
+        saves = saves_after done.saves;
+        holds = λ k m0 m keeps holds. done.holds k m0 m keeps (holds_read k m0 m holds);
+        moment = leaves_after done.moment;
       }
 
-      pub fault_after : (saved : Bool) (c : Changes) → IsAcceptFault state b h c → IsAcceptFault state a h c
-      fault_after saved c fault k m0 m keeps stores fits log =
-          let rose = fault k m0 m keeps (stores_read saved k m0 m stores) fits log in
+      pub fault_after : (d : Draft) → IsAcceptFault state b h d → IsAcceptFault state a h d
+      fault_after d fault k m0 m keeps holds fits log =
+          let rose = fault k m0 m keeps (holds_read k m0 m holds) fits log in
           let before = reads.looks.carries.failures in
           omega (arith, rose, before)
 
@@ -174,14 +166,11 @@ module _ {D : Type 0} (state : D → DeviceState) (lawful : (d : D) → IsLawful
   -- ---- volumes that were only read
 
   pub still_none : (v : Mounted D) → IsStill state v v
-  still_none v = record { reads = reads_none state v.log; saved = refl; blocks = refl; others = refl; table = refl }
+  still_none v = record { reads = reads_none state v.log; table = refl }
 
   pub still_more : (v w x : Mounted D) → IsStill state v w → IsStill state w x → IsStill state v x
   still_more v w x one two = record {
     reads = reads_more state v.log w.log x.log (lawful v.log.device) one.reads two.reads;
-    saved = two.saved ∙ one.saved;
-    blocks = two.blocks ∙ one.blocks;
-    others = two.others ∙ one.others;
     table = two.table ∙ one.table;
   }
 
@@ -247,20 +236,16 @@ module _ {D : Type 0} (state : D → DeviceState) (lawful : (d : D) → IsLawful
 
   -- and the draft is given up
   module _ (old mid : Fs D) (tried gone : Store D) (call : Call) (was : (seen old).log.halted ≡ false)
-      (still : IsStill state (seen old) (seen mid)) (reads : Reads state (seen mid).log tried.log)
-      (saved : tried.log.saved ≡ (seen mid).log.saved) (same_log : gone.log ≡ tried.log)
-      (same_saved : gone.log.saved ≡ tried.log.saved) where
+      (still : IsStill state (seen old) (seen mid)) (reads : Reads state (seen mid).log (volume_of tried))
+      (same_log : volume_of gone ≡ volume_of tried) where
     still_gone : IsStill state (seen mid) (seen record { alloc = mid.alloc; store = gone; handles = mid.handles })
     still_gone = record {
       reads = subst (λ (x : LogState D). Reads state (seen mid).log x) (sym same_log) reads;
-      saved = same_saved ∙ saved;
-      blocks = ap (λ (t : BlockTotals). t.data_blocks) (ap (λ (h : LogState D). h.totals) same_log ∙ reads.totals);
-      others = ap (λ (t : BlockTotals). t.meta_blocks) (ap (λ (h : LogState D). h.totals) same_log ∙ reads.totals);
       table = refl;
     }
 
     pub given_up_serves : never_for_device call ≡ false → takes_no_memory call ≡ false → (fault : StoreFault)
-        → ((fault ≡ store.NoMemory → ⊥) → IsReadFault state (seen mid).log tried.log)
+        → ((fault ≡ store.NoMemory → ⊥) → IsReadFault state (seen mid).log (volume_of tried))
         → (fault ≡ store.Log log.Halted → (seen mid).log.halted ≡ true) → (fault ≡ store.Log log.Full → ⊥) → (e : FsError)
         → e ≡ error_of_store fault
         → Serves state (seen old) (seen record { alloc = mid.alloc; store = gone; handles = mid.handles }) call (Refuse (refusal_of e))
@@ -271,7 +256,7 @@ module _ {D : Type 0} (state : D → DeviceState) (lawful : (d : D) → IsLawful
         (still_more (seen old) (seen mid) (seen record { alloc = mid.alloc; store = gone; handles = mid.handles }) still still_gone) free
         takes fault
         (λ device. subst (λ (x : LogState D). IsReadFault state (seen old).log x) (sym same_log)
-        (fault_more state (seen old).log (seen mid).log tried.log still.reads (failed device)))
+        (fault_more state (seen old).log (seen mid).log (volume_of tried) still.reads (failed device)))
         (λ on. sym still.reads.halted ∙ halted on) other)
 
   -- an open file has a header, unless a call of the device failed
@@ -294,7 +279,7 @@ module _ {D : Type 0} (state : D → DeviceState) (lawful : (d : D) → IsLawful
               (λ (rose : (state (seen old).log.device).failures < (state (seen mid).log.device).failures).
               (let f = here.failures in omega (arith, f, rose)))
               (λ none. absurd (
-              let both : None ≡ Some file.head = sym none ∙ ap (λ (x : LogMap). x.header n) (draft_empty (draft_of old.store) m empty).0
+              let both : None ≡ Some file.head = sym none ∙ ap (λ (x : LogMap). x.header n) (empty_draft (draft_of old.store) m empty).0
               ∙ file.there in cc))
               (failed.1 k m0 m keeps is.holds),
         ),
@@ -307,34 +292,27 @@ module _ {D : Type 0} (state : D → DeviceState) (lawful : (d : D) → IsLawful
 
   module _ (v : Mounted D) (ready new : Fs D) (call : Call) (a : Answer) (still : IsStill state v (seen ready)) (was : v.log.halted ≡ false)
       (rest : new.handles ≡ ready.handles) where
-    abbrev c : Changes
-    c = (draft_of ready.store)
+    abbrev d : Draft
+    d = draft_of ready.store
 
     pub table_same : new.handles ≡ v.table
     table_same = rest ∙ still.table
 
-    pub accepts_old : StagesDraft state ready new → Accepts state v.log (seen new).log c
-    accepts_old done = accepts_after v.log (seen ready).log still.reads (seen new).log v.saved (seen new).log.saved c
-        (subst (λ (b : Bool). Accepts state (seen ready).log (seen new).log c) still.saved done.accepts)
+    pub accepts_old : StagesDraft state ready new → Accepts state v.log (seen new).log d
+    accepts_old done = accepts_after v.log (seen ready).log still.reads (seen new).log d done.accepts
 
-    declines_old : IsDeclined state ready new → Declines state v.log (seen new).log c
-    declines_old done = declines_after v.log (seen ready).log still.reads (seen new).log v.saved (seen new).log.saved c
-        (subst (λ (b : Bool). Declines state (seen ready).log (seen new).log c) still.saved done.declines)
+    declines_old : IsDeclined state ready new → Declines state v.log (seen new).log d
+    declines_old done = declines_after v.log (seen ready).log still.reads (seen new).log d done.declines
 
     tells_old : TellsFew state (seen ready).log (seen new).log → TellsFew state v.log (seen new).log
     tells_old = tells_after v.log (seen ready).log still.reads (seen new).log
 
-    fault_old : IsAcceptFault state (seen ready).log (seen new).log c
-        → IsAcceptFault state v.log (seen new).log c
-    fault_old fault = fault_after v.log (seen ready).log still.reads (seen new).log v.saved c
-        (subst (λ (b : Bool). IsAcceptFault state (seen ready).log (seen new).log c) still.saved fault)
+    fault_old : IsAcceptFault state (seen ready).log (seen new).log d
+        → IsAcceptFault state v.log (seen new).log d
+    fault_old fault = fault_after v.log (seen ready).log still.reads (seen new).log d fault
 
     rest_old : IsDeclined state ready new → IsRest state v (seen new)
-    rest_old done = record {
-      blocks = ap (λ (t : BlockTotals). t.data_blocks) done.totals ∙ still.blocks;
-      others = ap (λ (t : BlockTotals). t.meta_blocks) done.totals ∙ still.others;
-      table = table_same;
-    }
+    rest_old done = record { totals = done.totals ∙ still.reads.totals; table = table_same }
 
     pub low_old : (seen ready).log.number < 2 ^ 62 → v.log.number < 2 ^ 62
     low_old low = let same = still.reads.number in omega (arith, same, low)
@@ -350,22 +328,21 @@ module _ {D : Type 0} (state : D → DeviceState) (lawful : (d : D) → IsLawful
     InState x = Kept → (k : CheckpointValue) (m0 m : LogMap) (s : State) → IsIn state v k m0 m s → Serves state v (seen new) call x
 
     module _ (change : changes call ≡ true) (free : never_for_device call ≡ false) (takes : takes_no_memory call ≡ false)
-        (fits : Kept → (k : CheckpointValue) (m0 m : LogMap) (s : State) → IsIn state v k m0 m s → InEach state v (λ m s. FitsBatch m c))
+        (fits : Kept → (k : CheckpointValue) (m0 m : LogMap) (s : State) → IsIn state v k m0 m s → InEach state v (λ m s. Fits d m))
         (lacks_ends : IsStill state v (seen new) → limit_of ready < need_of ready → InState (Refuse refusal.NoSpace))
         (worn_ends : IsStill state v (seen new) → 2 ^ 62 ≤ v.log.number → need_of ready ≤ limit_of ready
         → InState (Refuse refusal.Worn)) where
       -- nothing has changed
       same_by : (x : Answer) → IsOrdinary x → seen new ≡ seen ready → InState x → Serves state v (seen new) call x
       same_by x ordinary same each = when_in v (seen new) call was x (still_new same).reads.looks.carries
-          (ap (λ (v : LogMemory). length v.usage.segments) (still_new same).reads.memory)
+          (still_new same).reads.segments
           (not_halted x ordinary) (still_behaves state v (seen new) call x (still_new same) ordinary)
           (λ keeps. each (subst (λ (x : Mounted D). (state x.log.device).keeps_model) same keeps))
 
       few_written : most_checkpoints (seen ready).log ≤ segments_of v / 8 + 1
       few_written =
           subst (λ (n : ℕ). most_checkpoints (seen ready).log ≤ n / 8 + 1)
-          (ap (λ (x : LogMemory). length x.usage.segments) still.reads.memory)
-          (written_most D (seen ready).log (seen ready).log.saved)
+          still.reads.segments (few_checkpoints (seen ready).log)
 
       declined_bounded : (done : IsDeclined state ready new) → IsBounded state v (seen new) call
       declined_bounded done = change_bounded state v (seen new) call change (declines_old done).saves.few (tells_old done.tells)
@@ -381,16 +358,16 @@ module _ {D : Type 0} (state : D → DeviceState) (lawful : (d : D) → IsLawful
       by_fault error.Worn down = same_by (Refuse refusal.Worn) tt down.0
           (worn_ends (still_new down.0) (let same = still.reads.number in let high = down.1 in omega (arith, same, high)) down.2)
       by_fault error.NoMemory down = declined_by (Refuse refusal.NoMemory) (λ e. cc) (λ e. cc) down (λ after keeps k m0 m s is.
-          no_room_serves state v (seen new) call (lawful v.log.device) (lawful (seen new).log.device) was (declines_old down).saves.number c
+          no_room_serves state v (seen new) call (lawful v.log.device) (lawful (seen new).log.device) was (declines_old down).saves.number d
           (rest_old down) (declines_old down) (low_old down.young)
           (fits keeps k m0 m s is) (declined_bounded down) change takes)
       by_fault error.Device down = declined_by (Refuse refusal.Device) (λ e. cc) (λ e. cc) down.0 (λ after keeps k m0 m s is. ⊎_elim
-          (λ (failed : IsAcceptFault state (seen ready).log (seen new).log c).
+          (λ (failed : IsAcceptFault state (seen ready).log (seen new).log d).
           accept_fault_serves state v (seen new) call (lawful v.log.device) (lawful (seen new).log.device) was
-          (declines_old down.0).saves.number c (rest_old down.0) (declines_old down.0) (low_old down.0.young)
+          (declines_old down.0).saves.number d (rest_old down.0) (declines_old down.0) (low_old down.0.young)
           (fits keeps k m0 m s is) (declined_bounded down.0) change free (fault_old failed))
           (λ (cannot : MayNotMakeRoom state (seen ready).log (seen new).log).
-          absurd (cannot k m0 m after (has_room state (seen ready) (lawful (seen ready).log.device) refl refl down.0.young k m0 m s
+          absurd (cannot k m0 m after (has_room state (seen ready) (lawful (seen ready).log.device) down.0.young k m0 m s
           (still_in state v (seen ready) k m0 m s still is))))
           down.1)
       by_fault error.Halted down =
@@ -401,17 +378,11 @@ module _ {D : Type 0} (state : D → DeviceState) (lawful : (d : D) → IsLawful
 
     -- ---- a draft that is one step of the model
     limit_same : limit_of ready ≡ 47 * segments_of v
-    limit_same = ap (λ (x : LogMemory). 47 * length x.usage.segments) still.reads.memory
+    limit_same = ap (λ (n : ℕ). 47 * n) still.reads.segments
 
     -- the volume with the draft, and with this table of open files
     abbrev pub with_table : Handles → Mounted D
-    with_table table = record {
-      log = (seen new).log;
-      saved = (seen new).log.saved;
-      blocks = (seen new).log.totals.data_blocks;
-      others = (seen new).log.totals.meta_blocks;
-      table = table;
-    }
+    with_table table = record { log = (seen new).log; table = table }
 
     abbrev pub HasRoom : Type 0
     HasRoom = need_of ready ≤ 47 * segments_of v
@@ -421,10 +392,9 @@ module _ {D : Type 0} (state : D → DeviceState) (lawful : (d : D) → IsLawful
       pub next : State
       pub answer : Answer
       pub ok : is_ok answer ≡ true
-      pub fits : FitsBatch m c
-      pub counted : IsCounted (staged c m) (drafted_of ready.store).data_blocks
-          (drafted_of ready.store).meta_blocks
-      pub map : HasRoom → IsMapOf (segments_of v) (staged c m) next
+      pub fits : Fits d m
+      pub counted : AreTotals (with_draft d m) (drafted_of ready.store)
+      pub map : HasRoom → IsMapOf (segments_of v) (with_draft d m) next
       pub done : HasRoom → Step (segments_of v) s call answer next
       pub lacks : 47 * segments_of v < need_of ready
           → Step (segments_of v) s call (Refuse refusal.NoSpace) s
@@ -448,7 +418,7 @@ module _ {D : Type 0} (state : D → DeviceState) (lawful : (d : D) → IsLawful
         let accepts = accepts_old stages in
         let low = low_old stages.young in
         accepts_by state v (with_table table) call (lawful v.log.device)
-        (lawful (seen new).log.device) accepts.carries accepts.segments was accepts.saves.number c
+        (lawful (seen new).log.device) accepts.carries accepts.segments was accepts.saves.number d
         accepts low x (ok_refuses_none x refusal.Halted ok)
         (λ e. let no : acknowledges call x ≡ false = ap (λ (b : Bool). b && is_ok x) (commits_none call free) in cc)
         (behaves (change_bounded state v (with_table table) call change accepts.saves.few
@@ -463,7 +433,7 @@ module _ {D : Type 0} (state : D → DeviceState) (lawful : (d : D) → IsLawful
           fits = draft.fits;
           map = draft.map room;
           handles = end.1;
-          counted = subst (λ (t : BlockTotals). IsCounted (staged c m) t.data_blocks t.meta_blocks)
+          counted = subst (λ (t : BlockTotals). AreTotals (with_draft d m) t)
               (sym stages.totals) draft.counted;
           steps = inl (
             subst (λ (y : Answer). Step (segments_of v) p.state call y draft.next) end.0
@@ -476,7 +446,7 @@ module _ {D : Type 0} (state : D → DeviceState) (lawful : (d : D) → IsLawful
         (takes : takes_no_memory call ≡ false) (unclean : cleans call ≡ false)
         (drafts : AreDrafts) where
       fits_each : Kept → (k : CheckpointValue) (m0 m : LogMap) (s : State) → IsIn state v k m0 m s
-          → InEach state v (λ m s. FitsBatch m c)
+          → InEach state v (λ m s. Fits d m)
       fits_each keeps k m0 m s is k' m0' m' s' before is' = (drafts keeps k' m0' m' s' is').fits
 
       -- the tree would need more than there is

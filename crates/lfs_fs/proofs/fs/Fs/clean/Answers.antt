@@ -41,6 +41,5 @@ returns-in_err-clean-clause-serves g c =
     (clean_fails g.D.SectorDevice.state g.met.D.SectorDevice.lawful c.begin.new.self c.clean.new.self running
     c.in_err-clean.ensures.cleans.room.keeps.totals c.in_ok-check_worn.ensures.young c.in_err-clean.ensures.told c.in_err-clean.field-0.0
     p.0 p.2
-    (λ e. c.in_err-clean.ensures.cleans.room.full (ap Err e)) (λ e. c.in_err-clean.ensures.cleans.room.never (ap Err e))
-    (λ e. c.in_err-clean.ensures.cleans.room.kept (ap Err e)) (λ e. c.in_err-clean.ensures.cleans.room.failed (ap Err e))
+    (λ e. c.in_err-clean.ensures.cleans.room.full (ap Err e)) (λ e. c.in_err-clean.ensures.cleans.room.device (ap Err e))
     (λ e. c.in_err-clean.ensures.cleans.room.halted (ap Err e) (not_halted c.begin.new.self running))))

@@ -1,5 +1,6 @@
 use Rattle.std.proofs.lemmas.Result.{err_from_is_err_and}
 use Rattle.std.proofs.Common.{Err, ap}
+use Rattle.lfs_store.specs.StoreState.{volume_of}
 use Rattle.lfs_fs.proofs.clean.Ends.{clean_fails, cleaned_serves, once_tells, worn_serves}
 use Rattle.lfs_fs.proofs.save.Ends.{not_halted}
 use Rattle.lfs_fs.proofs.write.Exits.{begun, halted_begin, still_running}
@@ -33,8 +34,8 @@ returns-clause-serves g c =
     } _ _ c.in_ok-begin.ensures.done
     (cleaned_serves g.D.SectorDevice.state g.met.D.SectorDevice.lawful c.begin.new.self c.clean_once.new.self running
     c.in_ok-clean_once.ensures.cleans.room.keeps.totals c.in_ok-check_worn.ensures.young
-    (once_tells g.D.SectorDevice.state g.met.D.SectorDevice.lawful (seen c.begin.new.self).log c.clean_once.new.self.log
-    (c.are_tables_whole.ensures.memory running).count c.clean_once.ensures.told) c.in_ok-clean_once.ensures.cleans.room.done)
+    (once_tells g.D.SectorDevice.state g.met.D.SectorDevice.lawful (seen c.begin.new.self).log (volume_of c.clean_once.new.self)
+    (c.has_segment_count.ensures running) c.clean_once.ensures.told) c.in_ok-clean_once.ensures.cleans.room.done)
 
 pub returns-in_err-clean_once-clause-serves : goal.returns-in_err-clean_once-clause-serves
 returns-in_err-clean_once-clause-serves g c =
@@ -48,8 +49,7 @@ returns-in_err-clean_once-clause-serves g c =
     } _ _ c.in_ok-begin.ensures.done
     (clean_fails g.D.SectorDevice.state g.met.D.SectorDevice.lawful c.begin.new.self c.clean_once.new.self running
     c.in_err-clean_once.ensures.cleans.room.keeps.totals c.in_ok-check_worn.ensures.young
-    (once_tells g.D.SectorDevice.state g.met.D.SectorDevice.lawful (seen c.begin.new.self).log c.clean_once.new.self.log
-    (c.are_tables_whole.ensures.memory running).count c.clean_once.ensures.told) c.in_err-clean_once.field-0.0 p.0 p.2
-    (λ e. c.in_err-clean_once.ensures.cleans.room.full (ap Err e)) (λ e. c.in_err-clean_once.ensures.cleans.room.never (ap Err e))
-    (λ e. c.in_err-clean_once.ensures.cleans.room.kept (ap Err e)) (λ e. c.in_err-clean_once.ensures.cleans.room.failed (ap Err e))
+    (once_tells g.D.SectorDevice.state g.met.D.SectorDevice.lawful (seen c.begin.new.self).log (volume_of c.clean_once.new.self)
+    (c.has_segment_count.ensures running) c.clean_once.ensures.told) c.in_err-clean_once.field-0.0 p.0 p.2
+    (λ e. c.in_err-clean_once.ensures.cleans.room.full (ap Err e)) (λ e. c.in_err-clean_once.ensures.cleans.room.device (ap Err e))
     (λ e. c.in_err-clean_once.ensures.cleans.room.halted (ap Err e) (not_halted c.begin.new.self running))))

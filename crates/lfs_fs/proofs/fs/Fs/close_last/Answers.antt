@@ -1,14 +1,14 @@
 use Rattle.std.proofs.lemmas.Result.{err_from_is_err_and}
 use Rattle.std.proofs.Common.{ap, refl, sym, subst, Err}
 use Rattle.lfs_store.specs.declared.draft.Draft.{Draft}
-use Rattle.lfs_store.specs.memory.Batch.{IsNoChange}
+use Rattle.lfs_store.specs.StoreState.{IsEmpty}
 use Rattle.lfs_fs.proofs.open_files.Closes.{close_faults, close_last, close_named}
 use Rattle.lfs_fs.proofs.write.Ends.{headerless_serves}
 use Rattle.lfs_fs.proofs.fs.Fs.close_last.Goals as goal
 
 pub forget-requires : goal.forget-requires
 forget-requires g c =
-    record { empty = subst (λ (d : Draft). IsNoChange d.changes) (sym c.header.ensures.reads.draft) c.requires.ready.empty }
+    record { empty = subst (λ (d : Draft). IsEmpty d) (sym c.header.ensures.reads.draft) c.requires.ready.empty }
 
 pub returns-in_err-header : goal.returns-in_err-header
 returns-in_err-header g c opens shut =

@@ -4,6 +4,7 @@ use Rattle.lfs_fs.specs.declared.fs.Fs.{Fs}
 use Rattle.lfs_fs.specs.Mounting.{FindsState, IsMountFault, MountsFs}
 use Rattle.lfs_fs.proofs.mount.Ends.{durable_now, finds_state, memory_fault, memory_reason, mounts_fs, only_there, tables_there}
 use Rattle.lfs_fs.proofs.fs.Fs.mount.Goals as goal
+use Rattle.lfs_fs.specs.Seen.{seen}
 
 pub with_tables-requires-clause-found : goal.with_tables-requires-clause-found
 with_tables-requires-clause-found g c =
@@ -21,7 +22,7 @@ returns-in-Ok-with_tables-clause-mounts g c =
     let fs : Fs g.row.D.Denot = record { alloc = c.args.alloc; store = c.in-Ok-with_tables.store; handles = c.new.result } in
     subst (λ (d : g.row.D.Denot). MountsFs g.D.SectorDevice.state d fs) c.in-Ok.ensures.same
     (mounts_fs g.D.SectorDevice.state c.in-Ok.device c.verify_tree.new.device
-    (g.met.D.SectorDevice.lawful c.in-Ok.device) c.in-Ok-verify_tree.ensures.looks fs told.same told.holds told.counts
+    (g.met.D.SectorDevice.lawful c.in-Ok.device) c.in-Ok-verify_tree.ensures.looks fs told.same told.stores told.counts
     c.in-Ok-verify_tree.ensures.durable told.saved c.new.ensures)
 
 pub returns-in-Ok-with_tables-clause-only : goal.returns-in-Ok-with_tables-clause-only
@@ -30,7 +31,7 @@ returns-in-Ok-with_tables-clause-only g c =
     let fs : Fs g.row.D.Denot = record { alloc = c.args.alloc; store = c.in-Ok-with_tables.store; handles = c.new.result } in
     subst (λ (d : g.row.D.Denot). FindsState g.D.SectorDevice.state d fs) c.in-Ok.ensures.same
     (finds_state g.D.SectorDevice.state c.in-Ok.device c.verify_tree.new.device
-    (g.met.D.SectorDevice.lawful c.in-Ok.device) c.in-Ok-verify_tree.ensures.looks fs told.same told.holds told.counts
+    (g.met.D.SectorDevice.lawful c.in-Ok.device) c.in-Ok-verify_tree.ensures.looks fs told.same told.stores told.counts
     c.in-Ok-verify_tree.ensures.durable told.saved c.new.ensures c.in-Ok-verify_tree.tables c.in-Ok-verify_tree.ensures.found)
 
 pub returns-in-Ok-with_tables-clause-durable : goal.returns-in-Ok-with_tables-clause-durable
@@ -40,7 +41,7 @@ returns-in-Ok-with_tables-clause-durable g c =
     subst (λ (d : g.row.D.Denot). (g.D.SectorDevice.state (seen fs).log.device).keeps_model
     → Only (g.D.SectorDevice.state d).content (g.D.SectorDevice.state (seen fs).log.device)) c.in-Ok.ensures.same
     (durable_now g.D.SectorDevice.state c.in-Ok.device c.verify_tree.new.device
-    (g.met.D.SectorDevice.lawful c.in-Ok.device) c.in-Ok-verify_tree.ensures.looks fs told.same told.holds told.counts
+    (g.met.D.SectorDevice.lawful c.in-Ok.device) c.in-Ok-verify_tree.ensures.looks fs told.same told.stores told.counts
     c.in-Ok-verify_tree.ensures.durable)
 
 pub returns-in-Err-with_tables-clause-cause : goal.returns-in-Err-with_tables-clause-cause

@@ -1,15 +1,14 @@
 use Rattle.std.proofs.lemmas.Result.{err_from_is_err_and}
 use Rattle.std.proofs.Common.{Err, Option, ap, arith, subst, sym, ◌∙◌}
-use Rattle.lfs_store.proofs.Growths.{grown_fits}
 use Rattle.lfs_store.proofs.of_memory.Going.{ok_then}
+use Rattle.lfs_store.specs.Seen.{files_of}
 use Rattle.lfs_entries.specs.declared.moving.Source.{Source}
 use Rattle.lfs_entries.specs.declared.moving.Target.{Target}
 use Rattle.lfs_entries.specs.Renaming.{TakesRename}
-use Rattle.lfs_fs.specs.Drafted.{files_of}
-use Rattle.lfs_fs.proofs.calls.DraftSizes.{adds_grow}
 use Rattle.lfs_fs.proofs.paths.Places.{path_read, ready_after}
 use Rattle.lfs_fs.proofs.rename.Outcomes.{checks_refused, dots_first, dots_second, move_ends, no_first, no_second, same_ends}
 use Rattle.lfs_fs.proofs.fs.Fs.rename_at.Goals as goal
+use Rattle.lfs_fs.proofs.calls.DraftSizes.{adds_fit}
 
 -- the first path has no piece
 pub returns-in_default : goal.returns-in_default
@@ -80,6 +79,5 @@ finish-requires-clause-room g c =
     let ready = ready_after state c.args.self.now _ c.requires.ready
     (path_read state c.args.self.now before c.in_ok-found.ensures.only.reads) in
     ok_then c.draft_move-drafted.result _ _
-    (λ grows. grown_fits before.draft.changes c.draft_move-drafted.new.files.draft.changes 6 4 (omega arith) ready.empty
-    (adds_grow state before c.draft_move-drafted.new.files 6 4 grows))
+    (adds_fit state before c.draft_move-drafted.new.files 6 4 (omega arith) ready.empty)
     c.draft_move-drafted.ensures.small

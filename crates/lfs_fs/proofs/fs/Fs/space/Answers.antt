@@ -1,7 +1,10 @@
 use Rattle.std.proofs.lemmas.Result.{err_from_is_err_and}
+use Rattle.std.proofs.Common.{◌≡◌, ◌+◌, ◌*◌, ◌∙◌, ap, subst}
 use Rattle.lfs_model.specs.Call as call
 use Rattle.lfs_fs.proofs.read.Ends.{begun_space, halted_serves}
 use Rattle.lfs_fs.proofs.fs.Fs.space.Goals as goal
+use Rattle.lfs_store.specs.log.verify.declared.totals.BlockTotals.{BlockTotals}
+use Rattle.lfs_fs.specs.Seen.{seen}
 
 pub returns-in_err-begin : goal.returns-in_err-begin
 returns-in_err-begin g c =
@@ -13,5 +16,9 @@ returns-in_err-begin g c =
 pub returns : goal.returns
 returns g c =
     begun_space g.D.SectorDevice.state c.args.self.now c.begin.new.self (g.met.D.SectorDevice.lawful (seen c.begin.new.self).log.device)
-    c.in_ok-begin.ensures.done c.space_of.result c.space_of.ensures.stored c.space_of.ensures.above
-    c.space_of.ensures.need c.space_of.ensures.limit
+    c.in_ok-begin.ensures.done c.space_of.result
+    (c.space_of.ensures.stored ∙ ap (λ (t : BlockTotals). t.data_blocks) c.drafted.ensures)
+    (c.space_of.ensures.above ∙ ap (λ (t : BlockTotals). t.meta_blocks) c.drafted.ensures)
+    (subst (λ (t : BlockTotals). c.space_of.result.need ≡ t.data_blocks + 7 * t.meta_blocks + 720) c.drafted.ensures
+    c.space_of.ensures.need)
+    c.space_of.ensures.limit

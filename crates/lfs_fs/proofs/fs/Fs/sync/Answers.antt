@@ -16,7 +16,7 @@ returns g c =
     record { alloc = c.begin.new.self.alloc; store = c.commit.new.self; handles = c.begin.new.self.handles } _ _ c.in_ok-begin.ensures.done
     (sync_done_serves g.D.SectorDevice.state g.met.D.SectorDevice.lawful c.begin.new.self c.commit.new.self
     (still_running g.D.SectorDevice.state g.met.D.SectorDevice.lawful c.args.self.now c.begin.new.self c.in_ok-begin.ensures.done)
-    c.in_ok-commit.ensures.keeps.totals c.in_ok-commit.ensures.told c.in_ok-commit.ensures.done c.in_ok-commit.ensures.saved)
+    c.in_ok-commit.ensures.keeps.totals c.in_ok-commit.ensures.told c.in_ok-commit.ensures.done)
 
 pub returns-in_err-commit : goal.returns-in_err-commit
 returns-in_err-commit g c =
@@ -26,6 +26,6 @@ returns-in_err-commit g c =
     begun g.D.SectorDevice.state g.met.D.SectorDevice.lawful c.args.self.now c.begin.new.self
     record { alloc = c.begin.new.self.alloc; store = c.commit.new.self; handles = c.begin.new.self.handles } _ _ c.in_ok-begin.ensures.done
     (sync_fails g.D.SectorDevice.state g.met.D.SectorDevice.lawful c.begin.new.self c.commit.new.self running
-    c.in_err-commit.ensures.keeps.totals c.in_err-commit.ensures.told c.in_err-commit.ensures.same c.in_err-commit.field-0.0 p.0 p.2
+    c.in_err-commit.ensures.keeps.totals c.in_err-commit.ensures.told c.in_err-commit.field-0.0 p.0 p.2
     (λ e. c.in_err-commit.ensures.full (ap Err e)) (λ e. c.in_err-commit.ensures.unsaved (ap Err e))
     (λ e. c.in_err-commit.ensures.halted (ap Err e) (not_halted c.begin.new.self running)) (λ e. c.in_err-commit.ensures.other (ap Err e))))

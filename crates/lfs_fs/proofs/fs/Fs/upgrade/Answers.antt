@@ -29,6 +29,6 @@ returns g c =
     begun_serves g.D.SectorDevice.state c.args.self.now c.begin.new.self (seen c.accept.new.self) Upgrade
     (answer_by (λ _. Done) c.accept.result) begun
     (upgrade_ends g.D.SectorDevice.state g.met.D.SectorDevice.lawful c.args.self.now c.begin.new.self begun c.upgrade.new.self
-    c.upgrade.ensures.keeps.log c.upgrade.ensures.keeps.saved c.upgrade.ensures.keeps.drafted
+    c.upgrade.ensures.keeps.log c.upgrade.ensures.keeps.drafted
     c.upgrade.ensures.done c.upgrade.ensures.counted c.accept.new.self c.accept.ensures.rest c.accept.result c.accept.ensures.done
     c.accept.ensures.refused)

@@ -20,6 +20,6 @@ returns-in-Err g c v path narrow =
     widen_given_up g.D.SectorDevice.state g.met.D.SectorDevice.lawful v (sym narrow.whole.still.reads.halted ∙ c.requires.ready.running)
     path
     c.args.number.value c.args.self.now c.args.header narrow
-    c.widen.new.files c.give_up.new.self c.widen.ensures.redrafts c.give_up.ensures.keeps.log c.give_up.ensures.keeps.saved c.in-Err.fault
+    c.widen.new.files c.give_up.new.self c.widen.ensures.redrafts c.give_up.ensures.keeps.log c.in-Err.fault
     c.in-Err.ensures.failed (λ on. c.in-Err.ensures.halted (ap Err on)) (λ full. c.in-Err.ensures.other (ap Err full))
     c.from.result c.from.ensures

@@ -1,0 +1,75 @@
+-- TEMPORARY: as Known of lfs_store, until its library has it.
+use Rattle.std.proofs.Common.{◌≡◌, ◌≤◌, ◌+◌, ◌*◌, ◌/◌, ℕ, Bool, true, false, cond, length, sym, ap, subst, arith}
+use Rattle.lfs_model.specs.Device.{DeviceState}
+use Rattle.lfs_model.specs.Stands.{LogMap}
+use Rattle.lfs_files.specs.declared.header.Header.{Header}
+use Rattle.lfs_files.specs.Files as files
+use Rattle.lfs_store.specs.log.LogState.{LogState, Reads, commits_due}
+use Rattle.lfs_store.specs.memory.Batch.{is_lost}
+use Rattle.lfs_store.specs.memory.Present.{Looks}
+use Rattle.lfs_store.specs.memory.declared.batch.Loss.{Loss}
+use Rattle.lfs_store.specs.cleaner.Room.{most_checkpoints}
+use Rattle.lfs_store.specs.declared.draft.Draft.{Draft}
+use Rattle.lfs_store.specs.Drafting.{IsApart}
+use Rattle.lfs_store.specs.Seen.{StagedLog, staged_of}
+use Rattle.lfs_store.specs.StoreState.{Fits, IsEmpty, asked_by, with_draft}
+use Rattle.lfs_store.specs.Writing.{SetsLen}
+use Rattle.lfs_store.proofs.Apart.{draft_empty, nothing_apart}
+use Rattle.lfs_store.proofs.Growths.{grown_fits, room_few}
+
+-- ---- an empty draft
+
+-- it changes no log map, and each may be changed so
+pub empty_draft : (d : Draft) (m : LogMap) → IsEmpty d → (with_draft d m ≡ m) × Fits d m
+empty_draft d m none = draft_empty d.changes m none
+
+-- nothing is lost by it
+pub empty_loses : (d : Draft) (n : ℕ) → IsEmpty d → IsApart d.changes.loss n
+empty_loses d n none = subst (λ (x : Loss). IsApart x n) (sym none.loss) (nothing_apart n)
+
+pub empty_apart : (d : Draft) (n : ℕ) → IsEmpty d → files.IsApart (is_lost d.changes.loss) n
+empty_apart d n none = let apart = empty_loses d n none in record { inode = apart.inode; above = apart.above }
+
+-- ---- how many blocks of memory a draft asks for
+
+-- one that was empty, by how much it grew
+pub grown_asks : (a b : Draft) (h k : ℕ) → 2 * h + 4 * k ≤ 452 → IsEmpty a
+    → length b.changes.headers.items ≤ length a.changes.headers.items + h
+    → length b.changes.blocks.items ≤ length a.changes.blocks.items + k → asked_by b ≤ 456
+grown_asks a b h k few none headers blocks = grown_fits a.changes b.changes h k few none record { headers = headers; blocks = blocks }
+
+-- one that gives a file another length
+pub cut_asks : {D : Type 0} (state : D → DeviceState) (h h' : LogState D) (d : Draft) (n : ℕ) (head : Header) (len : ℕ)
+    → SetsLen state h h' d.changes n head len → asked_by d ≤ 456
+cut_asks state h h' d n head len is = let room = room_few d.changes 1 1 is.headers is.blocks in omega (arith, room)
+
+-- ---- its volume
+
+-- where all that is staged is as it was, the log was no more than read
+pub reads_staged : {D : Type 0} (state : D → DeviceState) (h h' : LogState D) → Looks (state h.device) (state h'.device)
+    → staged_of h' ≡ staged_of h → Reads state h h'
+reads_staged state h h' looks same = record {
+  looks = looks;
+  halted = ap (λ (s : StagedLog). s.halted) same;
+  number = ap (λ (s : StagedLog). s.number) same;
+  version = ap (λ (s : StagedLog). s.version) same;
+  upgraded = ap (λ (s : StagedLog). s.upgraded) same;
+  saved = ap (λ (s : StagedLog). s.saved) same;
+  unsaved = ap (λ (s : StagedLog). s.unsaved) same;
+  totals = ap (λ (s : StagedLog). s.totals) same;
+  segments = ap (λ (s : StagedLog). s.segments) same;
+  clean = ap (λ (s : StagedLog). s.clean) same;
+  emptied = ap (λ (s : StagedLog). s.emptied) same;
+  waiting = ap (λ (s : StagedLog). s.waiting) same;
+  file_data = ap (λ (s : StagedLog). s.file_data) same;
+  usage = ap (λ (s : StagedLog). s.usage) same;
+  inner = ap (λ (s : StagedLog). s.inner) same;
+}
+
+-- one checkpoint more than for passes is written at most where room is made
+pub few_checkpoints : {D : Type 0} (h : LogState D) → most_checkpoints h ≤ h.segments / 8 + 1
+few_checkpoints h = let due : commits_due h ≤ 1 = one_due h.saved in omega (arith, due)
+  where
+    one_due : (all : Bool) → cond {A = ℕ} all 0 1 ≤ 1
+    one_due true = omega arith
+    one_due false = omega arith
