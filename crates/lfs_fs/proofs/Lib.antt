@@ -1,5 +1,3 @@
-mod Below
-mod Known
 mod calls
 mod volume
 mod paths

@@ -1,6 +1,5 @@
 pub mod AnyDevice
 pub mod Answers
-pub mod Checks
 pub mod DraftSizes
 pub mod Drafts
 pub mod Exits

@@ -1,4 +1,2 @@
 pub mod Drafts
-pub mod Maps
 pub mod Outcomes
-pub mod Steps

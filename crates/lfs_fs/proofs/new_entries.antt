@@ -1,9 +1,5 @@
 pub mod Drafts
 pub mod Ends
 pub mod Explained
-pub mod Maps
 pub mod Outcomes
 pub mod Rule
-pub mod RuleSteps
-pub mod Steps
-pub mod Trees

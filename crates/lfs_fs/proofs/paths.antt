@@ -1,9 +1,6 @@
-pub mod ChainTrees
 pub mod Ends
-pub mod LastNames
 pub mod Later
 pub mod Looks
-pub mod Named
 pub mod Places
 pub mod Reads
 pub mod Steps

@@ -10,6 +10,7 @@ ghost use Rattle.lfs_fs.specs.Seen.{IsReady, answer_by, seen};
 use crate::error::FsError;
 use crate::fs::Fs;
 use lfs_device::SectorDevice;
+use lfs_entries::{draft_bytes, draft_length};
 use lfs_model::limits::LONGEST_TRANSFER;
 use lfs_model::{FileNumber, limits};
 
@@ -61,14 +62,8 @@ impl<D: SectorDevice> Fs<D> {
             → Serves D.SectorDevice.state (seen self.old) (seen self.new)
             (Pwrite handle at bytes.now) (answer_by (λ _. Count (length bytes.now)) result) }
     {
-        let header = self.header(number)?;
-        match self.store.write_at(number, header, at, bytes) {
-            Ok(()) => self.accept(),
-            Err(fault) => {
-                self.store.give_up();
-                Err(FsError::from(fault))
-            }
-        }
+        let drafted = draft_bytes(&mut self.store, number, at, bytes);
+        self.finish(drafted)
     }
 
     /// Cuts a file to `len` bytes, or makes it longer with zeros (POSIX.1-2017, ftruncate).
@@ -97,13 +92,7 @@ impl<D: SectorDevice> Fs<D> {
             → Serves D.SectorDevice.state (seen self.old) (seen self.new) (Truncate handle len)
             (answer_by (λ _. Done) result) }
     {
-        let header = self.header(number)?;
-        match self.store.set_len(number, header, len) {
-            Ok(()) => self.accept(),
-            Err(fault) => {
-                self.store.give_up();
-                Err(FsError::from(fault))
-            }
-        }
+        let drafted = draft_length(&mut self.store, number, len);
+        self.finish(drafted)
     }
 }

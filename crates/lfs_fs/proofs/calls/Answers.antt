@@ -40,7 +40,7 @@ use Rattle.lfs_fs.proofs.paths.Later.{later_refused}
 use Rattle.lfs_fs.proofs.paths.Places.{begun_ready, begun_still}
 use Rattle.lfs_fs.proofs.paths.Walks.{tree_of_volume}
 use Rattle.lfs_fs.proofs.read.Ends.{step_serves}
-use Rattle.lfs_fs.proofs.volume.Nodes.{no_header_none, resolved_there}
+use Rattle.lfs_steps.proofs.volume.Nodes.{no_header_none, resolved_there}
 
 -- A call that changes nothing.
 pub record IsQuiet (call : Call) : Type 0 where

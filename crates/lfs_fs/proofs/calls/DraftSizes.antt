@@ -7,7 +7,7 @@ use Rattle.lfs_files.specs.declared.fault.StoreFault.TheVariants as store
 use Rattle.lfs_store.specs.declared.store.Store.{Store}
 use Rattle.lfs_store.specs.StoreState.{IsEmpty, asked_by, draft_of}
 use Rattle.lfs_store.specs.Seen.{files_of}
-use Rattle.lfs_fs.proofs.Known.{grown_asks}
+use Rattle.lfs_store.proofs.Known.{grown_asks}
 use Rattle.lfs_path.specs.dirs.Growing.{GrowsDirectory}
 use Rattle.lfs_fs.specs.declared.error.FsError.{FsError}
 use Rattle.lfs_fs.specs.declared.error.FsError.TheVariants as error

@@ -18,9 +18,9 @@ use Rattle.lfs_store.specs.Recounting.{AreTotals}
 use Rattle.lfs_store.specs.log.verify.declared.totals.BlockTotals.{BlockTotals}
 use Rattle.lfs_store.specs.declared.draft.Draft.{Draft}
 use Rattle.lfs_fs.specs.Volume.{Behaves, IsAt, IsIn, Mounted, Runs, Serves, segments_of}
-use Rattle.lfs_fs.proofs.volume.Nodes.{IsMapOf}
+use Rattle.lfs_steps.proofs.volume.Nodes.{IsMapOf}
 use Rattle.lfs_fs.proofs.volume.Map.{map_of_volume, runs_over}
-use Rattle.lfs_fs.proofs.volume.Stops.{stands_dropped}
+use Rattle.lfs_steps.proofs.volume.Stops.{stands_dropped}
 use Rattle.lfs_fs.proofs.calls.Exits.{goes_on_at, map_dropped, point_of}
 
 -- a refusal is never acknowledged

@@ -13,7 +13,7 @@ use Rattle.lfs_model.specs.TreeOf.{IsTree, Left, LeavesOne, LeavesStates, Stands
 use Rattle.lfs_model.specs.Encodes.{IsLogMap}
 use Rattle.lfs_model.proofs.Committed.{dropped_log}
 use Rattle.lfs_model.specs.Crash.{StandsForOn}
-use Rattle.lfs_fs.proofs.volume.Stops.{leaves_states}
+use Rattle.lfs_steps.proofs.volume.Stops.{leaves_states}
 use Rattle.lfs_model.specs.Volume.{IsLogOf}
 use Rattle.lfs_model.proofs.Moments.{carries_none, started, goes_on}
 use Rattle.lfs_store.specs.memory.Present.{Looks}

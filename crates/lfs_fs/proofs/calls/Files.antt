@@ -20,7 +20,7 @@ use Rattle.lfs_store.specs.declared.store.Store.{Store}
 use Rattle.lfs_store.specs.StoreState.{asked_by, draft_of, drafted_of, volume_of}
 use Rattle.lfs_store.specs.Seen.{files_of}
 use Rattle.lfs_store.specs.log.verify.declared.totals.BlockTotals.{BlockTotals}
-use Rattle.lfs_fs.proofs.Known.{empty_apart, empty_draft}
+use Rattle.lfs_store.proofs.Known.{empty_apart, empty_draft}
 use Rattle.lfs_path.specs.declared.last.Last.{Last}
 use Rattle.lfs_path.specs.dirs.Growing.{GrowsDirectory}
 use Rattle.lfs_path.proofs.LastPieces.{last_says}
@@ -43,12 +43,12 @@ use Rattle.lfs_fs.proofs.calls.Exits.{served_still, still_in}
 use Rattle.lfs_fs.proofs.calls.Reads.{memory_serves}
 use Rattle.lfs_fs.proofs.calls.Steps.{refused_not_worn}
 use Rattle.lfs_fs.proofs.calls.StoreCalls.{still_drafted}
-use Rattle.lfs_fs.proofs.paths.Named.{IsReached}
+use Rattle.lfs_steps.proofs.paths.Named.{IsReached}
 use Rattle.lfs_fs.proofs.paths.Places.{path_read, ready_after}
 use Rattle.lfs_fs.proofs.read.Ends.{failed_serves}
 use Rattle.lfs_fs.proofs.volume.Map.{headers_of_volume, map_of_volume}
-use Rattle.lfs_fs.proofs.volume.Nodes.{IsMapOf}
-use Rattle.lfs_fs.proofs.write.Ends.{AreDrafts, accepted_serves, draft_ends, draft_turned, still_more, with_table}
+use Rattle.lfs_steps.proofs.volume.Nodes.{IsMapOf}
+use Rattle.lfs_fs.proofs.write.Ends.{AreDrafts, accepted_serves, draft_ends, draft_turned, still_more, still_none, with_table}
 
 -- a volume with another store
 abbrev pub with_store : {D : Type 0} → Fs D → Store D → Fs D
@@ -70,6 +70,11 @@ module _ {D : Type 0} (state : D → DeviceState) where
   pub begun_at : (v : Mounted D) (f : Fs D) (path : List ℕ) (d : ℕ) (piece : Option Last) → Reaches state v f path d piece → IsReady f
       → IsBegun v f
   begun_at v f path d piece reached ready = record { still = reached.still; ready = ready; drafted = reached.drafted }
+
+  -- so it is where it just began
+  pub here_begun : (lawful : (d : D) → IsLawful (state d)) (f : Fs D) → IsReady f → drafted_of f.store ≡ (seen f).log.totals
+      → IsBegun state (seen f) f
+  here_begun lawful f ready drafted = record { still = still_none state lawful (seen f); ready = ready; drafted = drafted }
 
 -- ---- the path of a call has no last piece
 module _ {D : Type 0} (state : D → DeviceState) (lawful : (d : D) → IsLawful (state d)) (v : Mounted D) (f : Fs D) (path : List ℕ) (d : ℕ)

@@ -25,10 +25,10 @@ use Rattle.lfs_store.specs.memory.Present.{as_header}
 use Rattle.lfs_model.specs.Totals.{IsCounted, TotalsOfTree}
 use Rattle.lfs_store.specs.Writing.{WritesFile, resized}
 use Rattle.lfs_fs.specs.Reading.{stat_call}
-use Rattle.lfs_fs.proofs.volume.Nodes.{IsFileOf, IsMapOf, IsShaped, opened_file, room_counted, stat_is}
-use Rattle.lfs_fs.proofs.open_files.Steps.{read_done, write_done, write_no_space, written}
+use Rattle.lfs_steps.proofs.volume.Nodes.{IsFileOf, IsMapOf, IsShaped, opened_file, room_counted, stat_is}
+use Rattle.lfs_steps.proofs.open_files.Steps.{read_done, write_done, write_no_space, written}
 use Rattle.lfs_fs.proofs.paths.Steps.{space_done, stat_done}
-use Rattle.lfs_fs.proofs.write.Bytes.{written_map, written_need}
+use Rattle.lfs_steps.proofs.write.Bytes.{written_map, written_need}
 
 -- ---- the last number
 

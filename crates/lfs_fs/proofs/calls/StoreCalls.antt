@@ -14,7 +14,7 @@ use Rattle.lfs_store.specs.log.LogState.{LogState, Reads}
 use Rattle.lfs_store.specs.StoreState.{draft_of, drafted_of, volume_of, with_draft}
 use Rattle.lfs_store.specs.Seen.{files_of}
 use Rattle.lfs_store.proofs.of_log.LogReads.{reads_none}
-use Rattle.lfs_fs.proofs.Known.{reads_staged}
+use Rattle.lfs_store.proofs.Known.{reads_staged}
 use Rattle.lfs_path.specs.declared.walk_fault.WalkFault.{WalkFault}
 use Rattle.lfs_path.specs.declared.walk_fault.WalkFault.TheVariants as walk
 use Rattle.lfs_path.specs.Reaching.{EndsParent, IsParent}

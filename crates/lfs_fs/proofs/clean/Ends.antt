@@ -15,7 +15,7 @@ use Rattle.lfs_store.specs.Accepting.{HasClean}
 use Rattle.lfs_store.proofs.of_cleaner.Onces.{once_within}
 use Rattle.lfs_store.specs.StoreState.{volume_of}
 use Rattle.lfs_store.specs.cleaner.Room.{FailsRoom, LacksRoom, MakesRoom, MayNotMakeRoom, most_checkpoints}
-use Rattle.lfs_fs.proofs.Known.{few_checkpoints}
+use Rattle.lfs_store.proofs.Known.{few_checkpoints}
 use Rattle.lfs_store.proofs.Acceptings.{room_holds}
 use Rattle.lfs_fs.specs.declared.error.FsError.{FsError}
 use Rattle.lfs_fs.specs.declared.error.FsError.TheVariants as error

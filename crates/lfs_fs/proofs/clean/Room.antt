@@ -8,9 +8,9 @@ use Rattle.lfs_model.proofs.Committed.{dropped_log}
 use Rattle.lfs_store.proofs.TreeTotals.{totals_of_tree}
 use Rattle.lfs_store.specs.cleaner.Room.{MayMakeRoom}
 use Rattle.lfs_store.proofs.of_log.LogReads.{segment_count}
-use Rattle.lfs_fs.proofs.Known.{few_checkpoints}
+use Rattle.lfs_store.proofs.Known.{few_checkpoints}
 use Rattle.lfs_fs.specs.Volume.{IsIn, Mounted, segments_of}
-use Rattle.lfs_fs.proofs.volume.Nodes.{need_counted}
+use Rattle.lfs_steps.proofs.volume.Nodes.{need_counted}
 use Rattle.lfs_fs.proofs.volume.Map.{headers_of_volume, map_of_volume}
 
 module _ {D : Type 0} (state : D → DeviceState) (v : Mounted D) (lawful : IsLawful (state v.log.device))

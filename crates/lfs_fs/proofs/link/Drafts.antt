@@ -23,10 +23,10 @@ use Rattle.lfs_fs.specs.Finishing.{Finishes}
 use Rattle.lfs_fs.specs.Seen.{answer_by, seen}
 use Rattle.lfs_fs.specs.Volume.{Mounted, Serves, segments_of}
 use Rattle.lfs_fs.proofs.calls.Files.{InEach, IsBegun, Makes, apart_now, counted_now, fits_now, has_now, with_store}
-use Rattle.lfs_fs.proofs.link.Maps.{IsLink, few_links, linked_map, linked_shape, linked_tree, takes}
-use Rattle.lfs_fs.proofs.link.Steps.{link_done, link_no_space, linked}
+use Rattle.lfs_steps.proofs.link.Maps.{IsLink, few_links, linked_map, linked_shape, linked_tree, takes}
+use Rattle.lfs_steps.proofs.link.Steps.{link_done, link_no_space, linked}
 use Rattle.lfs_fs.proofs.calls.Told.{DraftTold, told_ends}
-use Rattle.lfs_fs.proofs.volume.Nodes.{need_shaped}
+use Rattle.lfs_steps.proofs.volume.Nodes.{need_shaped}
 
 module _ {D : Type 0} (state : D → DeviceState) (lawful : (d : D) → IsLawful (state d)) (v : Mounted D) (f : Fs D)
     (begun : IsBegun state v f) (store : Store D) (redrafts : files.Redrafts (files_of state f.store) (files_of state store))

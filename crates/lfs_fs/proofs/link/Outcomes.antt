@@ -31,14 +31,14 @@ use Rattle.lfs_fs.specs.Seen.{IsReady, OnlyReads, seen}
 use Rattle.lfs_fs.specs.Volume.{IsIn, Serves, segments_of}
 use Rattle.lfs_fs.proofs.calls.Files as calls
 use Rattle.lfs_fs.proofs.calls.Files.{IsBegun, begun_at, refused_after, was, with_store}
-use Rattle.lfs_fs.proofs.link.Maps.{IsLink}
-use Rattle.lfs_fs.proofs.link.Steps.{NamesObject, link_asks, link_many, second_refused}
-use Rattle.lfs_fs.proofs.new_entries.Maps.{Enters}
+use Rattle.lfs_steps.proofs.link.Maps.{IsLink}
+use Rattle.lfs_steps.proofs.link.Steps.{NamesObject, link_asks, link_many, second_refused}
+use Rattle.lfs_steps.proofs.new_entries.Maps.{Enters}
 use Rattle.lfs_fs.proofs.new_entries.Rule.{InEach, RuleTold, at, begun, enters, read, rule_refused, see, still}
-use Rattle.lfs_fs.proofs.new_entries.RuleSteps.{ChecksNew, new_dots}
+use Rattle.lfs_steps.proofs.new_entries.RuleSteps.{ChecksNew, new_dots}
 use Rattle.lfs_fs.proofs.old_entries.Explained.{plain_so}
 use Rattle.lfs_fs.proofs.paths.Later.{later_reaches, later_refused}
-use Rattle.lfs_fs.proofs.paths.Named.{dots_is, entry_is, kind_is, short_is, slash_is}
+use Rattle.lfs_steps.proofs.paths.Named.{dots_is, entry_is, kind_is, short_is, slash_is}
 use Rattle.lfs_fs.proofs.paths.Places.{ready_after}
 use Rattle.lfs_fs.proofs.read.Ends.{still_none}
 

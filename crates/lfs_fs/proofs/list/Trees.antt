@@ -16,7 +16,7 @@ use Rattle.lfs_fs.specs.Seen.{Begins, seen}
 use Rattle.lfs_fs.specs.Volume.{Mounted, Serves, segments_of}
 use Rattle.lfs_fs.proofs.calls.Answers.{Fails, In, IsQuiet, ReadsTo, answers, begun_by, fails_where, known, lacks_memory, now}
 use Rattle.lfs_fs.proofs.calls.Files.{IsBegun, with_store}
-use Rattle.lfs_fs.proofs.list.Rows.{all_rows, rows_at, rows_end, rows_from, rows_next}
+use Rattle.lfs_steps.proofs.list.Rows.{all_rows, rows_at, rows_end, rows_from, rows_next}
 use Rattle.lfs_fs.proofs.paths.Steps.{tree_done}
 use Rattle.lfs_fs.proofs.read.Shown.{all_listable, shows_rows}
 use Rattle.lfs_fs.proofs.volume.Map.{headers_of_volume, map_of_volume}

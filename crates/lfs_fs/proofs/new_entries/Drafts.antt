@@ -33,10 +33,10 @@ use Rattle.lfs_fs.proofs.calls.Files.{InEach, IsBegun, Makes, apart_now, counted
 use Rattle.lfs_fs.proofs.calls.Told.{DraftTold, told_ends, told_opens, told_turned, with_open}
 use Rattle.lfs_fs.proofs.new_entries.Outcomes.{may_make}
 use Rattle.lfs_fs.proofs.new_entries.Rule.{RuleTold, read}
-use Rattle.lfs_fs.proofs.new_entries.Maps.{IsNew, known_there, lacks, new_map, new_shape, new_tree, takes, top_least}
-use Rattle.lfs_fs.proofs.new_entries.Steps.{Asked, NewCall, new_done, new_no_space, new_node, with_entry}
-use Rattle.lfs_fs.proofs.paths.Named.{links_are}
-use Rattle.lfs_fs.proofs.volume.Nodes.{need_shaped}
+use Rattle.lfs_steps.proofs.new_entries.Maps.{IsNew, known_there, lacks, new_map, new_shape, new_tree, takes, top_least}
+use Rattle.lfs_steps.proofs.new_entries.Steps.{Asked, NewCall, new_done, new_no_space, new_node, with_entry}
+use Rattle.lfs_steps.proofs.paths.Named.{links_are}
+use Rattle.lfs_steps.proofs.volume.Nodes.{need_shaped}
 
 module _ {D : Type 0} (state : D → DeviceState) (lawful : (d : D) → IsLawful (state d)) {old f : Fs D} {path : List ℕ} {d : ℕ} {l : Last}
     (begins : BeginsAt state old f path d l) (of : NewCall (seen old).log.version (segments_of (seen old)) path d) (ruled : Store D)

@@ -18,10 +18,10 @@ use Rattle.lfs_entries.specs.Looking.{IsHolder, LooksUp}
 use Rattle.lfs_entries.specs.NewEntries.{Gives, RefusesEntry, TakesEntry}
 use Rattle.lfs_entries.specs.Telling.{InEach}
 use Rattle.lfs_fs.proofs.calls.Files.{Explains}
-use Rattle.lfs_fs.proofs.new_entries.RuleSteps.{ChecksNew, IsTaken, new_dots, new_full, new_long, new_slash, new_there}
-use Rattle.lfs_fs.proofs.paths.LastNames.{last_is_name}
-use Rattle.lfs_fs.proofs.paths.Named.{IsReached, dir, dots_is, free_is, full_is, long_is, piece_is, short_is, slash_is, there_is}
-use Rattle.lfs_fs.proofs.volume.Directories.{limit_in_directory}
+use Rattle.lfs_steps.proofs.new_entries.RuleSteps.{ChecksNew, IsTaken, new_dots, new_full, new_long, new_slash, new_there}
+use Rattle.lfs_steps.proofs.paths.LastNames.{last_is_name}
+use Rattle.lfs_steps.proofs.paths.Named.{IsReached, dir, dots_is, free_is, full_is, long_is, piece_is, short_is, slash_is, there_is}
+use Rattle.lfs_steps.proofs.volume.Directories.{limit_in_directory}
 
 module _ {S D : Type 0} (a b : FilesState S D) {N : ℕ} {m : LogMap} {s : State} {p : List ℕ} {d : ℕ} {l : Last}
     (g : IsReached N m s p d l) (see : (P : LogMap → Type 0) → InEach a b P → P m) (is_mkdir : Bool) where

@@ -27,11 +27,11 @@ use Rattle.lfs_fs.proofs.calls.AnyDevice.{IsOrdinary}
 use Rattle.lfs_fs.proofs.calls.Exits.{still_in}
 use Rattle.lfs_fs.proofs.calls.Files as calls
 use Rattle.lfs_fs.proofs.calls.Files.{refused_after, with_store}
-use Rattle.lfs_fs.proofs.new_entries.Maps.{Enters, IsNew}
+use Rattle.lfs_steps.proofs.new_entries.Maps.{Enters, IsNew}
 use Rattle.lfs_fs.proofs.new_entries.Rule.{InEach, RuleTold, at, begun, enters, read, rule_refused, still}
-use Rattle.lfs_fs.proofs.new_entries.Steps.{Asked, NewCall, checks_new, new_no_number, new_own}
-use Rattle.lfs_fs.proofs.paths.Named.{links_are}
-use Rattle.lfs_fs.proofs.volume.Directories.{least_number, no_least}
+use Rattle.lfs_steps.proofs.new_entries.Steps.{Asked, NewCall, checks_new, new_no_number, new_own}
+use Rattle.lfs_steps.proofs.paths.Named.{links_are}
+use Rattle.lfs_steps.proofs.volume.Directories.{least_number, no_least}
 use Rattle.lfs_fs.proofs.volume.Map.{map_of_volume, version_of_volume}
 
 module _ {D : Type 0} (state : D → DeviceState) (lawful : (d : D) → IsLawful (state d)) {old f : Fs D} {path : List ℕ} {d : ℕ} {l : Last}

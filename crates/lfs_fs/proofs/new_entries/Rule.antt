@@ -33,9 +33,9 @@ use Rattle.lfs_fs.proofs.calls.Files as calls
 use Rattle.lfs_fs.proofs.calls.Files.{IsBegun, begun_after, begun_at, fault_serves, nameless, only, reached_in, rose_where, told}
 use Rattle.lfs_fs.proofs.calls.Files.{with_store}
 use Rattle.lfs_fs.proofs.new_entries.Explained.{is_taken, new_explained}
-use Rattle.lfs_fs.proofs.new_entries.Maps.{Enters}
-use Rattle.lfs_fs.proofs.new_entries.RuleSteps.{ChecksNew, new_dots}
-use Rattle.lfs_fs.proofs.paths.Named.{IsReached, holder}
+use Rattle.lfs_steps.proofs.new_entries.Maps.{Enters}
+use Rattle.lfs_steps.proofs.new_entries.RuleSteps.{ChecksNew, new_dots}
+use Rattle.lfs_steps.proofs.paths.Named.{IsReached, holder}
 use Rattle.lfs_fs.proofs.volume.Map.{shape_of_volume}
 use Rattle.lfs_fs.proofs.paths.Places.{IsRefusedBy, nowhere_serves}
 

@@ -28,9 +28,9 @@ use Rattle.lfs_fs.proofs.calls.Files as calls
 use Rattle.lfs_fs.proofs.calls.Files.{Explains, IsBegun, Makes, apart_now, counted_now, finish_ends, fits_now, gives_up, has_now}
 use Rattle.lfs_fs.proofs.calls.Files.{rose_where}
 use Rattle.lfs_fs.proofs.calls.Files.{still_ready, with_store}
-use Rattle.lfs_fs.proofs.old_entries.Dropping.{MayGo, gone_map, gone_shape, has_old, takes_drop}
-use Rattle.lfs_fs.proofs.old_entries.Steps.{gone}
-use Rattle.lfs_fs.proofs.volume.Nodes.{room_shaped}
+use Rattle.lfs_steps.proofs.old_entries.Dropping.{MayGo, gone_map, gone_shape, has_old, takes_drop}
+use Rattle.lfs_steps.proofs.old_entries.Steps.{gone}
+use Rattle.lfs_steps.proofs.volume.Nodes.{room_shaped}
 
 module _ {D : Type 0} (state : D → DeviceState) (lawful : (d : D) → IsLawful (state d)) (v : Mounted D) (f : Fs D)
     (begun : IsBegun state v f) (store : Store D) (redrafts : files.Redrafts (files_of state f.store) (files_of state store))

@@ -16,8 +16,8 @@ use Rattle.lfs_entries.specs.Looking.{IsHolder, LooksAt, LooksUp}
 use Rattle.lfs_entries.specs.OldEntries.{RefusesOld}
 use Rattle.lfs_entries.specs.Telling.{InEach}
 use Rattle.lfs_fs.proofs.calls.Files.{Explains}
-use Rattle.lfs_fs.proofs.old_entries.Steps.{ChecksOld, old_directory, old_dots, old_long, old_missing, old_slash}
-use Rattle.lfs_fs.proofs.paths.Named.{IsReached, dots_is, gives_is, long_is, short_is, slash_is, there_is}
+use Rattle.lfs_steps.proofs.old_entries.Steps.{ChecksOld, old_directory, old_dots, old_long, old_missing, old_slash}
+use Rattle.lfs_steps.proofs.paths.Named.{IsReached, dots_is, gives_is, long_is, short_is, slash_is, there_is}
 
 pub plain_so : (k : Kind) → k ≢ kind.Directory → is_directory k ≡ false
 plain_so kind.File other = refl

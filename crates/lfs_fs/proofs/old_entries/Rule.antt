@@ -21,8 +21,8 @@ use Rattle.lfs_fs.specs.Seen.{IsReady, seen}
 use Rattle.lfs_fs.specs.Volume.{Mounted, Serves, segments_of}
 use Rattle.lfs_fs.proofs.calls.Files.{IsBegun, Rose, begun_at, fault_serves, nameless, only, reached_in, rose_where, told, with_store}
 use Rattle.lfs_fs.proofs.old_entries.Explained.{old_explained}
-use Rattle.lfs_fs.proofs.old_entries.Steps.{OldCall, old_dots}
-use Rattle.lfs_fs.proofs.paths.Named.{holder}
+use Rattle.lfs_steps.proofs.old_entries.Steps.{OldCall, old_dots}
+use Rattle.lfs_steps.proofs.paths.Named.{holder}
 
 module _ {D : Type 0} (state : D → DeviceState) (lawful : (d : D) → IsLawful (state d)) (v : Mounted D) (f : Fs D) (path : List ℕ) (d : ℕ)
     (call : Call) (of : OldCall (segments_of v) path d call) (memory : takes_no_memory call ≡ false) where

@@ -11,10 +11,10 @@ use Rattle.lfs_model.specs.Tree.{File, Node, State, Tree, is_dir, links, links_a
 use Rattle.lfs_model.proofs.Keeps.{close_keeps}
 use Rattle.lfs_store.specs.memory.Removing.{without_file}
 use Rattle.lfs_store.proofs.of_memory.Removed.{is_without}
-use Rattle.lfs_fs.proofs.open_files.CloseSteps.{close_goes, close_stays, closed, rest}
-use Rattle.lfs_fs.proofs.volume.Nodes.{IsFileOf, IsMapOf, opened_file, IsShaped}
-use Rattle.lfs_fs.proofs.volume.KeptMaps.{map_by, gone_kept, gone_tree, shifts_gone}
-use Rattle.lfs_fs.proofs.volume.MovedNames.{nothing_at, links_left}
+use Rattle.lfs_steps.proofs.open_files.CloseSteps.{close_goes, close_stays, closed, rest}
+use Rattle.lfs_steps.proofs.volume.Nodes.{IsFileOf, IsMapOf, opened_file, IsShaped}
+use Rattle.lfs_steps.proofs.volume.KeptMaps.{map_by, gone_kept, gone_tree, shifts_gone}
+use Rattle.lfs_steps.proofs.volume.MovedNames.{nothing_at, links_left}
 
 module _ (N : ℕ) (m : LogMap) (s : State) (is : IsMapOf N m s) (h n : ℕ) (opens : find nat_cmp h s.handles ≡ Some n) where
   file : IsFileOf m s.tree n

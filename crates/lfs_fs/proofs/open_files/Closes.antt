@@ -41,11 +41,11 @@ use Rattle.lfs_fs.specs.Volume.{Behaves, IsAt, IsIn, Mounted, Serves, ServesAt, 
 use Rattle.lfs_fs.proofs.calls.AnyDevice.{IsOrdinary, not_halted, not_memory, not_stuck, ok_refuses_none, tells_none}
 use Rattle.lfs_fs.proofs.calls.Steps.{never_worn}
 use Rattle.lfs_fs.proofs.open_files.ClosedMaps.{closed_map, gone_map, names_by}
-use Rattle.lfs_fs.proofs.open_files.CloseSteps.{close_bad_handle, close_goes, close_stays, closed, fsync_bad_handle, fsync_done}
-use Rattle.lfs_fs.proofs.open_files.CloseSteps.{named_stays}
-use Rattle.lfs_fs.proofs.open_files.CloseSteps.{open_stays, rest}
+use Rattle.lfs_steps.proofs.open_files.CloseSteps.{close_bad_handle, close_goes, close_stays, closed, fsync_bad_handle, fsync_done}
+use Rattle.lfs_steps.proofs.open_files.CloseSteps.{named_stays}
+use Rattle.lfs_steps.proofs.open_files.CloseSteps.{open_stays, rest}
 use Rattle.lfs_fs.proofs.calls.Drafts.{runs_on}
-use Rattle.lfs_fs.proofs.volume.Nodes.{IsMapOf}
+use Rattle.lfs_steps.proofs.volume.Nodes.{IsMapOf}
 use Rattle.lfs_fs.proofs.volume.Map.{map_of_volume, shape_of_volume}
 use Rattle.lfs_fs.proofs.read.Ends.{header_there}
 use Rattle.lfs_fs.proofs.calls.Exits.{point_of}

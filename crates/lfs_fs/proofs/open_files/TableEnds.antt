@@ -16,7 +16,7 @@ use Rattle.lfs_store.proofs.of_log.LogReads.{acknowledged}
 use Rattle.lfs_fs.specs.Volume.{IsStill, IsAt, IsIn, Mounted, Serves, changes_handles, segments_of}
 use Rattle.lfs_fs.proofs.calls.AnyDevice.{ok_refuses_none, opens_behaves}
 use Rattle.lfs_fs.proofs.calls.Drafts.{runs_on}
-use Rattle.lfs_fs.proofs.volume.Nodes.{IsMapOf}
+use Rattle.lfs_steps.proofs.volume.Nodes.{IsMapOf}
 use Rattle.lfs_fs.proofs.calls.Exits.{point_of, still_in}
 
 module _ {D : Type 0} (state : D → DeviceState) (old new : Mounted D) (lawful : IsLawful (state old.log.device))

@@ -19,7 +19,7 @@ use Rattle.lfs_model.proofs.StepsAre.{step_ends}
 use Rattle.lfs_model.proofs.Walks.{Some-injective}
 use Rattle.lfs_fs.specs.Reading.{stat_call}
 use Rattle.lfs_fs.proofs.calls.AnyDevice.{IsOrdinary}
-use Rattle.lfs_fs.proofs.calls.Checks.{refuses, passes, at_most, not_at_most}
+use Rattle.lfs_steps.proofs.calls.Checks.{refuses, passes, at_most, not_at_most}
 
 -- ---- calls without arguments
 pub sync_done : (N : ℕ) (s : State) → Step N s Sync Done s

@@ -13,7 +13,7 @@ use Rattle.lfs_model.specs.Walk.{End, Refused}
 use Rattle.lfs_files.specs.declared.fault.LogFault.TheVariants as log
 use Rattle.lfs_store.specs.StoreState.{IsEmpty, with_draft}
 use Rattle.lfs_store.specs.declared.draft.Draft.{Draft}
-use Rattle.lfs_fs.proofs.Known.{empty_draft}
+use Rattle.lfs_store.proofs.Known.{empty_draft}
 use Rattle.lfs_path.specs.declared.walk_fault.WalkFault.{WalkFault}
 use Rattle.lfs_path.specs.declared.walk_fault.WalkFault.TheVariants as walk
 use Rattle.lfs_path.specs.Trees.{HasTree}

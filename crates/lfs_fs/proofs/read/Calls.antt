@@ -32,12 +32,12 @@ use Rattle.lfs_fs.proofs.calls.Answers.{Fails, In, IsLooked, IsQuiet, IsWhy, Rea
 use Rattle.lfs_fs.proofs.calls.Answers.{known, now, object_there, rises}
 use Rattle.lfs_fs.proofs.calls.Files.{IsBegun, with_store}
 use Rattle.lfs_fs.proofs.calls.Steps.{pread_clipped, stat_step}
-use Rattle.lfs_fs.proofs.open_files.Steps.{read_bad_handle, read_too_much}
+use Rattle.lfs_steps.proofs.open_files.Steps.{read_bad_handle, read_too_much}
 use Rattle.lfs_fs.proofs.paths.Steps.{readdir_done, readdir_no_directory, readlink_done, readlink_no_link, stat_changes, stat_cleans}
 use Rattle.lfs_fs.proofs.paths.Steps.{stat_commits, stat_may_fail, stat_memory}
 use Rattle.lfs_fs.proofs.read.Shown.{all_listable, directory, link, listing_is, other_directory, other_link, text_is, told_by}
 use Rattle.lfs_fs.proofs.volume.Map.{headers_of_volume, map_of_volume}
-use Rattle.lfs_fs.proofs.volume.Nodes.{opened_file}
+use Rattle.lfs_steps.proofs.volume.Nodes.{opened_file}
 
 -- ---- calls that change nothing
 

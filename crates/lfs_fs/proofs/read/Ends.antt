@@ -14,7 +14,7 @@ use Rattle.lfs_store.specs.memory.Present.{as_header}
 use Rattle.lfs_store.proofs.TreeTotals.{totals_of_tree}
 use Rattle.lfs_store.specs.StoreState.{IsEmpty, draft_of, drafted_of}
 use Rattle.lfs_store.proofs.of_log.LogReads.{reads_none}
-use Rattle.lfs_fs.proofs.Known.{empty_draft}
+use Rattle.lfs_store.proofs.Known.{empty_draft}
 use Rattle.lfs_fs.specs.declared.error.FsError.{FsError}
 use Rattle.lfs_fs.specs.declared.error.FsError.TheVariants as error
 use Rattle.lfs_fs.specs.declared.fs.Fs.{Fs}

@@ -31,9 +31,9 @@ use Rattle.lfs_entries.specs.Rows.{AreThere, AreTold, IsListable, IsListed, IsRo
 use Rattle.lfs_fs.specs.Answers.{entry_of, row_of}
 use Rattle.lfs_fs.specs.Reading.{AreListable, HasRows, RowsBy, RowsOf}
 use Rattle.lfs_fs.proofs.calls.Steps.{part_clipped}
-use Rattle.lfs_fs.proofs.list.Rows.{row_at, rows_at}
-use Rattle.lfs_fs.proofs.volume.Nodes.{IsMapOf, no_header_none, node_by_header, stat_is, the_node_by_header}
-use Rattle.lfs_fs.proofs.volume.Directories.{directory_formed, names_in_directory}
+use Rattle.lfs_steps.proofs.list.Rows.{row_at, rows_at}
+use Rattle.lfs_steps.proofs.volume.Nodes.{IsMapOf, no_header_none, node_by_header, stat_is, the_node_by_header}
+use Rattle.lfs_steps.proofs.volume.Directories.{directory_formed, names_in_directory}
 
 -- ---- lists
 

@@ -18,11 +18,11 @@ use Rattle.lfs_entries.specs.declared.moving.Target.{Target}
 use Rattle.lfs_entries.specs.Moving.{AreRelinked, HasMoved, LostFound, NamedFound, fewer_links, first_holder, more_links, second_holder}
 use Rattle.lfs_entries.specs.OldNames.{Untied}
 use Rattle.lfs_fs.specs.Renaming.{IsOpen, IsShut}
-use Rattle.lfs_fs.proofs.paths.Named.{piece_is}
-use Rattle.lfs_fs.proofs.rename.Maps.{IsMoved, IsRename, free_moved, over_moved}
-use Rattle.lfs_fs.proofs.volume.LostLinks.{loses_name}
-use Rattle.lfs_fs.proofs.volume.LostNames.{LosesName}
-use Rattle.lfs_fs.proofs.volume.MovedMaps.{DraftsMove}
+use Rattle.lfs_steps.proofs.paths.Named.{piece_is}
+use Rattle.lfs_steps.proofs.rename.Maps.{IsMoved, IsRename, free_moved, over_moved}
+use Rattle.lfs_steps.proofs.volume.LostLinks.{loses_name}
+use Rattle.lfs_steps.proofs.volume.LostNames.{LosesName}
+use Rattle.lfs_steps.proofs.volume.MovedMaps.{DraftsMove}
 
 differs : (x y : ℕ) → x ≢ y → eqb x y ≡ false
 differs x y ne = grind (arith, nat_tests)

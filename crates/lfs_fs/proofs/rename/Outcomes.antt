@@ -50,11 +50,11 @@ use Rattle.lfs_fs.proofs.calls.Files.{with_store}
 use Rattle.lfs_fs.proofs.calls.Steps.{not_worn, worn}
 use Rattle.lfs_fs.proofs.paths.Looks.{only_none}
 use Rattle.lfs_fs.proofs.rename.Drafts.{moved_map}
-use Rattle.lfs_fs.proofs.rename.Fits.{has_move, has_names, takes_move}
-use Rattle.lfs_fs.proofs.rename.Maps.{IsRename, renamed, tree_after}
+use Rattle.lfs_steps.proofs.rename.Fits.{has_move, has_names, takes_move}
+use Rattle.lfs_steps.proofs.rename.Maps.{IsRename, renamed, tree_after}
 use Rattle.lfs_fs.proofs.rename.Refusals.{AreReached, passes, rename_explained, renames, same_step}
-use Rattle.lfs_fs.proofs.rename.Steps.{StopsAt, conditions, rename_done, rename_lacks, rename_stops}
-use Rattle.lfs_fs.proofs.volume.Nodes.{need_shaped}
+use Rattle.lfs_steps.proofs.rename.Steps.{StopsAt, conditions, rename_done, rename_lacks, rename_stops}
+use Rattle.lfs_steps.proofs.volume.Nodes.{need_shaped}
 
 module _ {D : Type 0} (state : D → DeviceState) (lawful : (d : D) → IsLawful (state d)) (v : Mounted D) (f : Fs D) (a : List ℕ) (da : ℕ)
     (from : Option Last) (b chain : List ℕ) (to : Option Last) (reached : ReachesBoth state v f a da from b chain to)

@@ -36,7 +36,7 @@ use Rattle.lfs_fs.proofs.calls.StoreCalls.{ends_parent, ends_refused}
 use Rattle.lfs_fs.proofs.paths.Later.{later_reaches, later_refused}
 use Rattle.lfs_fs.proofs.paths.Places.{path_read}
 use Rattle.lfs_fs.proofs.paths.Walks.{tree_of_volume}
-use Rattle.lfs_fs.proofs.rename.Steps.{rename_refused, rename_refused_next}
+use Rattle.lfs_steps.proofs.rename.Steps.{rename_refused, rename_refused_next}
 
 -- the second path ends somewhere
 pub first_refused : (N : ℕ) (s : State) (a b : List ℕ) → NamesGive s.tree → (r : Refusal)

@@ -29,18 +29,18 @@ use Rattle.lfs_entries.specs.Renaming.{ChecksRename, FindsSource, FindsTarget, G
 use Rattle.lfs_entries.specs.Renaming.{RefusesNext, RefusesRename, RefusesSource, of_first, of_second, of_target, of_within}
 use Rattle.lfs_entries.specs.Replacing.{FitsFound, RefusesFound, RefusesReplaced, RefusesRoom}
 use Rattle.lfs_entries.specs.Telling.{InEach}
-use Rattle.lfs_fs.proofs.calls.Checks.{at_most, not_at_most}
+use Rattle.lfs_steps.proofs.calls.Checks.{at_most, not_at_most}
 use Rattle.lfs_fs.proofs.calls.Files.{Explains}
-use Rattle.lfs_fs.proofs.paths.ChainTrees.{above_within, apart_not_within}
-use Rattle.lfs_fs.proofs.paths.LastNames.{piece_is_name}
-use Rattle.lfs_fs.proofs.paths.Named.{IsReached, dots_is, entry_is, free_is, full_is, gives_is, has_piece, holder, kind_is, last_dots_is}
-use Rattle.lfs_fs.proofs.paths.Named.{links_are, long_is, piece_is, short_is, slash_is, target_is, there_is}
-use Rattle.lfs_fs.proofs.rename.Maps.{IsRename}
-use Rattle.lfs_fs.proofs.rename.Steps.{AreNamed, MayBeNamed, NamesSource, NamesTarget, PassesAll, StopsAt, before_space, conditions}
-use Rattle.lfs_fs.proofs.rename.Steps.{passes_new, passes_replaced, rename_stops, stops_done, stops_empty, stops_full, stops_is_dir}
-use Rattle.lfs_fs.proofs.rename.Steps.{stops_links, stops_next, stops_not_dir, stops_slash, stops_source, stops_within, stops_within_new}
-use Rattle.lfs_fs.proofs.rename.Views.{has_entries, no_entries}
-use Rattle.lfs_fs.proofs.volume.Nodes.{shape_of}
+use Rattle.lfs_steps.proofs.paths.ChainTrees.{above_within, apart_not_within}
+use Rattle.lfs_steps.proofs.paths.LastNames.{piece_is_name}
+use Rattle.lfs_steps.proofs.paths.Named.{IsReached, dots_is, entry_is, free_is, full_is, gives_is, has_piece, holder, kind_is, last_dots_is}
+use Rattle.lfs_steps.proofs.paths.Named.{links_are, long_is, piece_is, short_is, slash_is, target_is, there_is}
+use Rattle.lfs_steps.proofs.rename.Maps.{IsRename}
+use Rattle.lfs_steps.proofs.rename.Steps.{AreNamed, MayBeNamed, NamesSource, NamesTarget, PassesAll, StopsAt, before_space, conditions}
+use Rattle.lfs_steps.proofs.rename.Steps.{passes_new, passes_replaced, rename_stops, stops_done, stops_empty, stops_full, stops_is_dir}
+use Rattle.lfs_steps.proofs.rename.Steps.{stops_links, stops_next, stops_not_dir, stops_slash, stops_source, stops_within, stops_within_new}
+use Rattle.lfs_steps.proofs.rename.Views.{has_entries, no_entries}
+use Rattle.lfs_steps.proofs.volume.Nodes.{shape_of}
 
 other_way : (x y : ℕ) (b : Bool) → eqb x y ≡ b → eqb y x ≡ b
 other_way x y true is = eq-eqb y x (sym (eqb-true x y is))

@@ -38,21 +38,21 @@ use Rattle.lfs_fs.specs.Naming.{Reaches}
 use Rattle.lfs_fs.specs.Refusals.{refusal_of}
 use Rattle.lfs_fs.specs.Seen.{IsReady, answer_by, seen}
 use Rattle.lfs_fs.specs.Volume.{Mounted, Serves, segments_of}
-use Rattle.lfs_fs.proofs.calls.Checks.{below, not_below}
+use Rattle.lfs_steps.proofs.calls.Checks.{below, not_below}
 use Rattle.lfs_fs.proofs.calls.Files as calls
 use Rattle.lfs_fs.proofs.calls.Files.{Explains, IsBegun, Rose, begun_after, begun_at, fault_serves, only, reached_in, rose_where, told}
 use Rattle.lfs_fs.proofs.calls.Files.{with_store}
-use Rattle.lfs_fs.proofs.old_entries.Dropping.{MayGo}
+use Rattle.lfs_steps.proofs.old_entries.Dropping.{MayGo}
 use Rattle.lfs_fs.proofs.old_entries.Drops.{drop_ends}
 use Rattle.lfs_fs.proofs.old_entries.Explained.{plain_so}
-use Rattle.lfs_fs.proofs.old_entries.Steps.{gone}
-use Rattle.lfs_fs.proofs.paths.Named.{IsReached, gives_is, has_piece, holder, kind_is, last_dots_is, long_is, range_n, short_is, target_is}
-use Rattle.lfs_fs.proofs.paths.Named.{there_is}
-use Rattle.lfs_fs.proofs.rmdir.Steps.{rmdir_done, rmdir_dots, rmdir_full, rmdir_long, rmdir_missing, rmdir_plain}
-use Rattle.lfs_fs.proofs.volume.Directories.{size_of_directory}
+use Rattle.lfs_steps.proofs.old_entries.Steps.{gone}
+use Rattle.lfs_steps.proofs.paths.Named.{IsReached, gives_is, has_piece, holder, kind_is, last_dots_is, long_is, range_n, short_is, target_is}
+use Rattle.lfs_steps.proofs.paths.Named.{there_is}
+use Rattle.lfs_steps.proofs.rmdir.Steps.{rmdir_done, rmdir_dots, rmdir_full, rmdir_long, rmdir_missing, rmdir_plain}
+use Rattle.lfs_steps.proofs.volume.Directories.{size_of_directory}
 use Rattle.lfs_fs.proofs.volume.Map.{shape_of_volume}
-use Rattle.lfs_fs.proofs.volume.Nodes.{IsShaped, node_by_header}
-use Rattle.lfs_fs.proofs.volume.Slots.{no_slots, some_names}
+use Rattle.lfs_steps.proofs.volume.Nodes.{IsShaped, node_by_header}
+use Rattle.lfs_steps.proofs.volume.Slots.{no_slots, some_names}
 
 module _ {N : ℕ} {m : LogMap} {s : State} {p : List ℕ} {d : ℕ} {l : Last} (g : IsReached N m s p d l) (e : Entry)
     (looks : LooksAt m d l.name.now e.holder (Some e.object)) (is_kind : e.object.header.kind ≡ kind.Directory) where

@@ -27,15 +27,15 @@ use Rattle.lfs_fs.specs.Naming.{Reaches}
 use Rattle.lfs_fs.specs.Seen.{IsReady, answer_by, seen}
 use Rattle.lfs_fs.specs.Volume.{Mounted, Serves, segments_of}
 use Rattle.lfs_fs.proofs.calls.Files.{InEach, IsBegun, begun_after, begun_at, reached_in, told, with_store}
-use Rattle.lfs_fs.proofs.old_entries.Dropping.{MayGo}
+use Rattle.lfs_steps.proofs.old_entries.Dropping.{MayGo}
 use Rattle.lfs_fs.proofs.old_entries.Drops.{drop_ends}
 use Rattle.lfs_fs.proofs.old_entries.Explained.{plain_so}
-use Rattle.lfs_fs.proofs.old_entries.Steps.{gone}
-use Rattle.lfs_fs.proofs.paths.Named.{IsReached, dots_is, gives_is, kind_is, short_is, slash_is, there_is}
-use Rattle.lfs_fs.proofs.rename.Views.{none_in}
-use Rattle.lfs_fs.proofs.unlink.Steps.{unlink_done}
+use Rattle.lfs_steps.proofs.old_entries.Steps.{gone}
+use Rattle.lfs_steps.proofs.paths.Named.{IsReached, dots_is, gives_is, kind_is, short_is, slash_is, there_is}
+use Rattle.lfs_steps.proofs.rename.Views.{none_in}
+use Rattle.lfs_steps.proofs.unlink.Steps.{unlink_done}
 use Rattle.lfs_fs.proofs.volume.Map.{shape_of_volume}
-use Rattle.lfs_fs.proofs.volume.Nodes.{IsShaped}
+use Rattle.lfs_steps.proofs.volume.Nodes.{IsShaped}
 
 module _ {S D : Type 0} {a b : FilesState S D} {N : ℕ} {m : LogMap} {s : State} {p : List ℕ} {d : ℕ} {l : Last} {e : Entry}
     (has : HasEntry a b d l.name.now l.slash e) (g : IsReached N m s p d l) (shaped : IsShaped m)

@@ -13,9 +13,9 @@ use Rattle.lfs_model.proofs.Committed.{dropped_tree}
 use Rattle.lfs_model.proofs.Keeps.{open_keeps}
 use Rattle.lfs_store.specs.Accepting.{HasClean, HoldsNext}
 use Rattle.lfs_store.specs.Recounting.{AreTotals}
-use Rattle.lfs_fs.proofs.Below.{map_headers, map_long}
+use Rattle.lfs_store.proofs.of_log.LogReads.{map_headers, map_long}
 use Rattle.lfs_fs.specs.Volume.{IsIn, Mounted, Runs, segments_of}
-use Rattle.lfs_fs.proofs.volume.Nodes.{IsMapOf, IsShaped, shape_of}
+use Rattle.lfs_steps.proofs.volume.Nodes.{IsMapOf, IsShaped, shape_of}
 use Rattle.lfs_fs.proofs.paths.Steps.{open_file, with_handle}
 
 -- ---- the log map of a volume

@@ -37,7 +37,7 @@ use Rattle.lfs_store.proofs.TreeTotals.{totals_of_tree}
 use Rattle.lfs_store.specs.StoreState.{Fits, IsEmpty, draft_of, drafted_of, volume_of, with_draft}
 use Rattle.lfs_store.specs.Seen.{files_of}
 use Rattle.lfs_store.proofs.of_log.LogReads.{held_still}
-use Rattle.lfs_fs.proofs.Known.{empty_apart, empty_draft}
+use Rattle.lfs_store.proofs.Known.{empty_apart, empty_draft}
 use Rattle.lfs_path.specs.dirs.Directory.{slot_count}
 use Rattle.lfs_path.specs.dirs.Finding.{IsDirectoryFault}
 use Rattle.lfs_path.specs.dirs.Widening.{CountsWidened, HasWidened, Widens, WidensNames, wide}
@@ -52,15 +52,15 @@ use Rattle.lfs_fs.specs.Refusals.{refusal_of}
 use Rattle.lfs_fs.specs.Seen.{HasHeader, LacksHeader, OnlyReads, answer_by, seen}
 use Rattle.lfs_fs.specs.Upgrading.{ReachesNarrow, ReachesWhole}
 use Rattle.lfs_fs.specs.Volume.{IsIn, IsStill, Mounted, Serves, segments_of}
-use Rattle.lfs_fs.proofs.volume.FileBytes.{shape_kept}
-use Rattle.lfs_fs.proofs.volume.Nodes.{IsMapOf, IsShaped, need_shaped, no_header_none, node_by_header, resolved_there}
+use Rattle.lfs_steps.proofs.volume.FileBytes.{shape_kept}
+use Rattle.lfs_steps.proofs.volume.Nodes.{IsMapOf, IsShaped, need_shaped, no_header_none, node_by_header, resolved_there}
 use Rattle.lfs_fs.proofs.volume.Map.{headers_of_volume, map_of_volume, shape_of_volume, version_of_volume}
-use Rattle.lfs_fs.proofs.volume.KeptMaps.{map_by}
+use Rattle.lfs_steps.proofs.volume.KeptMaps.{map_by}
 use Rattle.lfs_fs.proofs.read.Ends.{failed_serves}
 use Rattle.lfs_fs.proofs.calls.StoreCalls.{still_drafted, still_logged}
 use Rattle.lfs_fs.proofs.calls.Reads.{memory_serves}
 use Rattle.lfs_fs.proofs.widen.Upgrades.{nothing_ends, refused_after}
-use Rattle.lfs_fs.proofs.widen.Steps.{widen_done, widen_no_directory, widen_no_space, widen_nothing, widen_old_volume}
+use Rattle.lfs_steps.proofs.widen.Steps.{widen_done, widen_no_directory, widen_no_space, widen_nothing, widen_old_volume}
 use Rattle.lfs_fs.proofs.write.Ends.{draft_ends, still_more}
 
 -- a directory of form 1 fits as many slots

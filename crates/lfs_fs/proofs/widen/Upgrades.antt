@@ -31,12 +31,12 @@ use Rattle.lfs_fs.specs.Volume.{IsIn, IsStill, Mounted, Serves, segments_of}
 use Rattle.lfs_fs.proofs.calls.AnyDevice.{IsOrdinary}
 use Rattle.lfs_fs.proofs.calls.Steps.{not_worn, refused_not_worn, worn}
 use Rattle.lfs_fs.proofs.calls.Drafts.{not_acknowledged}
-use Rattle.lfs_fs.proofs.volume.Nodes.{IsMapOf, room_shaped, shape_of}
+use Rattle.lfs_steps.proofs.volume.Nodes.{IsMapOf, room_shaped, shape_of}
 use Rattle.lfs_fs.proofs.volume.Map.{headers_of_volume, map_of_volume, version_of_volume}
 use Rattle.lfs_fs.proofs.read.Ends.{begun_running}
 use Rattle.lfs_fs.proofs.calls.Exits.{point_of, served_still}
 use Rattle.lfs_fs.proofs.calls.StoreCalls.{still_logged}
-use Rattle.lfs_fs.proofs.widen.Steps.{upgrade_step, upgraded}
+use Rattle.lfs_steps.proofs.widen.Steps.{upgrade_step, upgraded}
 use Rattle.lfs_fs.proofs.write.Ends.{draft_ends}
 
 -- ---- a change that is refused by a step of the model

@@ -35,7 +35,7 @@ use Rattle.lfs_fs.proofs.calls.AnyDevice.{IsBounded, IsOrdinary, change_bounded,
 use Rattle.lfs_fs.proofs.calls.AnyDevice.{ok_refuses_none, still_behaves, write_behaves}
 use Rattle.lfs_fs.proofs.save.Declined.{accept_fault_serves, no_room_serves}
 use Rattle.lfs_fs.proofs.calls.Drafts.{InEach, IsRest, not_acknowledged, accepts_by}
-use Rattle.lfs_fs.proofs.volume.Nodes.{IsFileOf, opened_file, IsMapOf}
+use Rattle.lfs_steps.proofs.volume.Nodes.{IsFileOf, opened_file, IsMapOf}
 use Rattle.lfs_fs.proofs.clean.Room.{has_room}
 use Rattle.lfs_fs.proofs.calls.Exits.{clean_still, halts_at, map_dropped, point_of, served_still, still_in}
 use Rattle.lfs_fs.proofs.calls.Reads.{fault_serves, memory_serves}
@@ -45,7 +45,7 @@ use Rattle.lfs_store.specs.StoreState.{Fits, IsEmpty, draft_of, drafted_of, volu
 use Rattle.lfs_store.specs.Recounting.{AreTotals}
 use Rattle.lfs_store.specs.declared.draft.Draft.{Draft}
 use Rattle.lfs_store.proofs.of_log.LogReads.{acknowledged, fault_more, held_still, reads_more, reads_none}
-use Rattle.lfs_fs.proofs.Known.{empty_draft, few_checkpoints}
+use Rattle.lfs_store.proofs.Known.{empty_draft, few_checkpoints}
 use Rattle.lfs_fs.proofs.calls.Steps.{not_worn, refused_not_worn, worn}
 
 -- why a draft isn't staged, by the fault of the store

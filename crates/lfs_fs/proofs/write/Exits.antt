@@ -17,7 +17,7 @@ use Rattle.lfs_fs.specs.Refusals.{refusal_of}
 use Rattle.lfs_fs.specs.Seen.{Begins, GivesNone, seen}
 use Rattle.lfs_fs.specs.Volume.{Mounted, Serves, segments_of}
 use Rattle.lfs_fs.proofs.calls.Steps.{not_worn, worn}
-use Rattle.lfs_fs.proofs.open_files.Steps.{cut_bad_handle, cut_too_big, write_bad_handle, write_nothing, write_too_big, write_too_much}
+use Rattle.lfs_steps.proofs.open_files.Steps.{cut_bad_handle, cut_too_big, write_bad_handle, write_nothing, write_too_big, write_too_much}
 use Rattle.lfs_fs.proofs.calls.Exits.{point_of, served_halted, served_still}
 use Rattle.lfs_fs.proofs.calls.Reads.{refused_serves}
 use Rattle.lfs_fs.proofs.write.Ends.{still_none}

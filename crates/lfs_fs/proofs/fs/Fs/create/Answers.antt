@@ -8,14 +8,14 @@ use Rattle.lfs_store.proofs.of_memory.Going.{ok_then}
 use Rattle.lfs_fs.specs.Volume.{segments_of}
 use Rattle.lfs_fs.specs.Seen.{seen}
 use Rattle.lfs_fs.proofs.calls.AnyDevice.{makes_behaves}
-use Rattle.lfs_fs.proofs.calls.Checks.{at_most, not_at_most}
+use Rattle.lfs_steps.proofs.calls.Checks.{at_most, not_at_most}
 use Rattle.lfs_fs.proofs.calls.Files.{takes_draft}
 use Rattle.lfs_fs.proofs.paths.Steps.{create_refused}
 use Rattle.lfs_fs.proofs.new_entries.Drafts.{entry_opens, entry_turned}
 use Rattle.lfs_fs.proofs.new_entries.Ends.{bytes_of}
 use Rattle.lfs_fs.proofs.new_entries.Outcomes.{entry_refused, number_refused, own_refused}
 use Rattle.lfs_fs.proofs.new_entries.Rule.{read, unreached}
-use Rattle.lfs_fs.proofs.new_entries.Steps.{checks_new, create_call}
+use Rattle.lfs_steps.proofs.new_entries.Steps.{checks_new, create_call}
 use Rattle.lfs_fs.proofs.fs.Fs.create.Goals as goal
 
 -- the path is refused, or has no piece

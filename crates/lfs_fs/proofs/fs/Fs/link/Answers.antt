@@ -7,7 +7,7 @@ use Rattle.lfs_fs.specs.Volume.{segments_of}
 use Rattle.lfs_fs.proofs.calls.Files.{takes_draft}
 use Rattle.lfs_fs.proofs.link.Drafts.{link_ends}
 use Rattle.lfs_fs.proofs.link.Outcomes.{many_refused, may_link, name_refused, names_object, second_begins, second_lacks}
-use Rattle.lfs_fs.proofs.link.Steps.{link_call, link_refused}
+use Rattle.lfs_steps.proofs.link.Steps.{link_call, link_refused}
 use Rattle.lfs_fs.proofs.new_entries.Ends.{bytes_of}
 use Rattle.lfs_fs.proofs.new_entries.Rule.{read}
 use Rattle.lfs_fs.proofs.old_entries.Rule.{entry_refused, no_piece_perm}

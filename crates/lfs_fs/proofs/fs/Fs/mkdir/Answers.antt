@@ -5,14 +5,14 @@ use Rattle.lfs_model.specs.Image.{new_form}
 use Rattle.lfs_store.proofs.of_memory.Going.{ok_then}
 use Rattle.lfs_fs.specs.Volume.{segments_of}
 use Rattle.lfs_fs.specs.Seen.{seen}
-use Rattle.lfs_fs.proofs.calls.Checks.{at_most, not_at_most}
+use Rattle.lfs_steps.proofs.calls.Checks.{at_most, not_at_most}
 use Rattle.lfs_fs.proofs.calls.Files.{takes_draft}
 use Rattle.lfs_fs.proofs.paths.Steps.{mkdir_refused}
 use Rattle.lfs_fs.proofs.new_entries.Drafts.{entry_ends}
 use Rattle.lfs_fs.proofs.new_entries.Ends.{bytes_of}
 use Rattle.lfs_fs.proofs.new_entries.Outcomes.{entry_refused, number_refused, own_refused}
 use Rattle.lfs_fs.proofs.new_entries.Rule.{read, unreached}
-use Rattle.lfs_fs.proofs.new_entries.Steps.{checks_new, mkdir_call}
+use Rattle.lfs_steps.proofs.new_entries.Steps.{checks_new, mkdir_call}
 use Rattle.lfs_fs.proofs.fs.Fs.mkdir.Goals as goal
 
 -- the path is refused, or has no piece

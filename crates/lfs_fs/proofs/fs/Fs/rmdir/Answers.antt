@@ -8,7 +8,7 @@ use Rattle.lfs_fs.specs.Volume.{segments_of}
 use Rattle.lfs_fs.proofs.calls.Files.{begun_read, nameless, takes_draft, with_store}
 use Rattle.lfs_fs.proofs.paths.Places.{nowhere_serves}
 use Rattle.lfs_fs.proofs.rmdir.Ends.{empty_refused, rmdir_ends}
-use Rattle.lfs_fs.proofs.rmdir.Steps.{rmdir_refused, rmdir_root}
+use Rattle.lfs_steps.proofs.rmdir.Steps.{rmdir_refused, rmdir_root}
 use Rattle.lfs_fs.proofs.fs.Fs.rmdir.Goals as goal
 
 -- the path is refused, or has no piece

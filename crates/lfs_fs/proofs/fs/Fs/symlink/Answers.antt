@@ -10,7 +10,7 @@ use Rattle.lfs_fs.proofs.new_entries.Drafts.{entry_ends}
 use Rattle.lfs_fs.proofs.new_entries.Ends.{bytes_of, text_ends}
 use Rattle.lfs_fs.proofs.new_entries.Outcomes.{entry_refused, number_refused}
 use Rattle.lfs_fs.proofs.new_entries.Rule.{read, unreached}
-use Rattle.lfs_fs.proofs.new_entries.Steps.{checks_new, symlink_call}
+use Rattle.lfs_steps.proofs.new_entries.Steps.{checks_new, symlink_call}
 use Rattle.lfs_fs.proofs.paths.Steps.{symlink_refused}
 use Rattle.lfs_fs.proofs.paths.Places.{place_begins, place_lacks}
 use Rattle.lfs_fs.proofs.read.Ends.{begun_serves, halted_serves}

@@ -8,7 +8,7 @@ use Rattle.lfs_fs.proofs.calls.Files.{begun_read, takes_draft, with_store}
 use Rattle.lfs_fs.proofs.old_entries.Rule.{entry_refused, no_piece_perm}
 use Rattle.lfs_fs.proofs.paths.Places.{nowhere_serves}
 use Rattle.lfs_fs.proofs.unlink.Ends.{unlink_ends}
-use Rattle.lfs_fs.proofs.unlink.Steps.{unlink_call, unlink_refused}
+use Rattle.lfs_steps.proofs.unlink.Steps.{unlink_call, unlink_refused}
 use Rattle.lfs_fs.proofs.fs.Fs.unlink.Goals as goal
 
 -- the path is refused, or has no piece

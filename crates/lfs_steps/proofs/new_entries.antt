@@ -1,0 +1,4 @@
+pub mod Maps
+pub mod RuleSteps
+pub mod Steps
+pub mod Trees

@@ -1,0 +1,2 @@
+pub mod CloseSteps
+pub mod Steps

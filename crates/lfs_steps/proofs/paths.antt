@@ -1,0 +1,3 @@
+pub mod ChainTrees
+pub mod LastNames
+pub mod Named

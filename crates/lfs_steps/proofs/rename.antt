@@ -1,0 +1,4 @@
+pub mod Fits
+pub mod Maps
+pub mod Steps
+pub mod Views

@@ -1,0 +1,11 @@
+pub mod Directories
+pub mod FileBytes
+pub mod Headers
+pub mod KeptMaps
+pub mod LostLinks
+pub mod LostNames
+pub mod MovedMaps
+pub mod MovedNames
+pub mod Nodes
+pub mod Slots
+pub mod Stops

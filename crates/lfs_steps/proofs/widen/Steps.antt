@@ -1,0 +1,67 @@
+-- The steps of upgrade and widen, exit by exit.
+use Rattle.std.proofs.Common.{◌≡◌, ◌<◌, ◌≤◌, ◌*◌, ◌==◌, not, nat_lt, ℕ, Bool, true, false, List, [], ◌∷◌, refl, ◌∙◌, ap}
+use Rattle.lfs_model.specs.Call.{Answer, Done, Refuse, Upgrade, Widen}
+use Rattle.lfs_model.specs.Need.{need}
+use Rattle.lfs_model.specs.Refusal.{Refusal, Inval, NoSpace, NotDir}
+use Rattle.lfs_model.specs.Step.{Step, checked, no_space, when, widened, widens, with_tree}
+use Rattle.lfs_model.specs.Tree.{State, Tree, form_of, is_dir, node}
+use Rattle.lfs_model.specs.Walk.{At, Refused, Resolve}
+use Rattle.lfs_steps.proofs.calls.Checks.{below, not_below, passes, refuses}
+
+-- the state whose layout has version 2
+abbrev pub upgraded : State → State
+upgraded s = record { tree = s.tree; handles = s.handles; version = 2 }
+
+pub upgrade_step : (N : ℕ) (s : State) → Step N s Upgrade Done (upgraded s)
+upgrade_step N s = record { first_end = At 1; second_end = At 1; first = refl; second = refl; answer = refl; state = refl }
+
+module _ (N : ℕ) (s : State) (p : List ℕ) where
+  pub widen_refused : (r : Refusal) → Resolve s.tree p true (Refused r) → Step N s (Widen p) (Refuse r) s
+  widen_refused r walk = record { first_end = Refused r; second_end = At 1; first = walk; second = refl; answer = refl; state = refl }
+
+  module _ (n : ℕ) (walk : Resolve s.tree p true (At n)) where
+    abbrev t' : Tree
+    t' = widened s.tree n
+
+    abbrev wide_done : Answer × State
+    wide_done = (Done, with_tree s t')
+
+    abbrev by_space : List (Bool × Answer)
+    by_space = no_space N t' ∷ []
+
+    abbrev by_form : List (Bool × Answer)
+    by_form = (form_of (node s.tree n) == 1, Done) ∷ by_space
+
+    abbrev by_version : List (Bool × Answer)
+    by_version = when (s.version == 1) Inval ∷ by_form
+
+    step_widen : (a : Answer) (s' : State) → widens N s n ≡ (a, s') → Step N s (Widen p) a s'
+    step_widen a s' is =
+        record { first_end = At n; second_end = At 1; first = walk; second = refl; answer = ap (λ r. r.0) is; state = ap (λ r. r.1) is }
+
+    pub widen_no_directory : is_dir (node s.tree n) ≡ false → Step N s (Widen p) (Refuse NotDir) s
+    widen_no_directory other =
+        step_widen (Refuse NotDir) s (refuses s (not (is_dir (node s.tree n))) (Refuse NotDir) by_version wide_done (ap not other))
+
+    module _ (dir : is_dir (node s.tree n) ≡ true) where
+      after_kind : widens N s n ≡ checked s by_version wide_done
+      after_kind = passes s (not (is_dir (node s.tree n))) (Refuse NotDir) by_version wide_done (ap not dir)
+
+      pub widen_old_volume : (s.version == 1) ≡ true → Step N s (Widen p) (Refuse Inval) s
+      widen_old_volume one = step_widen (Refuse Inval) s (after_kind ∙ refuses s (s.version == 1) (Refuse Inval) by_form wide_done one)
+
+      module _ (two : (s.version == 1) ≡ false) where
+        pub widen_nothing : (form_of (node s.tree n) == 1) ≡ true → Step N s (Widen p) Done s
+        widen_nothing wide = step_widen Done s (after_kind ∙ passes s (s.version == 1) (Refuse Inval) by_form wide_done two
+            ∙ refuses s (form_of (node s.tree n) == 1) Done by_space wide_done wide)
+
+        module _ (narrow : (form_of (node s.tree n) == 1) ≡ false) where
+          pub widen_no_space : 47 * N < need t' → Step N s (Widen p) (Refuse NoSpace) s
+          widen_no_space lacks = step_widen (Refuse NoSpace) s (after_kind ∙ passes s (s.version == 1) (Refuse Inval) by_form wide_done two
+              ∙ passes s (form_of (node s.tree n) == 1) Done by_space wide_done narrow
+              ∙ refuses s (nat_lt (47 * N) (need t')) (Refuse NoSpace) [] wide_done (below (47 * N) (need t') lacks))
+
+          pub widen_done : need t' ≤ 47 * N → Step N s (Widen p) Done (with_tree s t')
+          widen_done room = step_widen Done (with_tree s t') (after_kind ∙ passes s (s.version == 1) (Refuse Inval) by_form wide_done two
+              ∙ passes s (form_of (node s.tree n) == 1) Done by_space wide_done narrow
+              ∙ passes s (nat_lt (47 * N) (need t')) (Refuse NoSpace) [] wide_done (not_below (47 * N) (need t') room))
