@@ -73,7 +73,7 @@ module _ {D : Type 0} (state : D → DeviceState) where
 
   -- so it is where it just began
   pub here_begun : (lawful : (d : D) → IsLawful (state d)) (f : Fs D) → IsReady f → drafted_of f.store ≡ (seen f).log.totals
-      → IsBegun state (seen f) f
+      → IsBegun (seen f) f
   here_begun lawful f ready drafted = record { still = still_none state lawful (seen f); ready = ready; drafted = drafted }
 
 -- ---- the path of a call has no last piece

@@ -1,5 +1,5 @@
 -- A write to an open file and a cut of it, from what is drafted to the call as a step of the model.
-use Rattle.std.proofs.Common.{◌≡◌, ◌<◌, ◌≤◌, ◌+◌, ◌*◌, ℕ, true, List, length, Some, None, Ok, Err, refl, sym, ◌∙◌, ap, arith}
+use Rattle.std.proofs.Common.{◌≡◌, ◌<◌, ◌≤◌, ◌+◌, ◌*◌, ℕ, true, false, List, length, Some, None, Ok, Err, refl, sym, ◌∙◌, ap, arith}
 use Rattle.std.specs.Prelude.{Result, OnOk, IfErr, IsErrOf, max}
 use Rattle.std.specs.Ordering.{nat_cmp}
 use Rattle.std.specs.FinMap.{find}
@@ -173,13 +173,13 @@ module _ {D : Type 0} (state : D → DeviceState) (lawful : (d : D) → IsLawful
       (halted : IsErrOf drafted (fault.Log log.Halted) → a.halted ≡ true) (other : IsErrOf drafted (fault.Log log.Full) → ⊥) where
     pub write_ends : (at : ℕ) (w : List ℕ) → 0 < length w → length w ≤ 65536 → at + length w ≤ 8511488 → AreBytes w
         → OnOk drafted (DraftsBytes a b n at w) → Serves state v (seen new) (Pwrite h at w) (answer_by (λ _. Count (length w)) result)
+    unfolding write_makes
     write_ends at w some few end bytes = by drafted finishes counts failed halted other
       where
         by : (drafted : Result (Unit {0}) EntryFault) → Finishes state (with_store f store) new drafted result → OnOk drafted (Counts a b)
             → IfErr drafted (FailsWhere a b (HasObject n)) → (IsErrOf drafted (fault.Log log.Halted) → a.halted ≡ true)
             → (IsErrOf drafted (fault.Log log.Full) → ⊥) → OnOk drafted (DraftsBytes a b n at w)
             → Serves state v (seen new) (Pwrite h at w) (answer_by (λ _. Count (length w)) result)
-        unfolding write_makes
         by (Ok done) finishes counts failed halted other drafts =
             finish_ends state lawful v f begun store redrafts (Pwrite h at w) refl refl refl refl
             (write_makes at w some few end bytes drafts counts) new rest (Count (length w)) refl (λ k m0 m s keeps is. (refl, is.handles))
@@ -189,13 +189,13 @@ module _ {D : Type 0} (state : D → DeviceState) (lawful : (d : D) → IsLawful
 
     pub cut_ends : (len : ℕ) → len ≤ 8511488 → OnOk drafted (DraftsLength a b n len)
         → Serves state v (seen new) (Truncate h len) (answer_by (λ _. Done) result)
+    unfolding cut_makes
     cut_ends len end = by drafted finishes counts failed halted other
       where
         by : (drafted : Result (Unit {0}) EntryFault) → Finishes state (with_store f store) new drafted result → OnOk drafted (Counts a b)
             → IfErr drafted (FailsWhere a b (HasObject n)) → (IsErrOf drafted (fault.Log log.Halted) → a.halted ≡ true)
             → (IsErrOf drafted (fault.Log log.Full) → ⊥) → OnOk drafted (DraftsLength a b n len)
             → Serves state v (seen new) (Truncate h len) (answer_by (λ _. Done) result)
-        unfolding cut_makes
         by (Ok done) finishes counts failed halted other drafts =
             finish_ends state lawful v f begun store redrafts (Truncate h len) refl refl refl refl (cut_makes len end drafts counts) new rest
             Done refl (λ k m0 m s keeps is. (refl, is.handles)) result finishes

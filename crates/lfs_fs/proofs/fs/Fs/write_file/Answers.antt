@@ -6,8 +6,8 @@ use Rattle.lfs_fs.proofs.write.Drafts.{lone_write, write_ends}
 use Rattle.lfs_fs.proofs.write.Exits.{bytes_of}
 use Rattle.lfs_fs.proofs.fs.Fs.write_file.Goals as goal
 
-pub draft_bytes-requires-clause-alone : goal.draft_bytes-requires-clause-alone
-draft_bytes-requires-clause-alone g c =
+pub draft_bytes-drafted-requires-clause-alone : goal.draft_bytes-drafted-requires-clause-alone
+draft_bytes-drafted-requires-clause-alone g c =
     lone_write g.D.SectorDevice.state c.args.self.now.store c.args.bytes.now c.requires.ready.empty c.requires.most
 
 pub finish-requires-clause-room : goal.finish-requires-clause-room
