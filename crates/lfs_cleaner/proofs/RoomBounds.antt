@@ -287,7 +287,8 @@ module _ {D : Type 0} (state : D → DeviceState) where
         commits = ready.commits;
         passes = (let p = done.passes in let most = p.1 in (p.0, omega (arith, most, few), p.2));
         saves = ⊎_elim
-            (λ first. ⊎_elim (λ (same : c ≡ b). inl (subst (λ (h : LogState D). SavesAll state a h) (sym same) (saves_all state a b first.1)))
+            (λ first.
+            ⊎_elim (λ (same : c ≡ b). inl (subst (λ (h : LogState D). SavesAll state a h) (sym same) (saves_all state a b first.1)))
             (λ (more : SavesAll state b c). inl (saved_then state a b c _ ready.keeps done.keeps.carries more)) done.saved)
             (λ none. ⊎_elim (λ (same : c ≡ b). inr (same ∙ none.2))
             (λ (more : SavesAll state b c). inl (saved_then state a b c _ ready.keeps done.keeps.carries more)) done.saved)

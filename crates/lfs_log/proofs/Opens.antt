@@ -261,7 +261,8 @@ module _ {D : Type 0} (state : D → DeviceState) (d d' : D) (looks : Looks (sta
       → Only (state d').content (state d')
   only_behind durable keeps = subst (λ (c : Content). Only c (state d')) (sym looks.untouched.content) (durable keeps)
 
-module _ {D : Type 0} (state : D → DeviceState) (d d' : D) (looks : Looks (state d) (state d')) (h : LogState D) (same : h.device ≡ d') where
+module _ {D : Type 0} (state : D → DeviceState) (d d' : D) (looks : Looks (state d) (state d')) (h : LogState D)
+    (same : h.device ≡ d') where
   mounts_behind : Mounts state d' h → Mounts state d h
   mounts_behind mounts =
       subst (λ (c : Content). (m : LogMap) → (state h.device).keeps_model → (is : StandsLog c m) → Holds state h is.checkpoint m m)

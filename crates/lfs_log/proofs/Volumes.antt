@@ -37,7 +37,8 @@ use Rattle.lfs_memory.proofs.Applied.{has_inode}
 use Rattle.lfs_memory.proofs.BlockSteps.{tightened_log}
 use Rattle.lfs_memory.proofs.Presents.{no_inode, same_map}
 use Rattle.lfs_memory.proofs.Versions.{staged_version}
-use Rattle.lfs_log.specs.LogState.{LogState, Holds, Mounts, Saves, Halts, ReadsHeader, ReadsBlock, IsReadFault, Alters, IsStaged, IsRefused, IsStageFault, IsRemoved, IsKept, IsVacant, HasAll, HoldsOne, AreAllSaved, IsAtRest, Reads, ReadsLog}
+use Rattle.lfs_log.specs.LogState.{LogState, Holds, Mounts, Saves, Halts, ReadsHeader, ReadsBlock, IsReadFault, Alters, IsStaged, IsRefused}
+use Rattle.lfs_log.specs.LogState.{IsStageFault, IsRemoved, IsKept, IsVacant, HasAll, HoldsOne, AreAllSaved, IsAtRest, Reads, ReadsLog}
 use Rattle.lfs_log.specs.Held.{Held, seen}
 use Rattle.lfs_log.proofs.Linked.{all_linked, same_dropped}
 use Rattle.lfs_log.proofs.Unsaved.{rest_altered}
@@ -180,7 +181,8 @@ module _ {D : Type 0} (state : D → DeviceState) where
   held_tight : (h h' : Held D) (v : LogMemory) (k : CheckpointValue) (m0 m w : LogMap) → Holds state (seen h) k m0 m → h'.number ≡ h.number
       → (raised : Bool) → h'.version ≡ cond raised 2 h.version → w.version ≡ cond raised 2 m.version → h'.halted ≡ h.halted
       → Tightens v h'.memory
-      → IsLoose (state h'.device) v k m0 w → (h'.saved ≡ true → m0 ≡ dropped w) → (h'.saved ≡ true → IsAtRest (seen h')) → Holds state (seen h') k m0 w
+      → IsLoose (state h'.device) v k m0 w → (h'.saved ≡ true → m0 ≡ dropped w) → (h'.saved ≡ true → IsAtRest (seen h'))
+      → Holds state (seen h') k m0 w
   held_tight h h' v k m0 m w is number raised version same halted tight loose nothing_new rest =
       record {
         log = tightened_log (state h'.device) v h'.memory k m0 w tight loose;
@@ -220,7 +222,8 @@ module _ {D : Type 0} (state : D → DeviceState) where
       }
 
       pub is_refused : h'.version ≡ h.version → h'.upgraded ≡ h.upgraded → h'.saved ≡ false
-          → RefusesBatch (state h.device) (state h'.device) h.memory v c.loss c.headers.items c.blocks.items → IsRefused state (seen h) (seen h') c
+          → RefusesBatch (state h.device) (state h'.device) h.memory v c.loss c.headers.items c.blocks.items
+          → IsRefused state (seen h) (seen h') c
       is_refused version upgraded unsaved s =
           record {
             alters = stood false version upgraded s.stands;
@@ -272,7 +275,8 @@ module _ {D : Type 0} (state : D → DeviceState) where
       untaken = untaken;
       holds = λ k m0 m keeps is. held_tight h h' v k m0 m m is number false version refl halted tight
           (s.log k m0 m keeps (loose (state h.device) h.memory k m0 m is.log))
-          (λ all. is.nothing_new (sym saved ∙ all)) (λ all. rest_altered state (seen h) (seen h') alters untaken (is.rest (sym saved ∙ all)));
+          (λ all. is.nothing_new (sym saved ∙ all))
+          (λ all. rest_altered state (seen h) (seen h') alters untaken (is.rest (sym saved ∙ all)));
     }
       where
         alters : Alters state (seen h) (seen h') 0 false
@@ -292,7 +296,8 @@ module _ {D : Type 0} (state : D → DeviceState) where
             (s.kept segment ∙ before segment ∙ sym (s.used segment))
 
   pub is_stage_fault : (h h' : Held D) (c : Changes)
-      → IsBatchExcused (state h.device) (state h'.device) h.memory c.loss c.headers.items c.blocks.items → IsStageFault state (seen h) (seen h') c
+      → IsBatchExcused (state h.device) (state h'.device) h.memory c.loss c.headers.items c.blocks.items
+      → IsStageFault state (seen h) (seen h') c
   is_stage_fault h h' c failed k m0 m keeps is fits = failed k m0 m keeps (loose (state h.device) h.memory k m0 m is.log) fits
 
   -- ---- numbers that no file has

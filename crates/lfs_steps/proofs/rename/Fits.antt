@@ -26,7 +26,8 @@ use Rattle.lfs_entries.specs.Moving.{size_with}
 use Rattle.lfs_entries.specs.Renaming.{GivesName}
 use Rattle.lfs_entries.specs.Replacing.{FitsFound}
 use Rattle.lfs_steps.proofs.paths.Named.{dir, entry_is, fits_d, holder, piece_is}
-use Rattle.lfs_steps.proofs.rename.Maps.{IsRename, apart_first, apart_second, found, holder_a, holder_b, linked_twice, linked_twice_b, looks_o}
+use Rattle.lfs_steps.proofs.rename.Maps.{IsRename, apart_first, apart_second, found, holder_a, holder_b, linked_twice, linked_twice_b}
+use Rattle.lfs_steps.proofs.rename.Maps.{looks_o}
 use Rattle.lfs_steps.proofs.rename.Maps.{not_root, some_links}
 use Rattle.lfs_steps.proofs.volume.Directories.{slot_in_directory}
 use Rattle.lfs_steps.proofs.volume.Headers.{directory_grows, directory_shrinks, known_form, links_fit}

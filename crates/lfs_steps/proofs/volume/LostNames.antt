@@ -12,7 +12,8 @@ use Rattle.lfs_model.specs.Sound.{IsWithinLimits}
 use Rattle.lfs_model.specs.Cutting.{IsWithoutFile}
 use Rattle.lfs_model.specs.declared.Kind.{Kind}
 use Rattle.lfs_model.specs.Stands.{LogMap}
-use Rattle.lfs_steps.proofs.volume.KeptMaps.{Shifts, gone_kept, gone_tree, none_at, relinked_kept, relinked_shifts, relinked_tree, shifts_gone}
+use Rattle.lfs_steps.proofs.volume.KeptMaps.{Shifts, gone_kept, gone_tree, none_at, relinked_kept, relinked_shifts, relinked_tree}
+use Rattle.lfs_steps.proofs.volume.KeptMaps.{shifts_gone}
 use Rattle.lfs_model.specs.Step.{let_go}
 use Rattle.std.specs.Ordering.{nat_cmp}
 use Rattle.std.proofs.lemmas.Bool.Decides.{nat_tests}

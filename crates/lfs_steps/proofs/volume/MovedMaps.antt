@@ -22,7 +22,8 @@ use Rattle.lfs_path.specs.dirs.Taking.{CutsSlot, TakesName, shrunk}
 use Rattle.lfs_path.proofs.of_dirs.InTrees.{directory_node}
 use Rattle.lfs_files.specs.Headers.{relinked}
 use Rattle.lfs_steps.proofs.volume.Nodes.{IsShaped}
-use Rattle.lfs_steps.proofs.volume.KeptMaps.{HasHolder, Shifts, holder_directory, relinked_kept, relinked_shifts, relinked_tree, shifts_joined}
+use Rattle.lfs_steps.proofs.volume.KeptMaps.{HasHolder, Shifts, holder_directory, relinked_kept, relinked_shifts, relinked_tree}
+use Rattle.lfs_steps.proofs.volume.KeptMaps.{shifts_joined}
 use Rattle.lfs_steps.proofs.volume.KeptMaps.{taken_kept, taken_shifts, taken_tree, written_kept, written_shifts, written_tree}
 use Rattle.lfs_steps.proofs.volume.MovedNames.{nothing_at, only_at}
 use Rattle.lfs_steps.proofs.volume.Slots.{slot_some}

@@ -120,7 +120,8 @@ returns-then-self-2-clause-lacks g c is may low =
     } in
     let begun : MayClean c.self.inside.memory c.args.victims.now = may_begin before c.args.victims.now
     (subst (λ (h : LogState g.row.D.Denot). MayPass h c.args.victims.now) (sym c.self.view_is) may) in
-    let under : c.self.inside.number < 2 ^ 64 - 1 = subst (λ (h : LogState g.row.D.Denot). h.number < 2 ^ 64 - 1) (sym c.self.view_is) low in
+    let under : c.self.inside.number < 2 ^ 64 - 1 =
+    subst (λ (h : LogState g.row.D.Denot). h.number < 2 ^ 64 - 1) (sym c.self.view_is) low in
     elim c.then-self-2.branch [
       | then-self-2-via-then-self-2 w ↦ absurd (search (rules, arith))
       | then-self-2-via-else-self-2+then-not-may_clean w ↦ absurd (w.may_clean.ensures.no (search rules) begun)

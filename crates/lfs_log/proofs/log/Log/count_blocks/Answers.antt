@@ -46,6 +46,7 @@ returns-clause-answer g c =
       halted = c.self.inside.halted;
       totals = c.self.inside.totals;
     } in
-    subst (λ (h : LogState g.row.D.Denot). CountsBlocks g.D.SectorDevice.state h (seen after) c.args.number c.args.from c.args.to c.in-Ok.count)
+    subst (λ (h : LogState g.row.D.Denot).
+    CountsBlocks g.D.SectorDevice.state h (seen after) c.args.number c.args.from c.args.to c.in-Ok.count)
     c.self.view_is
     (counts_blocks g.D.SectorDevice.state before after c.args.number c.args.from c.args.to c.in-Ok.count c.in-Ok.ensures.answer)

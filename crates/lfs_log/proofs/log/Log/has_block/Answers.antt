@@ -47,6 +47,7 @@ returns-clause-answer g c =
       halted = c.self.inside.halted;
       totals = c.self.inside.totals;
     } in
-    subst (λ (h : LogState g.row.D.Denot). TellsBlock g.D.SectorDevice.state h (seen after) c.args.number c.args.index (not (c.in-Ok.address == 0)))
+    subst (λ (h : LogState g.row.D.Denot).
+    TellsBlock g.D.SectorDevice.state h (seen after) c.args.number c.args.index (not (c.in-Ok.address == 0)))
     c.self.view_is
     (tells_block g.D.SectorDevice.state before after c.args.number c.args.index c.in-Ok.address c.in-Ok.ensures.answer)

@@ -48,7 +48,8 @@ returns-clause-answer g c =
       halted = c.self.inside.halted;
       totals = c.self.inside.totals;
     } in
-    subst (λ (h : LogState g.row.D.Denot). TellsDouble g.D.SectorDevice.state h (seen after) c.args.number (not (c.in-Ok.address == 0))) c.self.view_is
+    subst (λ (h : LogState g.row.D.Denot). TellsDouble g.D.SectorDevice.state h (seen after) c.args.number (not (c.in-Ok.address == 0)))
+    c.self.view_is
     (tells_double g.D.SectorDevice.state before after c.args.number c.in-Ok.address c.in-Ok.ensures.answer)
 
 pub invariant_of-self : goal.invariant_of-self

@@ -48,7 +48,8 @@ returns-clause-answer g c =
       halted = c.self.inside.halted;
       totals = c.self.inside.totals;
     } in
-    subst (λ (h : LogState g.row.D.Denot). TellsLeaf g.D.SectorDevice.state h (seen after) c.args.number c.args.leaf (not (c.in-Ok.address == 0)))
+    subst (λ (h : LogState g.row.D.Denot).
+    TellsLeaf g.D.SectorDevice.state h (seen after) c.args.number c.args.leaf (not (c.in-Ok.address == 0)))
     c.self.view_is
     (tells_leaf g.D.SectorDevice.state before after c.args.number c.args.leaf c.in-Ok.address c.in-Ok.ensures.answer)
 

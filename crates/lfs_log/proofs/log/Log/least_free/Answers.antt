@@ -35,5 +35,6 @@ returns-clause-none g c =
       totals = c.self.inside.totals;
     } in
     none_then c.least_free.result _ _
-    (λ all. subst (λ (h : LogState g.row.D.Denot). HasAll g.D.SectorDevice.state h) c.self.view_is (has_all g.D.SectorDevice.state held all))
+    (λ all.
+    subst (λ (h : LogState g.row.D.Denot). HasAll g.D.SectorDevice.state h) c.self.view_is (has_all g.D.SectorDevice.state held all))
     c.least_free.ensures.none
