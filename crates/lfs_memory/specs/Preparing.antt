@@ -1,7 +1,7 @@
 -- What has to be in memory before a batch of changes: then these changes call no device.
 use Rattle.std.specs.Prelude.{◌≡◌, ◌<◌, ◌+◌, ◌-◌, ◌/◌, ◌==◌, ◌&&◌, ◌⊎◌, cond, nat_lt, ℕ, Bool, List, [], ◌∷◌, length, Option, Some, None}
 use Rattle.std.specs.List.{AllByRecursion}
-use Rattle.lfs_model.specs.declared.limits.TheConstants.{BLOCK_POINTERS, DIRECT_BLOCKS}
+use Rattle.lfs_model.specs.declared.limits.TheConstants.{BLOCK_FILES, BLOCK_POINTERS, DIRECT_BLOCKS}
 use Rattle.lfs_model.specs.Checkpoint.{CheckpointValue}
 use Rattle.lfs_model.specs.Device.{DeviceState}
 use Rattle.lfs_model.specs.Entry.{Data, Inode}
@@ -25,7 +25,7 @@ AreBlocksReady v edits = AllByRecursion (λ (e : BlockEdit). HasParent v e.numbe
 -- The inode of file n is in memory, or the file isn't there; a name that it gets or keeps will be written.
 pub record IsHeaderReady (v : LogMemory) (n links : ℕ) : Type 0 where
   pub inside : IsInMemory v (Inode n) ⊎ (address_in v.map n ≡ 0)
-  pub mapped : 0 < links → block_in v.map (n / 128) ≡ 1
+  pub mapped : 0 < links → block_in v.map (n / BLOCK_FILES) ≡ 1
 
 abbrev pub AreHeadersReady : LogMemory → List HeaderEdit → Type 0
 AreHeadersReady v edits = AllByRecursion (λ (e : HeaderEdit). IsHeaderReady v e.number e.header.links) edits

@@ -17,7 +17,7 @@ use crate::memory::LogMemory;
 use lfs_cache::CachedDevice;
 use lfs_device::{DeviceFault, SectorDevice};
 use lfs_inodes::BlockKey;
-use lfs_model::limits::{BLOCK_POINTERS, DIRECT_BLOCKS, LAST_LEAF, LAST_NUMBER};
+use lfs_model::limits::{BLOCK_FILES, BLOCK_POINTERS, DIRECT_BLOCKS, LAST_LEAF, LAST_NUMBER};
 
 /// A block of pointers of a file is in memory after this, an empty one where it isn't stored. The
 /// block above it is there.
@@ -167,16 +167,16 @@ pub fn prepare_block<D: SectorDevice>(
 fn prepare_name(memory: &mut LogMemory, number: u16, links: u32) -> Result<(), DeviceFault>
     requires few { number ≤ LAST_NUMBER }
     ensures done { OnOk result ((memory.new ≡ memory.old)
-        ⊎ MapLifts memory.old memory.new (number / 128)) }
-    ensures mapped { OnOk result (0 < links → block_in memory.new.map (number / 128) ≡ 1) }
+        ⊎ MapLifts memory.old memory.new (number / BLOCK_FILES)) }
+    ensures mapped { OnOk result (0 < links → block_in memory.new.map (number / BLOCK_FILES) ≡ 1) }
     ensures dirty { OnOk result (memory.new.dirty ≡ memory.old.dirty) }
     ensures same { OnErr result (memory.new ≡ memory.old) }
-    ensures lost { OnErr result (IsMapLost memory.old (number / 128)) }
+    ensures lost { OnErr result (IsMapLost memory.old (number / BLOCK_FILES)) }
 {
     if links == 0 {
         return Ok(());
     }
-    lift_map(memory, usize::from(number) / 128)
+    lift_map(memory, usize::from(number) / BLOCK_FILES as usize)
 }
 
 /// The header of a file, which is to have so many links, may change after this with no call of the
