@@ -1,7 +1,7 @@
 -- How many blocks of a file each segment holds, counted block by block in one order.
 use Rattle.std.specs.Prelude.{◌≡◌, ◌<◌, ◌≤◌, ◌⊎◌, ◌+◌, ◌*◌, ◌-◌, ◌/◌, ◌%◌, ◌==◌, ◌&&◌, nat_lt, cond, ℕ, suc, Bool, true, false, List}
 use Rattle.std.specs.Prelude.{get_or}
-use Rattle.lfs_model.specs.declared.limits.TheConstants.{BLOCK_POINTERS, DIRECT_BLOCKS, MOST_SEGMENTS, SEGMENT_SECTORS}
+use Rattle.lfs_model.specs.declared.limits.TheConstants.{BLOCK_POINTERS, DIRECT_BLOCKS, FILE_LEAVES, MOST_SEGMENTS, SEGMENT_SECTORS}
 use Rattle.lfs_model.specs.Checkpoint.{CheckpointValue}
 use Rattle.lfs_model.specs.Content.{Content}
 use Rattle.lfs_model.specs.Counting.{segment_of}
@@ -17,12 +17,26 @@ use Rattle.lfs_inodes.specs.Blocks.{blocks_of}
 use Rattle.lfs_memory.specs.declared.memory.LogMemory.{LogMemory}
 use Rattle.lfs_memory.specs.Memory.{IsLoose}
 
--- The place of a block of a file: its inode, its direct blocks, the double root, and then each leaf with the blocks below it.
+-- In the order in which the blocks of a file are counted its inode comes first, then its direct blocks, the double root, and each
+-- leaf with the blocks below it: the place of the double root, how many places a leaf takes, where it stands, and the end of all
+abbrev pub double_place : ℕ
+double_place = DIRECT_BLOCKS + 1
+
+abbrev pub leaf_share : ℕ
+leaf_share = BLOCK_POINTERS + 1
+
+abbrev pub leaf_place : ℕ → ℕ
+leaf_place q = DIRECT_BLOCKS + 2 + leaf_share * q
+
+abbrev pub end_place : ℕ
+end_place = leaf_place FILE_LEAVES
+
+-- The place of a block of a file.
 abbrev pub place : Entry → ℕ
 place (Data n i) = cond (nat_lt i DIRECT_BLOCKS) (1 + i)
-    (115 + 129 * ((i - DIRECT_BLOCKS) / BLOCK_POINTERS) + (i - DIRECT_BLOCKS) % BLOCK_POINTERS)
-place (Leaf n q) = 114 + 129 * q
-place (Double n) = 113
+    (DIRECT_BLOCKS + 3 + leaf_share * ((i - DIRECT_BLOCKS) / BLOCK_POINTERS) + (i - DIRECT_BLOCKS) % BLOCK_POINTERS)
+place (Leaf n q) = leaf_place q
+place (Double n) = double_place
 place (Inode n) = 0
 place (Map j) = 0
 place (Usage j) = 0
@@ -33,7 +47,8 @@ below_leaf n q r = cond (r == 0) (Leaf n q) (Data n (DIRECT_BLOCKS + BLOCK_POINT
 
 abbrev pub at_place : ℕ → ℕ → Entry
 at_place n p = cond (p == 0) (Inode n)
-    (cond (nat_lt p 113) (Data n (p - 1)) (cond (p == 113) (Double n) (below_leaf n ((p - 114) / 129) ((p - 114) % 129))))
+    (cond (nat_lt p double_place) (Data n (p - 1)) (cond (p == double_place) (Double n)
+    (below_leaf n ((p - leaf_place 0) / leaf_share) ((p - leaf_place 0) % leaf_share))))
 
 -- so many of the pointers to blocks from `lowest` on are to blocks before block `first`
 pub record IsBefore (first lowest pointers count : ℕ) : Type 0 where
@@ -91,11 +106,11 @@ AreNoWords bytes start count old = (e : Content) (dirty : Dirty) (M : Memory) (n
 -- leaf q and what is below it
 abbrev pub CountsLeaf : DeviceState → DeviceState → LogMemory → ℕ → ℕ → ℕ → ℕ → List ℕ → List ℕ → Type 0
 CountsLeaf d d' v n q address first old new = (M : Memory) → d'.keeps_model → IsHeldBy d.content (blocks_of v.dirty) M
-    → M.at (Leaf n q) ≡ address → IsCountedTo M n first (114 + 129 * q) old → IsCountedTo M n first (114 + 129 * q + 129) new
+    → M.at (Leaf n q) ≡ address → IsCountedTo M n first (leaf_place q) old → IsCountedTo M n first (leaf_place q + leaf_share) new
 
 abbrev pub FailsLeaf : DeviceState → DeviceState → LogMemory → ℕ → ℕ → ℕ → ℕ → List ℕ → Type 0
 FailsLeaf d d' v n q address first old = (M : Memory) → d'.keeps_model → IsHeldBy d.content (blocks_of v.dirty) M
-    → M.at (Leaf n q) ≡ address → IsCountedTo M n first (114 + 129 * q) old → d.failures < d'.failures
+    → M.at (Leaf n q) ≡ address → IsCountedTo M n first (leaf_place q) old → d.failures < d'.failures
 
 -- so many leaves below the double root
 abbrev pub AreLeaves : Memory → ℕ → List ℕ → ℕ → Type 0
@@ -103,20 +118,20 @@ AreLeaves M n root count = (q : ℕ) → q < count → word root q ≡ M.at (Lea
 
 abbrev pub CountsLeaves : DeviceState → DeviceState → LogMemory → ℕ → List ℕ → ℕ → ℕ → List ℕ → List ℕ → Type 0
 CountsLeaves d d' v n root count first old new = (M : Memory) → d'.keeps_model → IsHeldBy d.content (blocks_of v.dirty) M
-    → AreLeaves M n root count → IsCountedTo M n first 243 old → IsCountedTo M n first (243 + 129 * count) new
+    → AreLeaves M n root count → IsCountedTo M n first (leaf_place 1) old → IsCountedTo M n first (leaf_place 1 + leaf_share * count) new
 
 abbrev pub FailsLeaves : DeviceState → DeviceState → LogMemory → ℕ → List ℕ → ℕ → ℕ → List ℕ → Type 0
 FailsLeaves d d' v n root count first old = (M : Memory) → d'.keeps_model → IsHeldBy d.content (blocks_of v.dirty) M
-    → AreLeaves M n root count → IsCountedTo M n first 243 old → d.failures < d'.failures
+    → AreLeaves M n root count → IsCountedTo M n first (leaf_place 1) old → d.failures < d'.failures
 
 -- all that is below the double root
 abbrev pub CountsDouble : DeviceState → DeviceState → LogMemory → ℕ → ℕ → ℕ → List ℕ → List ℕ → Type 0
 CountsDouble d d' v n address first old new = (M : Memory) → d'.keeps_model → IsHeldBy d.content (blocks_of v.dirty) M
-    → M.at (Double n) ≡ address → IsCountedTo M n first 243 old → IsCountedTo M n first 16755 new
+    → M.at (Double n) ≡ address → IsCountedTo M n first (leaf_place 1) old → IsCountedTo M n first end_place new
 
 abbrev pub FailsDouble : DeviceState → DeviceState → LogMemory → ℕ → ℕ → ℕ → List ℕ → Type 0
 FailsDouble d d' v n address first old = (M : Memory) → d'.keeps_model → IsHeldBy d.content (blocks_of v.dirty) M
-    → M.at (Double n) ≡ address → IsCountedTo M n first 243 old → d.failures < d'.failures
+    → M.at (Double n) ≡ address → IsCountedTo M n first (leaf_place 1) old → d.failures < d'.failures
 
 -- all that is below an inode
 pub record IsInodeOf (M : Memory) (n : ℕ) (bytes : List ℕ) : Type 0 where
@@ -125,7 +140,7 @@ pub record IsInodeOf (M : Memory) (n : ℕ) (bytes : List ℕ) : Type 0 where
 
 abbrev pub CountsInode : DeviceState → DeviceState → LogMemory → ℕ → List ℕ → ℕ → List ℕ → List ℕ → Type 0
 CountsInode d d' v n bytes first old new = (M : Memory) → d'.keeps_model → IsHeldBy d.content (blocks_of v.dirty) M → IsInodeOf M n bytes
-    → IsCountedTo M n first 0 old → IsCountedTo M n first 16755 new
+    → IsCountedTo M n first 0 old → IsCountedTo M n first end_place new
 
 abbrev pub FailsInode : DeviceState → DeviceState → LogMemory → ℕ → List ℕ → ℕ → List ℕ → Type 0
 FailsInode d d' v n bytes first old = (M : Memory) → d'.keeps_model → IsHeldBy d.content (blocks_of v.dirty) M → IsInodeOf M n bytes

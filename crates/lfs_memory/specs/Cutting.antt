@@ -48,10 +48,10 @@ pub record HasEdge (v : LogMemory) (n first : ℕ) : Type 0 where
 
 -- so many of the pointers of an inode don't lead to what goes: to data blocks, to the single leaf, to the double root
 pub record KeepsOfInode (first kept : ℕ) : Type 0 where
-  pub few : kept ≤ 114
+  pub few : kept ≤ DIRECT_BLOCKS + 2
   pub direct : first ≤ DIRECT_BLOCKS → kept ≡ first
-  pub single : DIRECT_BLOCKS < first → first ≤ FIRST_DOUBLE → kept ≡ 113
-  pub whole : FIRST_DOUBLE < first → kept ≡ 114
+  pub single : DIRECT_BLOCKS < first → first ≤ FIRST_DOUBLE → kept ≡ DIRECT_BLOCKS + 1
+  pub whole : FIRST_DOUBLE < first → kept ≡ DIRECT_BLOCKS + 2
 
 -- and so many of those of a double root
 pub record KeepsOfRoot (first kept : ℕ) : Type 0 where

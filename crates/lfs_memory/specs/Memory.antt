@@ -1,7 +1,7 @@
 -- What the log holds in memory, and what that and the device stand for.
 use Rattle.std.specs.Prelude.{◌≡◌, ◌<◌, ◌≤◌, ◌+◌, ◌*◌, ◌/◌, ◌==◌, cond, ℕ, Bool, true, List, [], ◌∷◌, ◌++◌, length, Option, Some, None}
 use Rattle.lfs_model.specs.declared.limits.TheConstants.{CHECKPOINT_SLOTS, CHUNK_BLOCKS, FILE_NUMBERS, MOST_SEGMENTS, SEGMENT_SECTORS}
-use Rattle.lfs_model.specs.declared.limits.TheConstants.{TABLE_BLOCKS}
+use Rattle.lfs_model.specs.declared.limits.TheConstants.{OPEN_CHUNK_BLOCKS, TABLE_BLOCKS}
 use Rattle.lfs_model.specs.Entry.{Entry, Data, Leaf, Double, Inode, Map, Usage}
 use Rattle.lfs_model.specs.Checkpoint.{CheckpointValue, IsSegmentCount}
 use Rattle.lfs_model.specs.Crash.{StandsOn}
@@ -66,7 +66,7 @@ pub record IsMemoryUpTo (most : ℕ) (v : LogMemory) : Type 0 where
 
 -- between two blocks: a chunk that is full is written at once
 abbrev pub IsMemory : LogMemory → Type 0
-IsMemory v = IsMemoryUpTo 62 v
+IsMemory v = IsMemoryUpTo OPEN_CHUNK_BLOCKS v
 
 -- the device has all segments
 abbrev pub HasRoom : DeviceState → LogMemory → Type 0
@@ -108,7 +108,7 @@ pub record GoesUpTo (most : ℕ) (d d' : DeviceState) (v v' : LogMemory) (placed
   pub quiet : Quiet d d' v
 
 abbrev pub Goes : DeviceState → DeviceState → LogMemory → LogMemory → ℕ → Type 0
-Goes d d' v v' placed = GoesUpTo 62 d d' v v' placed
+Goes d d' v v' placed = GoesUpTo OPEN_CHUNK_BLOCKS d d' v v' placed
 
 -- One that a failure of the device ended: what is acknowledged stays.
 pub record Stops (d d' : DeviceState) (v : LogMemory) : Type 0 where

@@ -1,7 +1,8 @@
 -- What has to be in memory before a batch of changes: then these changes call no device.
 use Rattle.std.specs.Prelude.{◌≡◌, ◌<◌, ◌+◌, ◌-◌, ◌/◌, ◌==◌, ◌&&◌, ◌⊎◌, cond, nat_lt, ℕ, Bool, List, [], ◌∷◌, length, Option, Some, None}
+use Rattle.std.specs.Prelude.{◌≤◌, Result, OnOk, IsErrOf}
 use Rattle.std.specs.List.{AllByRecursion}
-use Rattle.lfs_model.specs.declared.limits.TheConstants.{BLOCK_POINTERS, DIRECT_BLOCKS}
+use Rattle.lfs_model.specs.declared.limits.TheConstants.{BLOCK_FILES, BLOCK_POINTERS, DIRECT_BLOCKS}
 use Rattle.lfs_model.specs.Checkpoint.{CheckpointValue}
 use Rattle.lfs_model.specs.Device.{DeviceState}
 use Rattle.lfs_model.specs.Entry.{Data, Inode}
@@ -10,6 +11,8 @@ use Rattle.lfs_inodes.specs.Blocks.{blocks_of}
 use Rattle.lfs_inodes.specs.MapValue.{address_in, block_in}
 use Rattle.lfs_memory.specs.declared.batch.BlockEdit.{BlockEdit}
 use Rattle.lfs_memory.specs.declared.batch.HeaderEdit.{HeaderEdit}
+use Rattle.lfs_memory.specs.declared.lifting.LiftFault.{LiftFault}
+use Rattle.lfs_memory.specs.declared.lifting.LiftFault.TheVariants as fault
 use Rattle.lfs_memory.specs.declared.memory.LogMemory.{LogMemory}
 use Rattle.lfs_memory.specs.Changing.{HasAbove}
 use Rattle.lfs_memory.specs.Memory.{IsLoose}
@@ -25,7 +28,7 @@ AreBlocksReady v edits = AllByRecursion (λ (e : BlockEdit). HasParent v e.numbe
 -- The inode of file n is in memory, or the file isn't there; a name that it gets or keeps will be written.
 pub record IsHeaderReady (v : LogMemory) (n links : ℕ) : Type 0 where
   pub inside : IsInMemory v (Inode n) ⊎ (address_in v.map n ≡ 0)
-  pub mapped : 0 < links → block_in v.map (n / 128) ≡ 1
+  pub mapped : 0 < links → block_in v.map (n / BLOCK_FILES) ≡ 1
 
 abbrev pub AreHeadersReady : LogMemory → List HeaderEdit → Type 0
 AreHeadersReady v edits = AllByRecursion (λ (e : HeaderEdit). IsHeaderReady v e.number e.header.links) edits
@@ -72,3 +75,12 @@ IsExcusedWithin d d' v n i = (k : CheckpointValue) (m0 m : LogMap) → d'.keeps_
 abbrev pub AreExcusedWithin : DeviceState → DeviceState → LogMemory → List BlockEdit → Type 0
 AreExcusedWithin d d' v edits = (k : CheckpointValue) (m0 m : LogMap) → d'.keeps_model → IsLoose d v k m0 m → AreWithin m edits
     → d.failures < d'.failures
+
+-- The block above data block i of file n is in memory, or memory has no room for the three blocks on the way, or a call of the device
+-- failed where the file may have that block.
+pub record EndsOnWay {T : Type 0} (d d' : DeviceState) (v v' : LogMemory) (n i : ℕ) (result : Result T LiftFault) : Type 0 where
+  pub ready : OnOk result (HasParent v' n i)
+  pub full : IsErrOf result fault.Full → v'.dirty.capacity.limit ≤ length v'.dirty.blocks
+  pub short : IsErrOf result fault.Full → LacksRoom v 3
+  pub failed : IsErrOf result fault.Device → IsExcusedWithin d d' v n i
+  pub no_failure : OnOk result (d'.failures ≡ d.failures)

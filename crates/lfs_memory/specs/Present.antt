@@ -1,9 +1,11 @@
 -- What the log answers to reads, and what a call that only reads leaves.
 use Rattle.std.specs.Prelude.{◌≡◌, ◌<◌, ◌⊎◌, ℕ, Bool, true, false, List, [], Option, Some, None, Result, OnOk, OnErr}
+use Rattle.std.specs.Prelude.{◌≤◌, IfOk}
+use Rattle.lfs_model.specs.declared.limits.TheConstants.{LAST_BLOCK}
 use Rattle.lfs_model.specs.Checkpoint.{CheckpointValue}
 use Rattle.lfs_model.specs.Content.{Content}
 use Rattle.lfs_model.specs.Device.{DeviceState, cell_at}
-use Rattle.lfs_model.specs.Entry.{Entry, header, word}
+use Rattle.lfs_model.specs.Entry.{Entry, Data, header, word}
 use Rattle.lfs_model.specs.Laid.{HoldsInode}
 use Rattle.lfs_model.specs.Running.{Dirty}
 use Rattle.lfs_model.specs.Stands.{LogMap}
@@ -81,3 +83,9 @@ AnswersBlock d d' v n i out found = (k : CheckpointValue) (m0 m : LogMap) → d'
 abbrev pub AnswersAddress : DeviceState → DeviceState → LogMemory → Entry → ℕ → Type 0
 AnswersAddress d d' v x address = (k : CheckpointValue) (m0 m : LogMap) → d'.keeps_model → (is : IsLoose d v k m0 m)
     → is.running.memory.at x ≡ address
+
+-- A call that finds the pointer to data block i of file n: a stored one is of a file's block.
+pub record FindsPointer {E : Type 0} (d d' : DeviceState) (v : LogMemory) (n i : ℕ) (result : Result ℕ E) : Type 0 where
+  pub answer : IfOk result (AnswersAddress d d' v (Data n i))
+  pub some : IfOk result (λ address. 1 ≤ address → (1 ≤ n) × (i ≤ LAST_BLOCK))
+  pub looks : OnlyLooks d d' v result

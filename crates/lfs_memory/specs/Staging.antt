@@ -1,5 +1,7 @@
 -- What a batch of changes does to memory, whole or not at all.
-use Rattle.std.specs.Prelude.{◌≡◌, ◌<◌, ◌≤◌, ◌+◌, ℕ, false, List, length}
+use Rattle.std.specs.Prelude.{◌≡◌, ◌<◌, ◌≤◌, ◌+◌, ℕ, false, List, length, Result, OnOk, IsErrOf}
+use Rattle.lfs_files.specs.declared.fault.LogFault.{LogFault}
+use Rattle.lfs_files.specs.declared.fault.LogFault.TheVariants as fault
 use Rattle.lfs_model.specs.Checkpoint.{CheckpointValue}
 use Rattle.lfs_model.specs.Device.{DeviceState}
 use Rattle.lfs_model.specs.Entry.{Entry}
@@ -16,7 +18,8 @@ use Rattle.lfs_memory.specs.Present.{Looks}
 use Rattle.lfs_memory.specs.Lifting.{IsInMemory, Prepares}
 use Rattle.lfs_memory.specs.Changing.{Tightens}
 use Rattle.lfs_memory.specs.Removing.{RemovesFile}
-use Rattle.lfs_memory.specs.Batch.{lost, is_lost, after_edits, FitsLoss, FitEdits, room_for_edits}
+use Rattle.lfs_memory.specs.Batch.{lost, is_lost, after_edits, FitsLoss, FitEdits, room_for, room_for_edits}
+use Rattle.lfs_memory.specs.Preparing.{LacksRoom}
 
 -- A call after which what a file loses is gone.
 pub record Loses (d d' : DeviceState) (v v' : LogMemory) (loss : Loss) : Type 0 where
@@ -65,6 +68,13 @@ pub record RefusesBatch (d d' : DeviceState) (v v' : LogMemory) (loss : Loss) (h
 abbrev pub IsBatchExcused : DeviceState → DeviceState → LogMemory → Loss → List HeaderEdit → List BlockEdit → Type 0
 IsBatchExcused d d' v loss headers blocks = (k : CheckpointValue) (m0 m : LogMap) → d'.keeps_model → IsLoose d v k m0 m
     → FitEdits m loss headers blocks → d.failures < d'.failures
+
+-- Why changes aren't staged: memory has no room for them, or a call of the device failed where they fit the log map.
+pub record EndsStaging {T : Type 0} (d d' : DeviceState) (v : LogMemory) (c : Changes) (result : Result T LogFault) : Type 0 where
+  pub full : IsErrOf result fault.Full → LacksRoom v (room_for c)
+  pub failed : IsErrOf result fault.Device → IsBatchExcused d d' v c.loss c.headers.items c.blocks.items
+  pub other : IsErrOf result fault.Halted → ⊥
+  pub no_failure : OnOk result (d'.failures ≡ d.failures)
 
 -- ---- and then the blocks of pointers in memory that lead nowhere leave it
 abbrev pub StagesTight : DeviceState → DeviceState → LogMemory → LogMemory → Changes → Type 0

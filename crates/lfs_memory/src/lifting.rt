@@ -18,7 +18,7 @@ use lfs_device::{DeviceFault, SectorDevice};
 use lfs_inodes::{BlockKey, IN_MEMORY, InodeMap};
 use lfs_layout::segment_of;
 use lfs_model::BlockKind;
-use lfs_model::limits::{CHECKPOINT_SLOTS, FILE_NUMBERS, MAP_BLOCKS};
+use lfs_model::limits::{BLOCK_FILES, CHECKPOINT_SLOTS, FILE_NUMBERS, MAP_BLOCKS};
 use lfs_segments::Usage;
 
 /// Whether a block at this address is counted, among those that live in its segment or those that
@@ -74,18 +74,18 @@ pub fn lift_map(memory: &mut LogMemory, index: usize) -> Result<(), DeviceFault>
 pub(crate) fn lift_map_of(memory: &mut LogMemory, number: u16) -> Result<(), DeviceFault>
     requires number { number < FILE_NUMBERS }
     ensures done { OnOk result ((memory.new ≡ memory.old)
-        ⊎ MapLifts memory.old memory.new (number / 128)) }
+        ⊎ MapLifts memory.old memory.new (number / BLOCK_FILES)) }
     ensures mapped { OnOk result (is_hidden_in memory.new.map number ≡ false
-        → block_in memory.new.map (number / 128) ≡ 1) }
+        → block_in memory.new.map (number / BLOCK_FILES) ≡ 1) }
     ensures addresses { OnOk result (memory.new.map.addresses ≡ memory.old.map.addresses) }
     ensures dirty { OnOk result (memory.new.dirty ≡ memory.old.dirty) }
     ensures same { OnErr result (memory.new ≡ memory.old) }
-    ensures lost { OnErr result (IsMapLost memory.old (number / 128)) }
+    ensures lost { OnErr result (IsMapLost memory.old (number / BLOCK_FILES)) }
 {
     if memory.map.is_hidden(number) {
         return Ok(());
     }
-    lift_map(memory, number as usize / 128)
+    lift_map(memory, number as usize / BLOCK_FILES as usize)
 }
 
 /// A block comes into memory in the place of the one at its address, which isn't counted there any
@@ -140,7 +140,7 @@ pub fn lift<D: SectorDevice>(
         (tables_of memory.old) (entry_of key) address }
     requires above { 2 ≤ address }
     requires mapped { (n : ℕ) → entry_of key ≡ Inode n → is_hidden_in memory.old.map n ≡ false
-        → block_in memory.old.map (n / 128) ≡ 1 }
+        → block_in memory.old.map (n / BLOCK_FILES) ≡ 1 }
     ensures prepares { Prepares (D.state device.old) (D.state device.new) memory.old memory.new 1 }
     ensures gathers { Gathers (D.state device.old) (D.state device.new) memory.old memory.new }
     ensures inside { OnOk result (IsInMemory memory.new (entry_of key)) }

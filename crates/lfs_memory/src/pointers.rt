@@ -1,10 +1,9 @@
 //! The pointers to data blocks that one block above them has, read once for all of them.
 ghost use Rattle.std.specs.Prelude.{◌≡◌, ◌<◌, ◌≤◌, ◌+◌, ◌*◌, ◌-◌, ℕ, min, None, IfOk, IfSome, IfNone, IsTrue, IsFalse};
-ghost use Rattle.lfs_model.specs.Entry.{Data};
 ghost use Rattle.lfs_inodes.specs.Blocks.{blocks_of};
 ghost use Rattle.lfs_inodes.specs.Key.{entry_of};
 ghost use Rattle.lfs_model.specs.Fields.{zeros};
-ghost use Rattle.lfs_memory.specs.Present.{OnlyLooks, AnswersAddress, AnswersBlock};
+ghost use Rattle.lfs_memory.specs.Present.{OnlyLooks, AnswersBlock, FindsPointer};
 ghost use Rattle.lfs_memory.specs.Pointers.{IsInodeAt, IsInRun, IsRunOf, IsKeptFor, HasNoWay, KeepsRun, CountsRun, AnswersCount, pointer_in, blocks_in};
 
 use crate::memory::LogMemory;
@@ -258,10 +257,8 @@ pub fn find_block<D: SectorDevice>(
     requires number { number < FILE_NUMBERS }
     requires kept { KeepsRun (D.state device.old) memory.now kept.now }
     ensures kept { KeepsRun (D.state device.new) memory.now kept.now }
-    ensures answer { IfOk result (AnswersAddress (D.state device.old) (D.state device.new)
-        memory.now (Data number index)) }
-    ensures some { IfOk result (λ address. (1 ≤ address) → (1 ≤ number) × (index ≤ LAST_BLOCK)) }
-    ensures looks { OnlyLooks (D.state device.old) (D.state device.new) memory.now result }
+    ensures finds { FindsPointer (D.state device.old) (D.state device.new) memory.now number index
+        result }
 {
     if is_kept_for(kept, number, index) {
         return Ok(kept_pointer(kept, number, index));
@@ -281,10 +278,8 @@ fn find_by_run<D: SectorDevice>(
     requires number { number < FILE_NUMBERS }
     requires kept { KeepsRun (D.state device.old) memory.now kept.old }
     ensures kept { KeepsRun (D.state device.new) memory.now kept.new }
-    ensures answer { IfOk result (AnswersAddress (D.state device.old) (D.state device.new)
-        memory.now (Data number index)) }
-    ensures some { IfOk result (λ address. (1 ≤ address) → (1 ≤ number) × (index ≤ LAST_BLOCK)) }
-    ensures looks { OnlyLooks (D.state device.old) (D.state device.new) memory.now result }
+    ensures finds { FindsPointer (D.state device.old) (D.state device.new) memory.now number index
+        result }
 {
     if !keep_run(device, memory, kept, number, index)? {
         return Ok(0);

@@ -5,7 +5,7 @@ ghost use Rattle.lfs_model.specs.Entry.{Leaf, Inode};
 ghost use Rattle.lfs_inodes.specs.MapValue.{block_in};
 ghost use Rattle.lfs_inodes.specs.Key.{entry_of};
 ghost use Rattle.lfs_memory.specs.Lifting.{EndsLifting, IsInMemory, IsMapLost, MapLifts, Prepares};
-ghost use Rattle.lfs_memory.specs.Preparing.{HasParent, AreBlocksReady, IsHeaderReady, AreHeadersReady, LacksRoom, IsExcusedWithin, AreExcusedWithin, ways};
+ghost use Rattle.lfs_memory.specs.Preparing.{HasParent, AreBlocksReady, IsHeaderReady, AreHeadersReady, LacksRoom, AreExcusedWithin, EndsOnWay, ways};
 ghost use Rattle.lfs_memory.specs.Memory.{IsMemory};
 ghost use Rattle.lfs_memory.specs.Numbers.{IsFileNumber};
 ghost use Rattle.lfs_memory.specs.Present.{FailsFromDevice};
@@ -17,7 +17,7 @@ use crate::memory::LogMemory;
 use lfs_cache::CachedDevice;
 use lfs_device::{DeviceFault, SectorDevice};
 use lfs_inodes::BlockKey;
-use lfs_model::limits::{BLOCK_POINTERS, DIRECT_BLOCKS, LAST_LEAF, LAST_NUMBER};
+use lfs_model::limits::{BLOCK_FILES, BLOCK_POINTERS, DIRECT_BLOCKS, LAST_LEAF, LAST_NUMBER};
 
 /// A block of pointers of a file is in memory after this, an empty one where it isn't stored. The
 /// block above it is there.
@@ -97,15 +97,8 @@ fn prepare_way<D: SectorDevice>(
 ) -> Result<(), LiftFault>
     requires memory { IsMemory memory.old }
     ensures prepares { Prepares (D.state device.old) (D.state device.new) memory.old memory.new 3 }
-    ensures ready { OnOk result (HasParent memory.new edit.now.number edit.now.index) }
-    ensures full { IsErrOf result LiftFault.Full
-        → memory.new.dirty.capacity.limit ≤ length memory.new.dirty.blocks }
-    ensures short { IsErrOf result LiftFault.Full → LacksRoom memory.old 3 }
-    ensures failed { IsErrOf result LiftFault.Device
-        → IsExcusedWithin (D.state device.old) (D.state device.new) memory.old
-        edit.now.number edit.now.index }
-    ensures no_failure { OnOk result ((D.state device.new).failures
-        ≡ (D.state device.old).failures) }
+    ensures ends { EndsOnWay (D.state device.old) (D.state device.new) memory.old memory.new
+        edit.now.number edit.now.index result }
 {
     let found = lift_inode(device, memory, edit.number)?;
     if edit.index < DIRECT_BLOCKS {
@@ -144,17 +137,10 @@ pub fn prepare_block<D: SectorDevice>(
 ) -> Result<(), LiftFault>
     requires memory { IsMemory memory.old }
     ensures prepares { Prepares (D.state device.old) (D.state device.new) memory.old memory.new 3 }
-    ensures ready { OnOk result (HasParent memory.new edit.now.number edit.now.index) }
     ensures same { HasParent memory.old edit.now.number edit.now.index → memory.new ≡ memory.old }
     ensures away { OnErr result (HasParent memory.old edit.now.number edit.now.index → ⊥) }
-    ensures full { IsErrOf result LiftFault.Full
-        → memory.new.dirty.capacity.limit ≤ length memory.new.dirty.blocks }
-    ensures short { IsErrOf result LiftFault.Full → LacksRoom memory.old 3 }
-    ensures failed { IsErrOf result LiftFault.Device
-        → IsExcusedWithin (D.state device.old) (D.state device.new) memory.old
-        edit.now.number edit.now.index }
-    ensures no_failure { OnOk result ((D.state device.new).failures
-        ≡ (D.state device.old).failures) }
+    ensures ends { EndsOnWay (D.state device.old) (D.state device.new) memory.old memory.new
+        edit.now.number edit.now.index result }
 {
     if is_ready(memory, edit) {
         return Ok(());
@@ -167,16 +153,16 @@ pub fn prepare_block<D: SectorDevice>(
 fn prepare_name(memory: &mut LogMemory, number: u16, links: u32) -> Result<(), DeviceFault>
     requires few { number ≤ LAST_NUMBER }
     ensures done { OnOk result ((memory.new ≡ memory.old)
-        ⊎ MapLifts memory.old memory.new (number / 128)) }
-    ensures mapped { OnOk result (0 < links → block_in memory.new.map (number / 128) ≡ 1) }
+        ⊎ MapLifts memory.old memory.new (number / BLOCK_FILES)) }
+    ensures mapped { OnOk result (0 < links → block_in memory.new.map (number / BLOCK_FILES) ≡ 1) }
     ensures dirty { OnOk result (memory.new.dirty ≡ memory.old.dirty) }
     ensures same { OnErr result (memory.new ≡ memory.old) }
-    ensures lost { OnErr result (IsMapLost memory.old (number / 128)) }
+    ensures lost { OnErr result (IsMapLost memory.old (number / BLOCK_FILES)) }
 {
     if links == 0 {
         return Ok(());
     }
-    lift_map(memory, usize::from(number) / 128)
+    lift_map(memory, usize::from(number) / BLOCK_FILES as usize)
 }
 
 /// The header of a file, which is to have so many links, may change after this with no call of the
@@ -195,13 +181,9 @@ pub fn prepare_header<D: SectorDevice>(
     requires number { IsFileNumber number }
     ensures prepares { Prepares (D.state device.old) (D.state device.new) memory.old memory.new 1 }
     ensures ready { OnOk result (IsHeaderReady memory.new number links) }
-    ensures full { IsErrOf result LiftFault.Full
-        → memory.new.dirty.capacity.limit ≤ length memory.new.dirty.blocks }
     ensures short { IsErrOf result LiftFault.Full → LacksRoom memory.old 1 }
-    ensures failed { IsErrOf result LiftFault.Device
-        → FailsFromDevice (D.state device.old) (D.state device.new) memory.old }
-    ensures no_failure { OnOk result ((D.state device.new).failures
-        ≡ (D.state device.old).failures) }
+    ensures ends { EndsLifting (D.state device.old) (D.state device.new) memory.old memory.new
+        result }
 {
     match prepare_name(memory, number, links) {
         Ok(()) => {}

@@ -1,11 +1,11 @@
 //! What the log answers to reads.
 ghost use Rattle.std.specs.Prelude.{◌≡◌, ◌<◌, ◌≤◌, ◌⊎◌, OnOk, IfOk, IsTrue, IsFalse};
-ghost use Rattle.lfs_model.specs.Entry.{Inode, Data, Leaf, Double};
+ghost use Rattle.lfs_model.specs.Entry.{Inode, Leaf, Double};
 ghost use Rattle.lfs_inodes.specs.Key.{entry_of};
 ghost use Rattle.lfs_inodes.specs.Blocks.{blocks_of};
 ghost use Rattle.lfs_inodes.specs.MapValue.{address_in};
 ghost use Rattle.lfs_inodes.specs.Present.{present};
-ghost use Rattle.lfs_memory.specs.Present.{OnlyLooks, EndsReading, AnswersInode, AnswersHeader, AnswersAddress, ShowsBlock, ShowsHeader, ShowsWord};
+ghost use Rattle.lfs_memory.specs.Present.{OnlyLooks, EndsReading, AnswersInode, AnswersHeader, AnswersAddress, FindsPointer, ShowsBlock, ShowsHeader, ShowsWord};
 
 use crate::memory::LogMemory;
 use lfs_cache::CachedDevice;
@@ -231,10 +231,8 @@ pub(crate) fn locate_block<D: SectorDevice>(
     index: u32,
 ) -> Result<u32, DeviceFault>
     requires number { number < FILE_NUMBERS }
-    ensures answer { IfOk result (AnswersAddress (D.state device.old) (D.state device.new)
-        memory.now (Data number index)) }
-    ensures some { IfOk result (λ address. (1 ≤ address) → (1 ≤ number) × (index ≤ LAST_BLOCK)) }
-    ensures looks { OnlyLooks (D.state device.old) (D.state device.new) memory.now result }
+    ensures { FindsPointer (D.state device.old) (D.state device.new) memory.now number index
+        result }
 {
     if index > LAST_BLOCK {
         return Ok(0);

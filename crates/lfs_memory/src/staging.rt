@@ -6,7 +6,7 @@ ghost use Rattle.lfs_memory.specs.Present.{FailsFromDevice};
 ghost use Rattle.lfs_memory.specs.Lifting.{Prepares};
 ghost use Rattle.lfs_memory.specs.Preparing.{LacksRoom};
 ghost use Rattle.lfs_memory.specs.Batch.{room_for, room_for_edits};
-ghost use Rattle.lfs_memory.specs.Staging.{Loses, IsLossExcused, TakesBatch, RefusesBatch, IsBatchExcused, StagesTight, RefusesTight, RemovesTight, PreparesTight};
+ghost use Rattle.lfs_memory.specs.Staging.{Loses, IsLossExcused, TakesBatch, RefusesBatch, IsBatchExcused, EndsStaging, StagesTight, RefusesTight, RemovesTight, PreparesTight};
 
 use crate::applying::apply_batch;
 use crate::batch::{BlockEdit, HeaderEdit, Loss};
@@ -138,13 +138,8 @@ fn stage_loose<D: SectorDevice>(
     ensures refused { OnErr result
         (RefusesBatch (D.state device.old) (D.state device.new) memory.old
         memory.new changes.now.loss changes.now.headers.items changes.now.blocks.items) }
-    ensures full { IsErrOf result LogFault.Full → LacksRoom memory.old (room_for changes.now) }
-    ensures failed { IsErrOf result LogFault.Device
-        → IsBatchExcused (D.state device.old) (D.state device.new) memory.old changes.now.loss
-        changes.now.headers.items changes.now.blocks.items }
-    ensures other { IsErrOf result LogFault.Halted → ⊥ }
-    ensures no_failure { OnOk result ((D.state device.new).failures
-        ≡ (D.state device.old).failures) }
+    ensures ends { EndsStaging (D.state device.old) (D.state device.new) memory.old changes.now
+        result }
 {
     if !has_room(memory, changes) {
         return Err(LogFault::Full);
@@ -173,14 +168,9 @@ pub fn stage_tight<D: SectorDevice>(
         memory.new changes.now) }
     ensures refused { OnErr result (RefusesTight (D.state device.old) (D.state device.new)
         memory.old memory.new changes.now) }
-    ensures full { IsErrOf result LogFault.Full → LacksRoom memory.old (room_for changes.now) }
-    ensures failed { IsErrOf result LogFault.Device
-        → IsBatchExcused (D.state device.old) (D.state device.new) memory.old changes.now.loss
-        changes.now.headers.items changes.now.blocks.items }
-    ensures other { IsErrOf result LogFault.Halted → ⊥ }
+    ensures ends { EndsStaging (D.state device.old) (D.state device.new) memory.old changes.now
+        result }
     ensures few { length memory.new.dirty.blocks ≤ memory.new.dirty.capacity.limit }
-    ensures no_failure { OnOk result ((D.state device.new).failures
-        ≡ (D.state device.old).failures) }
 {
     let staged = stage_loose(device, memory, changes, counts);
     tighten(memory);

@@ -16,3 +16,4 @@ pub mod StaysEmptied
 pub mod EmptiedGained
 pub mod Spare
 pub mod Beginnings
+pub mod Once

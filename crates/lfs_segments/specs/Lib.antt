@@ -8,3 +8,4 @@ pub mod Victims
 pub mod Choosing
 pub mod Emptied
 pub mod Spare
+pub mod Once

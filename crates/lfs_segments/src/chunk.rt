@@ -5,6 +5,7 @@ ghost use Rattle.lfs_model.specs.Entry.{entries_in};
 ghost use Rattle.lfs_model.specs.Summary.{IsPlaced, summary_sector};
 ghost use Rattle.lfs_segments.specs.Table.{used_of, clean_in};
 ghost use Rattle.lfs_segments.specs.Steps.{Begins, GoesOn, Notes, TakesSegment};
+ghost use Rattle.lfs_segments.specs.Once.{EachOnce, WritesNothing, WritesTo};
 ghost use Rattle.lfs_segments.specs.Chunk.{IsOpenChunk, AsksOneWrite, IsUnkeptBy, StaysInPlace, TakesChunk, entries_of, due_in, summary_at};
 
 use crate::usage::Usage;
@@ -103,6 +104,8 @@ impl ChunkWriter {
         ensures segment { IfSome result (λ s. self.new.segment ≡ s) }
         ensures names { self.new.names ≡ [] }
         ensures opened { IfSome result (λ s. IsOpenChunk self.new usage.new) }
+        ensures behind { IfSome result (λ s. self.new.start ≡ used_of usage.old s) }
+        ensures once { IfSome result (λ s. WritesNothing usage.old usage.new self.old self.new) }
         ensures none { IfNone result ((s : ℕ) → s < length usage.old.segments
             → used_of usage.old s ≢ 0) }
         ensures same { IfNone result (usage.new ≡ usage.old) }
@@ -133,6 +136,7 @@ impl ChunkWriter {
         ensures place { StaysInPlace self.old self.new }
         ensures noted { Notes usage.old usage.new self.old.segment lives }
         ensures opened { IsOpenChunk self.new usage.new }
+        ensures once { WritesTo usage.old usage.new self.old self.new result }
     {
         self.names.push(name);
         usage.note(self.segment, lives);
@@ -164,6 +168,8 @@ impl ChunkWriter {
         ensures ended { OnOk result (self.new.names ≡ []) }
         ensures kept { OnErr result (self.new ≡ self.old) }
         ensures place { StaysInPlace self.old self.new }
+        ensures once { OnOk result (WritesTo usage.now usage.now self.old self.new
+            (summary_at self.old)) }
         ensures asks { AsksOneWrite (D.state device.old) (D.state device.new) result }
     {
         let summary = encode_summary(self.names.as_slice());
@@ -222,3 +228,9 @@ pub fn write<D: SectorDevice>(
         device.write_around(address, bytes)
     }
 }
+
+/// No sector is written twice since its segment was taken: a law of the steps of `begin`, `place`
+/// and `seal`, whichever of them come in turn.
+pub fn writes_each_sector_once()
+    ensures { EachOnce }
+{}

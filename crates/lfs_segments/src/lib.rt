@@ -13,6 +13,6 @@ mod usage;
 pub mod victims;
 
 pub use benefit::before;
-pub use chunk::{ChunkWriter, write};
+pub use chunk::{ChunkWriter, write, writes_each_sector_once};
 pub use state::{SegmentState, UsageBlock};
 pub use usage::Usage;

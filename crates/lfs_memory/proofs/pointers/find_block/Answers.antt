@@ -1,17 +1,18 @@
+use Rattle.std.proofs.Common.{rules}
 use Rattle.lfs_memory.proofs.PointerRuns.{kept_found, kept_some, run_still}
 use Rattle.lfs_memory.proofs.Presents.{looks_none}
 use Rattle.lfs_memory.proofs.pointers.find_block.Goals as goal
 
-pub returns-then-is_kept_for-clause-answer : goal.returns-then-is_kept_for-clause-answer
-returns-then-is_kept_for-clause-answer g c =
+pub returns-then-is_kept_for-clause-finds : goal.returns-then-is_kept_for-clause-finds
+returns-then-is_kept_for-clause-finds g c =
     let d = g.D.SectorDevice.state c.args.device.now in
-    kept_found d d c.args.memory.now c.args.kept.now c.args.number c.args.index c.kept_pointer.result
-    (looks_none d) c.requires.kept (c.is_kept_for.ensures c.if-is_kept_for.true) c.kept_pointer.ensures
-
-pub returns-then-is_kept_for-clause-some : goal.returns-then-is_kept_for-clause-some
-returns-then-is_kept_for-clause-some g c some =
-    kept_some (g.D.SectorDevice.state c.args.device.now) c.args.memory.now c.args.kept.now c.args.number c.args.index c.requires.kept
-    (c.is_kept_for.ensures c.if-is_kept_for.true)
+    let is = c.is_kept_for.ensures c.if-is_kept_for.true in
+    record {
+      answer = kept_found d d c.args.memory.now c.args.kept.now c.args.number c.args.index c.kept_pointer.result
+          (looks_none d) c.requires.kept is c.kept_pointer.ensures;
+      some = λ some. kept_some d c.args.memory.now c.args.kept.now c.args.number c.args.index c.requires.kept is;
+      looks = search rules;
+    }
 
 pub returns-clause-kept : goal.returns-clause-kept
 returns-clause-kept g c =

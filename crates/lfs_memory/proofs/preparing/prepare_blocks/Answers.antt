@@ -20,7 +20,7 @@ returns-in_err-prepare_block-clause-full g c is =
     (sym c.edit-item.is) c.loop-edit.invariant
     (g.D.SectorDevice.state c.prepare_block.new.device) c.prepare_block.new.memory c.prepare_block.ensures.prepares
     c.in_err-prepare_block.ensures.away
-    (c.in_err-prepare_block.ensures.short
+    (c.in_err-prepare_block.ensures.ends.short
     (passed_on c.from_residual.result c.in_err-prepare_block.field-0.0 _ c.from_residual.ensures is))
 
 pub returns-in_err-prepare_block-clause-failed : goal.returns-in_err-prepare_block-clause-failed
@@ -30,7 +30,7 @@ returns-in_err-prepare_block-clause-failed g c is =
     (g.met.D.SectorDevice.lawful c.args.device.now) (g.met.D.SectorDevice.lawful c.loop-edit.device) c.loop-edit-test.true
     (sym c.edit-item.is) c.loop-edit.invariant
     (g.D.SectorDevice.state c.prepare_block.new.device) c.prepare_block.new.memory c.prepare_block.ensures.prepares
-    (c.in_err-prepare_block.ensures.failed
+    (c.in_err-prepare_block.ensures.ends.failed
     (passed_on c.from_residual.result c.in_err-prepare_block.field-0.0 _ c.from_residual.ensures is))
 
 pub loop-edit-preserved : goal.loop-edit-preserved
@@ -40,5 +40,5 @@ loop-edit-preserved g c =
     (g.met.D.SectorDevice.lawful c.args.device.now) (g.met.D.SectorDevice.lawful c.loop-edit.device) c.loop-edit-test.true
     (sym c.edit-item.is) c.loop-edit.invariant
     (g.D.SectorDevice.state c.prepare_block.new.device) c.prepare_block.new.memory c.prepare_block.ensures.prepares
-    c.prepare_block.ensures.same c.in_ok-prepare_block.ensures.ready
-    c.in_ok-prepare_block.ensures.no_failure
+    c.prepare_block.ensures.same c.in_ok-prepare_block.ensures.ends.ready
+    c.in_ok-prepare_block.ensures.ends.no_failure

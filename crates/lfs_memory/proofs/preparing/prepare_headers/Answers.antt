@@ -17,7 +17,7 @@ returns-in_err-prepare_header-clause-failed g c is =
     c.loop-edit.memory c.args.edits.now c.loop-edit.edit-index c.edit-item.result
     (g.met.D.SectorDevice.lawful c.args.device.now) c.loop-edit-test.true (sym c.edit-item.is) c.loop-edit.invariant
     (g.D.SectorDevice.state c.prepare_header.new.device) c.prepare_header.new.memory
-    c.prepare_header.ensures.prepares (c.in_err-prepare_header.ensures.failed
+    c.prepare_header.ensures.prepares (c.in_err-prepare_header.ensures.ends.failed
     (passed_on c.from_residual.result c.in_err-prepare_header.field-0.0 _ c.from_residual.ensures is))
 
 pub loop-edit-preserved : goal.loop-edit-preserved
@@ -26,4 +26,4 @@ loop-edit-preserved g c =
     c.args.edits.now c.loop-edit.edit-index c.edit-item.result
     (g.met.D.SectorDevice.lawful c.args.device.now) c.loop-edit-test.true (sym c.edit-item.is) c.loop-edit.invariant
     (g.D.SectorDevice.state c.prepare_header.new.device) c.prepare_header.new.memory
-    c.prepare_header.ensures.prepares c.in_ok-prepare_header.ensures.ready c.in_ok-prepare_header.ensures.no_failure
+    c.prepare_header.ensures.prepares c.in_ok-prepare_header.ensures.ready c.in_ok-prepare_header.ensures.ends.no_failure

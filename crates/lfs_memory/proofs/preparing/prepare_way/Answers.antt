@@ -5,17 +5,27 @@ use Rattle.lfs_memory.proofs.Prepared.{absent_within, excused_within, way_high}
 use Rattle.lfs_memory.proofs.Going.{ok_then}
 use Rattle.lfs_memory.proofs.preparing.prepare_way.Goals as goal
 
-pub returns-in_err-found-clause-failed : goal.returns-in_err-found-clause-failed
-returns-in_err-found-clause-failed g c is =
-    excused_within (g.D.SectorDevice.state c.args.device.now) (g.D.SectorDevice.state c.lift_inode.new.device) c.args.memory.now
-    c.args.edit.now.number c.args.edit.now.index (c.in_err-found.ensures.ends.failed
-    (passed_on c.from_residual.result c.in_err-found.field-0.0 _ c.from_residual.ensures is))
+pub returns-in_err-found-clause-ends : goal.returns-in_err-found-clause-ends
+returns-in_err-found-clause-ends g c = record {
+  ready = search rules;
+  full = search rules;
+  short = search rules;
+  failed = λ is. excused_within (g.D.SectorDevice.state c.args.device.now) (g.D.SectorDevice.state c.lift_inode.new.device)
+      c.args.memory.now c.args.edit.now.number c.args.edit.now.index (c.in_err-found.ensures.ends.failed
+      (passed_on c.from_residual.result c.in_err-found.field-0.0 _ c.from_residual.ensures is));
+  no_failure = search rules;
+}
 
-pub returns-then-not-found-clause-failed : goal.returns-then-not-found-clause-failed
-returns-then-not-found-clause-failed g c _ =
-    absent_within (g.D.SectorDevice.state c.args.device.now) (g.D.SectorDevice.state c.lift_inode.new.device) c.args.memory.now
-    c.args.edit.now.number c.args.edit.now.index c.if-edit-lt-DIRECT_BLOCKS.false
-    (c.in_ok-found.ensures.absent (search rules))
+pub returns-then-not-found-clause-ends : goal.returns-then-not-found-clause-ends
+returns-then-not-found-clause-ends g c = record {
+  ready = search rules;
+  full = search rules;
+  short = search rules;
+  failed = λ is. absent_within (g.D.SectorDevice.state c.args.device.now) (g.D.SectorDevice.state c.lift_inode.new.device)
+      c.args.memory.now c.args.edit.now.number c.args.edit.now.index c.if-edit-lt-DIRECT_BLOCKS.false
+      (c.in_ok-found.ensures.absent (search rules));
+  no_failure = search rules;
+}
 
 pub returns-clause-prepares : goal.returns-clause-prepares
 returns-clause-prepares g c =
@@ -24,16 +34,18 @@ returns-clause-prepares g c =
     c.lift_inode.new.memory c.prepare_leaf.new.memory 1 2 (g.met.D.SectorDevice.lawful c.args.device.now) c.lift_inode.ensures.prepares
     c.prepare_leaf.ensures.prepares
 
-pub returns-clause-ready : goal.returns-clause-ready
-returns-clause-ready g c =
-    ok_then c.prepare_leaf.result _ _
-    (way_high c.prepare_leaf.new.memory c.args.edit.now.number c.args.edit.now.index c.if-edit-lt-DIRECT_BLOCKS.false)
-    c.prepare_leaf.ensures.inside
-
-pub returns-clause-failed : goal.returns-clause-failed
-returns-clause-failed g c is =
-    excused_within (g.D.SectorDevice.state c.args.device.now) (g.D.SectorDevice.state c.prepare_leaf.new.device) c.args.memory.now
-    c.args.edit.now.number c.args.edit.now.index
-    (prepares_excused (g.D.SectorDevice.state c.args.device.now) (g.D.SectorDevice.state c.lift_inode.new.device)
-    (g.D.SectorDevice.state c.prepare_leaf.new.device) c.args.memory.now
-    c.lift_inode.new.memory 1 c.lift_inode.ensures.prepares c.prepare_leaf.ensures.prepares.looks (c.prepare_leaf.ensures.ends.failed is))
+pub returns-clause-ends : goal.returns-clause-ends
+returns-clause-ends g c = record {
+  ready = ok_then c.prepare_leaf.result _ _
+      (way_high c.prepare_leaf.new.memory c.args.edit.now.number c.args.edit.now.index c.if-edit-lt-DIRECT_BLOCKS.false)
+      c.prepare_leaf.ensures.inside;
+  full = search rules;
+  short = search rules;
+  failed = λ is. excused_within (g.D.SectorDevice.state c.args.device.now) (g.D.SectorDevice.state c.prepare_leaf.new.device)
+      c.args.memory.now c.args.edit.now.number c.args.edit.now.index
+      (prepares_excused (g.D.SectorDevice.state c.args.device.now) (g.D.SectorDevice.state c.lift_inode.new.device)
+      (g.D.SectorDevice.state c.prepare_leaf.new.device) c.args.memory.now
+      c.lift_inode.new.memory 1 c.lift_inode.ensures.prepares c.prepare_leaf.ensures.prepares.looks
+      (c.prepare_leaf.ensures.ends.failed is));
+  no_failure = search rules;
+}

@@ -1,14 +1,20 @@
-use Rattle.std.proofs.Common.{List, subst}
+use Rattle.std.proofs.Common.{List, subst, rules}
 use Rattle.lfs_memory.specs.declared.batch.BlockEdit.{BlockEdit}
 use Rattle.lfs_memory.specs.declared.batch.HeaderEdit.{HeaderEdit}
 use Rattle.lfs_memory.specs.Staging.{IsBatchExcused}
 use Rattle.lfs_memory.proofs.staging.stage_loose.Goals as goal
 
-pub returns-in-Err-clause-failed : goal.returns-in-Err-clause-failed
-returns-in-Err-clause-failed g c is =
+pub returns-in-Err-clause-ends : goal.returns-in-Err-clause-ends
+returns-in-Err-clause-ends g c =
     let d = g.D.SectorDevice.state c.args.device.now in
     let d' = g.D.SectorDevice.state c.bring_and_apply.new.device in
-    subst (λ (bs : List BlockEdit). IsBatchExcused d d' c.args.memory.now c.args.changes.now.loss c.args.changes.now.headers.items bs)
-    c.as_slice-blocks.ensures.value
-    (subst (λ (hs : List HeaderEdit). IsBatchExcused d d' c.args.memory.now c.args.changes.now.loss hs c.as_slice-blocks.result.now)
-    c.as_slice-headers.ensures.value c.in-Err.ensures.failed)
+    record {
+      full = search rules;
+      failed = λ is. subst
+          (λ (bs : List BlockEdit). IsBatchExcused d d' c.args.memory.now c.args.changes.now.loss c.args.changes.now.headers.items bs)
+          c.as_slice-blocks.ensures.value
+          (subst (λ (hs : List HeaderEdit). IsBatchExcused d d' c.args.memory.now c.args.changes.now.loss hs c.as_slice-blocks.result.now)
+          c.as_slice-headers.ensures.value c.in-Err.ensures.failed);
+      other = search rules;
+      no_failure = search rules;
+    }

@@ -81,4 +81,4 @@ returns-in-Err-clause-failed g c is =
       totals = c.self.inside.totals;
     } in
     subst (λ (h : LogState g.row.D.Denot). IsStageFault g.D.SectorDevice.state h (seen after) c.args.changes.now) c.self.view_is
-    (is_stage_fault g.D.SectorDevice.state before after c.args.changes.now (c.in-Err.ensures.failed is))
+    (is_stage_fault g.D.SectorDevice.state before after c.args.changes.now (c.in-Err.ensures.ends.failed is))
