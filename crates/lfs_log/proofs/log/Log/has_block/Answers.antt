@@ -22,8 +22,8 @@ returns-in_default-clause-keeps g c =
     subst (λ (h : LogState g.row.D.Denot).
     ReadsLog g.D.SectorDevice.state h (seen (record before { device = c.find_block.new.device })) (device_fails Bool))
     c.self.view_is
-    (looked_fails g.D.SectorDevice.state before c.find_block.new.device c.find_block.ensures.looks.looks Bool
-    c.in_default.ensures.looks.failed)
+    (looked_fails g.D.SectorDevice.state before c.find_block.new.device c.find_block.ensures.finds.looks.looks Bool
+    c.in_default.ensures.finds.looks.failed)
 
 pub returns-clause-answer : goal.returns-clause-answer
 returns-clause-answer g c =
@@ -50,4 +50,4 @@ returns-clause-answer g c =
     subst (λ (h : LogState g.row.D.Denot).
     TellsBlock g.D.SectorDevice.state h (seen after) c.args.number c.args.index (not (c.in-Ok.address == 0)))
     c.self.view_is
-    (tells_block g.D.SectorDevice.state before after c.args.number c.args.index c.in-Ok.address c.in-Ok.ensures.answer)
+    (tells_block g.D.SectorDevice.state before after c.args.number c.args.index c.in-Ok.address c.in-Ok.ensures.finds.answer)
