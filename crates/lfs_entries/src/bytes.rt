@@ -25,9 +25,9 @@ pub fn draft_bytes<F: Files>(
     at: u32,
     bytes: &[u8],
 ) -> Result<(), EntryFault>
+    requires alone { IsLoneWrite (F.state files.old) bytes.now }
     requires bytes { 0 < length bytes.now }
     requires end { at + length bytes.now ≤ LARGEST_FILE }
-    requires alone { IsLoneWrite (F.state files.old) bytes.now }
     ensures only { DraftsOnly (F.state files.old) (F.state files.new) result }
     ensures done { OnOk result (DraftsBytes (F.state files.old) (F.state files.new) number.value at
         bytes.now) }
