@@ -21,9 +21,7 @@ pub record Held (D : Type 0) : Type 0 where
   pub halted : Bool
   pub totals : BlockTotals
 
--- How much is unsaved: nothing where all of the log is saved. Else the blocks that no checkpoint leads to yet, and one at least, as a file
--- that is gone has none: blocks of files in memory, those that were written between commits, and one for a version that was raised, the
--- checkpoint's.
+-- how much is unsaved, as `unsaved_by` of the log's state says it
 abbrev pub unsaved_in : {D : Type 0} → Held D → ℕ
 unsaved_in h =
     cond h.saved 0 (max 1 (length h.memory.dirty.blocks + early_in h.memory.usage.segments + cond h.upgraded 1 0))

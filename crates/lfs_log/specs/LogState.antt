@@ -1,5 +1,5 @@
 -- What the layers above see of a log: numbers, and the log maps that it holds.
-use Rattle.std.specs.Prelude.{◌≡◌, ◌⊎◌, ◌<◌, ◌≤◌, ◌+◌, ◌-◌, ◌*◌, ◌^◌, ◌||◌, cond, ℕ, Bool, true, false, List}
+use Rattle.std.specs.Prelude.{◌≡◌, ◌⊎◌, ◌<◌, ◌≤◌, ◌+◌, ◌-◌, ◌*◌, ◌^◌, ◌||◌, cond, max, ℕ, Bool, true, false, List}
 use Rattle.std.specs.Prelude.{length, Option, None, Result, OnErr, IsErrOf}
 use Rattle.lfs_model.specs.declared.limits.TheConstants.{FILE_NUMBERS, MOST_UNSAVED}
 use Rattle.lfs_model.specs.Checkpoint.{CheckpointValue}
@@ -22,7 +22,7 @@ use Rattle.lfs_memory.specs.Memory.{IsMemory, IsLog}
 use Rattle.lfs_memory.specs.Present.{Looks, HeaderAnswer, BlockAnswer}
 use Rattle.lfs_memory.specs.Removing.{without_file}
 use Rattle.lfs_memory.specs.inodes.MapValue.{IsMap}
-use Rattle.lfs_memory.specs.segments.Early.{AreUntaken}
+use Rattle.lfs_memory.specs.segments.Early.{AreUntaken, early_in}
 use Rattle.lfs_memory.specs.segments.Table.{UsageTable, clean_in}
 use Rattle.lfs_verify.specs.declared.totals.BlockTotals.{BlockTotals}
 use Rattle.lfs_log.specs.Early.{full_chunk}
@@ -67,6 +67,12 @@ pub record IsAtRest {D : Type 0} (h : LogState D) : Type 0 where
   pub nothing : AreAllSaved h
   pub untaken : AreUntaken h.usage
   pub many : h.segments ≤ 8 * h.clean
+
+-- How much is unsaved: nothing where all of the log is saved. Else the blocks that no checkpoint leads to yet, and one at least, as a file
+-- that is gone has none: blocks of files in memory, those that were written between commits, and one for a version that was raised, the
+-- checkpoint's.
+abbrev pub unsaved_by : {D : Type 0} → LogState D → ℕ
+unsaved_by h = cond h.saved 0 (max 1 (h.waiting + early_in h.usage.segments + cond h.upgraded 1 0))
 
 -- how many checkpoints are to be written before all is saved
 abbrev pub commits_due : {D : Type 0} → LogState D → ℕ

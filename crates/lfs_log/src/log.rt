@@ -82,7 +82,7 @@ impl<D: SectorDevice> Log<D> {
     ghost use Rattle.lfs_log.specs.Early.{full_chunk};
     ghost use Rattle.lfs_log.specs.Thresholds.{HasReserve, LacksReserve, reserve_of};
     ghost use Rattle.lfs_log.specs.Mounting.{OpenedLog, OpensLog};
-    ghost use Rattle.lfs_log.specs.LogState.{Saves, Halts, Reads, ReadsHeader, ReadsBlock, TellsBlock, TellsLeaf, TellsDouble, CountsBlocks, IsReadFault, IsFull, IsVacant, HasAll, IsStaged, IsRefused, IsStageFault, IsRemoved, IsKept, IsWhole, HoldsOne, AreAllSaved, WritesEarly, ReadsLog};
+    ghost use Rattle.lfs_log.specs.LogState.{Saves, Halts, Reads, ReadsHeader, ReadsBlock, TellsBlock, TellsLeaf, TellsDouble, CountsBlocks, IsReadFault, IsFull, IsVacant, HasAll, IsStaged, IsRefused, IsStageFault, IsRemoved, IsKept, IsWhole, HoldsOne, AreAllSaved, WritesEarly, ReadsLog, unsaved_by};
 
     /// The volume that the newest checkpoint of the device leads to, with the totals of its files;
     /// else why there is none, and the device. All that the checkpoint leads to is walked over
@@ -237,7 +237,8 @@ impl<D: SectorDevice> Log<D> {
     /// memory or written where the acknowledged checkpoint doesn't reach, and its own where the
     /// version was raised, and 1 at least.
     pub fn unsaved(&self) -> usize
-        ensures { result ≡ self.now.unsaved }
+        ensures value { result ≡ self.now.unsaved }
+        ensures counted { result ≡ unsaved_by self.now }
     {
         if self.saved {
             return 0;
