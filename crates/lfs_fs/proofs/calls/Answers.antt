@@ -33,7 +33,8 @@ use Rattle.lfs_fs.specs.Refusals.{refusal_of}
 use Rattle.lfs_fs.specs.Seen.{Begins, seen}
 use Rattle.lfs_fs.specs.Volume.{IsIn, Mounted, Serves, segments_of}
 use Rattle.lfs_fs.proofs.calls.AnyDevice.{IsOrdinary}
-use Rattle.lfs_fs.proofs.calls.Files.{Explains, IsBegun, Rose, begun_after, fault_serves, only, rose_where, told, unanswered, was, with_store}
+use Rattle.lfs_fs.proofs.calls.Files.{Explains, IsBegun, Rose, begun_after, fault_serves, only, rose_where, told, unanswered, was}
+use Rattle.lfs_fs.proofs.calls.Files.{with_store}
 use Rattle.lfs_fs.proofs.calls.Reads.{memory_serves}
 use Rattle.lfs_fs.proofs.calls.StoreCalls.{ends_refused}
 use Rattle.lfs_fs.proofs.paths.Later.{later_refused}
@@ -182,7 +183,8 @@ module _ {D : Type 0} {state : D → DeviceState} (lawful : (d : D) → IsLawful
       header = known lawful begun store reads (λ m m' keeps has. header m m' keeps has tt);
     }
 
-    pub unlooked : {call : Call} → never_for_device call ≡ false → (e : LogFault) → (e ≡ log.Halted → (files_of state f.store).halted ≡ true)
+    pub unlooked : {call : Call} → never_for_device call ≡ false → (e : LogFault)
+        → (e ≡ log.Halted → (files_of state f.store).halted ≡ true)
         → (e ≡ log.Full → ⊥) → TellsFault (files_of state f.store) (files_of state store) (HasObject n)
         → Serves state v (seen (with_store f store)) call (Refuse (refusal_of (error_of_log e)))
     unlooked free e halted other = log_fails lawful (begun_with state reached) store reads object_there free e halted other

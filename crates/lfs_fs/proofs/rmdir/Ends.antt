@@ -46,7 +46,8 @@ use Rattle.lfs_steps.proofs.old_entries.Dropping.{MayGo}
 use Rattle.lfs_fs.proofs.old_entries.Drops.{drop_ends}
 use Rattle.lfs_fs.proofs.old_entries.Explained.{plain_so}
 use Rattle.lfs_steps.proofs.old_entries.Steps.{gone}
-use Rattle.lfs_steps.proofs.paths.Named.{IsReached, gives_is, has_piece, holder, kind_is, last_dots_is, long_is, range_n, short_is, target_is}
+use Rattle.lfs_steps.proofs.paths.Named.{IsReached, gives_is, has_piece, holder, kind_is, last_dots_is, long_is, range_n, short_is}
+use Rattle.lfs_steps.proofs.paths.Named.{target_is}
 use Rattle.lfs_steps.proofs.paths.Named.{there_is}
 use Rattle.lfs_steps.proofs.rmdir.Steps.{rmdir_done, rmdir_dots, rmdir_full, rmdir_long, rmdir_missing, rmdir_plain}
 use Rattle.lfs_steps.proofs.volume.Directories.{size_of_directory}

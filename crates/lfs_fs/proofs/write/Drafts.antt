@@ -91,7 +91,8 @@ module _ {D : Type 0} (state : D → DeviceState) (lawful : (d : D) → IsLawful
     write_makes : DraftsBytes a b n at w → Counts a b
         → InEach state lawful v f begun store (Makes state lawful v f begun store redrafts (Pwrite h at w) refl refl refl refl)
     write_makes drafts counts k m0 m s keeps is =
-        let there : HasHeader n drafts.head m = told state lawful v f begun store (HasHeader n drafts.head) drafts.header k m0 m s keeps is in
+        let there : HasHeader n drafts.head m =
+        told state lawful v f begun store (HasHeader n drafts.head) drafts.header k m0 m s keeps is in
         let here : a.has m m = has_now state lawful v f begun k m0 m s is in
         let done : HasWritten b m m n drafts.head (resized drafts.head (max drafts.head.size (at + length w))) at w =
         drafts.writes.file m m keeps here in
@@ -126,10 +127,12 @@ module _ {D : Type 0} (state : D → DeviceState) (lawful : (d : D) → IsLawful
     cut_makes : DraftsLength a b n len → Counts a b
         → InEach state lawful v f begun store (Makes state lawful v f begun store redrafts (Truncate h len) refl refl refl refl)
     cut_makes drafts counts k m0 m s keeps is =
-        let there : HasHeader n drafts.head m = told state lawful v f begun store (HasHeader n drafts.head) drafts.header k m0 m s keeps is in
+        let there : HasHeader n drafts.head m =
+        told state lawful v f begun store (HasHeader n drafts.head) drafts.header k m0 m s keeps is in
         let here : a.has m m = has_now state lawful v f begun k m0 m s is in
         let done : HasSized b m m n drafts.head (resized drafts.head len) len = drafts.sets.file m m keeps here in
-        let after = shortened_map (segments_of v) m done.map s h n (map k m0 m s is) (file k m0 m s is) drafts.head there len done.file end in
+        let after =
+        shortened_map (segments_of v) m done.map s h n (map k m0 m s is) (file k m0 m s is) drafts.head there len done.file end in
         let counted = counts m m done.map keeps here done.has is.map after.map (counted_now state lawful v f begun k m0 m s is) in
         let room = room_shaped totals_of_tree (segments_of v) done.map (with_tree s (shortened (segments_of v) s h len)) after
         (shortened_shape (segments_of v) m done.map s h n (map k m0 m s is) (file k m0 m s is) drafts.head there len done.file end
@@ -188,7 +191,8 @@ module _ {D : Type 0} (state : D → DeviceState) (lawful : (d : D) → IsLawful
             → (IsErrOf drafted (fault.Log log.Full) → ⊥) → OnOk drafted (DraftsLength a b n len)
             → Serves state v (seen new) (Truncate h len) (answer_by (λ _. Done) result)
         by (Ok done) finishes counts failed halted other drafts =
-            finish_ends state lawful v f begun store redrafts (Truncate h len) refl refl refl refl (cut_makes len end drafts counts) new rest
+            finish_ends state lawful v f begun store redrafts (Truncate h len) refl refl refl refl
+            (cut_makes len end drafts counts) new rest
             Done refl (λ k m0 m s keeps is. (refl, is.handles)) result finishes
         by (Err why) finishes counts failed halted other drafts = undone (Truncate h len) refl refl refl new Done result why finishes failed
             (λ same. halted (ap Err same)) (λ same. other (ap Err same))
