@@ -1,7 +1,8 @@
 -- Names and links as they are drafted.
-use Rattle.std.proofs.Common.{◌≡◌, ◌<◌, ℕ, true, false, List, Some, refl, sym, subst, arith}
+use Rattle.std.proofs.Common.{◌≡◌, ◌<◌, ◌*◌, ℕ, true, false, List, Some, refl, sym, subst, arith}
 use Rattle.lfs_model.specs.Changing.{IsWithHeader}
 use Rattle.lfs_model.specs.Stands.{LogMap}
+use Rattle.lfs_model.specs.Tree.{slot_len}
 use Rattle.lfs_files.specs.declared.fault.StoreFault.{StoreFault}
 use Rattle.lfs_files.specs.declared.fault.StoreFault.TheVariants as store
 use Rattle.lfs_files.specs.declared.header.Header.{Header}
@@ -15,6 +16,7 @@ use Rattle.lfs_path.specs.Telling.{TellsFault}
 use Rattle.lfs_entries.specs.Drafting.{HasNamed, Relinks}
 use Rattle.lfs_entries.specs.Faults.{fault_of_store}
 use Rattle.lfs_entries.specs.Telling.{FailsAt, FailsWhere}
+use Rattle.lfs_entries.specs.Widening.{MayWiden}
 
 -- ---- faults
 
@@ -32,6 +34,15 @@ module _ {S D : Type 0} (s s' : FilesState S D) where
 
   pub never_lacks : (d : ℕ) (head : Header) (name : List ℕ) → Lacks s s' d head name → TellsFault s s' (HasNamed d head name)
   never_lacks d head name lacks m m' keeps has is = absurd (is.there (lacks m m' keeps has))
+
+  -- and of what drafts a directory anew; none of a volume is too large
+  pub fails_wide : (d : ℕ) (head : Header) (f : StoreFault) → ((f ≡ store.NoMemory → ⊥) → IsDirectoryFault s s' d head)
+      → FailsWhere s s' (MayWiden d head) (fault_of_store f)
+  fails_wide d head store.NoMemory failed = tt
+  fails_wide d head (store.Log f) failed = λ m m' keeps has may. failed (λ same. cc) m m' keeps has may.formed
+
+  pub never_large : (d : ℕ) (head : Header) → 1024 * slot_len head.form < head.size → TellsFault s s' (MayWiden d head)
+  never_large d head large m m' keeps has may = absurd (let small = may.small in omega (arith, small, large))
 
 -- ---- other links
 

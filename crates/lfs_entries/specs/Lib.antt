@@ -16,3 +16,4 @@ pub mod Reading
 pub mod Moving
 pub mod Rows
 pub use Rattle.lfs_path.specs as path
+pub mod Widening

@@ -19,6 +19,7 @@ mod renaming;
 mod replacing;
 mod rows;
 mod sizes;
+mod widening;
 
 pub use bytes::{draft_bytes, draft_length};
 pub use entry::{Entry, Object, is_directory};
@@ -35,4 +36,4 @@ pub use old_name::drop_entry;
 pub use reading::{read_head, read_link, read_object};
 pub use renaming::check_rename;
 pub use rows::{ListedEntry, TreeRow};
-pub use sizes::is_too_large;
+pub use widening::draft_wide;

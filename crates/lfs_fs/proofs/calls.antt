@@ -4,7 +4,6 @@ pub mod DraftSizes
 pub mod Drafts
 pub mod Exits
 pub mod Files
-pub mod Looks
 pub mod Reads
 pub mod Steps
 pub mod StoreCalls

@@ -1,16 +1,11 @@
 -- What contracts see of a volume's value, and the answers of its calls.
-use Rattle.std.specs.Prelude.{◌≡◌, ◌⊎◌, ◌<◌, ℕ, true, false, Some, None, Result, Ok, Err}
+use Rattle.std.specs.Prelude.{◌≡◌, ℕ, false, None, Result, Ok, Err}
 use Rattle.std.specs.Ordering.{nat_cmp}
 use Rattle.std.specs.FinMap.{find}
 use Rattle.lfs_model.specs.Call.{Answer, Refuse}
 use Rattle.lfs_model.specs.Device.{DeviceState}
-use Rattle.lfs_store.specs.log.LogState.{Holds}
-use Rattle.lfs_model.specs.Checkpoint.{CheckpointValue}
-use Rattle.lfs_model.specs.Stands.{LogMap}
 use Rattle.lfs_model.specs.Tree.{Handles}
-use Rattle.lfs_files.specs.declared.header.Header.{Header}
-use Rattle.lfs_store.specs.memory.Present.{as_header}
-use Rattle.lfs_store.specs.StoreState.{IsEmpty, draft_of, drafted_of, volume_of, with_draft}
+use Rattle.lfs_store.specs.StoreState.{IsEmpty, draft_of, drafted_of, volume_of}
 use Rattle.lfs_fs.specs.declared.error.FsError.{FsError}
 use Rattle.lfs_fs.specs.declared.error.FsError.TheVariants as error
 use Rattle.lfs_fs.specs.declared.fs.Fs.{Fs}
@@ -46,17 +41,3 @@ pub record Begins {D : Type 0} (old new : Fs D) : Type 0 where
 -- why a handle gives no file: it isn't open
 abbrev pub GivesNone : Handles → ℕ → FsError → Type 0
 GivesNone table handle fault = (fault ≡ error.BadHandle) × (find nat_cmp handle table ≡ None)
-
-module _ {D : Type 0} (state : D → DeviceState) where
-  -- the header of an object, where the log holds a log map
-  abbrev pub HasHeader : Fs D → Fs D → ℕ → Header → Type 0
-  HasHeader old new n header = (k : CheckpointValue) (m0 m : LogMap) → (state (seen new).log.device).keeps_model
-      → Holds state (seen old).log k m0 m → (with_draft (draft_of old.store) m).header n ≡ Some (as_header header)
-
-  -- why there is none: a commit failed; or a call of the device did, or no object has the number
-  abbrev pub LacksHeader : Fs D → Fs D → ℕ → FsError → Type 0
-  LacksHeader old new n fault = ((fault ≡ error.Halted) × ((seen old).log.halted ≡ true))
-      ⊎ ((fault ≡ error.Device)
-      × ((k : CheckpointValue) (m0 m : LogMap) → (state (seen new).log.device).keeps_model → Holds state (seen old).log k m0 m
-      → ((state (seen old).log.device).failures < (state (seen new).log.device).failures)
-      ⊎ ((with_draft (draft_of old.store) m).header n ≡ None)))

@@ -6,7 +6,7 @@ ghost use Rattle.lfs_model.specs.declared.limits.TheConstants.{MOST_HANDLES};
 ghost use Rattle.lfs_store.specs.cleaner.Room.{IsAtRest, room_orders};
 ghost use Rattle.lfs_store.specs.StoreState.{asked_by, draft_of};
 ghost use Rattle.lfs_fs.specs.Accepting.{StagesDraft, TurnsDown};
-ghost use Rattle.lfs_fs.specs.Seen.{Begins, GivesNone, HasHeader, LacksHeader, OnlyReads, seen};
+ghost use Rattle.lfs_fs.specs.Seen.{Begins, GivesNone, seen};
 
 use crate::error::FsError;
 use crate::handles::Handles;
@@ -14,7 +14,7 @@ use crate::rows::Space;
 use lfs_device::SectorDevice;
 use lfs_model::FileNumber;
 use lfs_model::limits::{LEAST_NEED, NEED_OF_META, NEED_OF_SEGMENT};
-use lfs_store::{BlockTotals, Header, Store};
+use lfs_store::{BlockTotals, Store};
 use std::alloc::Global;
 
 /// From this checkpoint number on nothing is changed.
@@ -51,21 +51,6 @@ impl<D: SectorDevice> Fs<D> {
         ensures missing { IfErr result (GivesNone self.now.handles handle) }
     {
         self.handles.get(handle).ok_or(FsError::BadHandle)
-    }
-
-    /// The header of an object that is there.
-    pub(crate) fn header(&mut self, number: FileNumber) -> Result<Header, FsError>
-        ensures reads { OnlyReads D.SectorDevice.state self.old self.new }
-        ensures answer { IfOk result (λ header. HasHeader D.SectorDevice.state self.old self.new
-            number.value header) }
-        ensures missing { IfErr result (λ fault. LacksHeader D.SectorDevice.state self.old self.new
-            number.value fault) }
-    {
-        match self.store.header(number) {
-            Ok(Some(header)) => Ok(header),
-            Ok(None) => Err(FsError::Device),
-            Err(fault) => Err(FsError::from(fault)),
-        }
     }
 
     /// Refuses a change past the last checkpoint number at which the volume is changed.

@@ -1,18 +1,19 @@
 //! Calls by which an old volume moves over: its version is raised, and its directories take longer
 //! names.
-ghost use Rattle.std.specs.Prelude.{◌≡◌, ℕ, List, false};
+ghost use Rattle.std.specs.Prelude.{◌≡◌, ℕ, List, true, false};
 ghost use Rattle.lfs_model.specs.Call.{Done, Upgrade, Widen};
+ghost use Rattle.lfs_fs.specs.Reading.{ReachesObject};
 ghost use Rattle.lfs_fs.specs.Seen.{IsReady, answer_by, seen};
-ghost use Rattle.lfs_fs.specs.Upgrading.{ReachesNarrow, ReachesWhole};
+ghost use Rattle.lfs_fs.specs.Upgrading.{ReachesNarrow};
 ghost use Rattle.lfs_fs.specs.Volume.{Mounted, Serves};
 
 use crate::error::FsError;
 use crate::fs::Fs;
 use lfs_device::SectorDevice;
-use lfs_entries::{is_directory, is_too_large};
+use lfs_entries::{draft_wide, is_directory};
 use lfs_files::FIRST_FORM;
 use lfs_model::FileNumber;
-use lfs_path::dirs::widen;
+use lfs_path::header_of;
 use lfs_store::Header;
 
 impl<D: SectorDevice> Fs<D> {
@@ -53,11 +54,11 @@ impl<D: SectorDevice> Fs<D> {
     fn widen_at(&mut self, number: FileNumber) -> Result<(), FsError>
         requires ready { IsReady self.old }
         ensures { (v : Mounted D) (path : List ℕ)
-            → ReachesWhole D.SectorDevice.state v self.old path number.value
+            → ReachesObject D.SectorDevice.state v self.old path true number.value
             → Serves D.SectorDevice.state v (seen self.new) (Widen path)
             (answer_by (λ _. Done) result) }
     {
-        let header = self.header(number)?;
+        let header = header_of(&mut self.store, number)?;
         if !is_directory(header.kind) {
             return Err(FsError::NotDir);
         }
@@ -78,15 +79,7 @@ impl<D: SectorDevice> Fs<D> {
             → Serves D.SectorDevice.state v (seen self.new) (Widen path)
             (answer_by (λ _. Done) result) }
     {
-        if is_too_large(header) {
-            return Err(FsError::Device);
-        }
-        match widen(self.alloc, &mut self.store, number, header) {
-            Ok(()) => self.accept(),
-            Err(fault) => {
-                self.store.give_up();
-                Err(FsError::from(fault))
-            }
-        }
+        let drafted = draft_wide(self.alloc, &mut self.store, number, header);
+        self.finish(drafted)
     }
 }

@@ -33,7 +33,8 @@ use Rattle.lfs_fs.specs.Refusals.{refusal_of}
 use Rattle.lfs_fs.specs.Seen.{Begins, seen}
 use Rattle.lfs_fs.specs.Volume.{IsIn, Mounted, Serves, segments_of}
 use Rattle.lfs_fs.proofs.calls.AnyDevice.{IsOrdinary}
-use Rattle.lfs_fs.proofs.calls.Files.{Explains, IsBegun, Rose, begun_after, fault_serves, only, rose_where, told, was, with_store}
+use Rattle.lfs_fs.proofs.calls.Files.{Explains, IsBegun, Rose, begun_after, fault_serves, only, rose_where, told, unanswered, was}
+use Rattle.lfs_fs.proofs.calls.Files.{with_store}
 use Rattle.lfs_fs.proofs.calls.Reads.{memory_serves}
 use Rattle.lfs_fs.proofs.calls.StoreCalls.{ends_refused}
 use Rattle.lfs_fs.proofs.paths.Later.{later_refused}
@@ -98,6 +99,21 @@ module _ {D : Type 0} {state : D → DeviceState} (lawful : (d : D) → IsLawful
     pub known : {P : LogMap → Type 0} → telling.InEach (files_of state f.store) (files_of state store) P → In state v new (λ m s. P m)
     known {P = P} = told state lawful v f begun store P
 
+    -- a call of the device failed where something is so that is so in each state
+    pub rises : {P : LogMap → Type 0} → In state v f (λ m s. P m) → TellsFault (files_of state f.store) (files_of state store) P
+        → In state v new (λ m s. Rose state lawful v f begun store)
+    rises {P = P} each why k m0 m s keeps is =
+        rose_where state lawful v f begun store (only state lawful v f begun store reads).still P why k m0 m s keeps is
+        (later (λ m s. P m) each k m0 m s keeps is)
+
+    -- so a fault of the log refuses a call
+    pub log_fails : {P : LogMap → Type 0} → In state v f (λ m s. P m) → {call : Call} → never_for_device call ≡ false → (e : LogFault)
+        → (e ≡ log.Halted → (files_of state f.store).halted ≡ true) → (e ≡ log.Full → ⊥)
+        → TellsFault (files_of state f.store) (files_of state store) P
+        → Serves state v (seen new) call (Refuse (refusal_of (error_of_log e)))
+    log_fails {P = P} each {call = call} free e halted other why = unanswered state lawful v f begun store
+        (only state lawful v f begun store reads).still call free e halted other (rises {P = P} each why)
+
     module _ {call : Call} (quiet : IsQuiet call) where
       abbrev pub IsWhy : EntryFault → Type 0
       IsWhy e = In state v new (λ m s. Explains call (segments_of v) s (Rose state lawful v f begun store) e)
@@ -106,20 +122,13 @@ module _ {D : Type 0} {state : D → DeviceState} (lawful : (d : D) → IsLawful
       fails explains e halted other why = fault_serves state lawful v f begun store (only state lawful v f begun store reads).still call
           quiet.free quiet.unclean quiet.memory e halted other (explains e why)
 
-      -- a call of the device failed where something is so that is so in each state
-      pub rises : {P : LogMap → Type 0} → In state v f (λ m s. P m) → (x : LogFault)
-          → TellsFault (files_of state f.store) (files_of state store) P → IsWhy (fault.Log x)
-      rises {P = P} each x why k m0 m s keeps is =
-          rose_where state lawful v f begun store (only state lawful v f begun store reads).still P why k m0 m s keeps is
-          (later (λ m s. P m) each k m0 m s keeps is)
-
       pub fails_where : {P : LogMap → Type 0} → In state v f (λ m s. P m)
           → Fails state v f store call (FailsWhere (files_of state f.store) (files_of state store) P)
       fails_where {P = P} each = fails by
         where
           by : (e : EntryFault) → FailsWhere (files_of state f.store) (files_of state store) P e → IsWhy e
           by fault.NoMemory any k m0 m s keeps is = tt
-          by (fault.Log x) failed k m0 m s keeps is = rises {P = P} each x failed k m0 m s keeps is
+          by (fault.Log x) failed k m0 m s keeps is = rises {P = P} each failed k m0 m s keeps is
           by other never k m0 m s keeps is = absurd never
 
 -- ---- a path is walked to its object
@@ -174,8 +183,8 @@ module _ {D : Type 0} {state : D → DeviceState} (lawful : (d : D) → IsLawful
       header = known lawful begun store reads (λ m m' keeps has. header m m' keeps has tt);
     }
 
-    pub unlooked : {call : Call} → IsQuiet call → (e : LogFault) → (e ≡ log.Halted → (files_of state f.store).halted ≡ true)
+    pub unlooked : {call : Call} → never_for_device call ≡ false → (e : LogFault)
+        → (e ≡ log.Halted → (files_of state f.store).halted ≡ true)
         → (e ≡ log.Full → ⊥) → TellsFault (files_of state f.store) (files_of state store) (HasObject n)
         → Serves state v (seen (with_store f store)) call (Refuse (refusal_of (error_of_log e)))
-    unlooked quiet e halted other = fails_where lawful (begun_with state reached) store reads quiet object_there (fault.Log e)
-        (λ same. halted (let is : e ≡ log.Halted = cc in is)) (λ same. other (let is : e ≡ log.Full = cc in is))
+    unlooked free e halted other = log_fails lawful (begun_with state reached) store reads object_there free e halted other

@@ -1,7 +1,7 @@
 -- Calls over files, as the model's steps: what is told of each log map,
 -- in each state that the volume may be in; and what becomes of a draft.
 use Rattle.std.proofs.Common.{◌≡◌, ◌<◌, ◌≤◌, ◌+◌, ◌*◌, ℕ, true, false, List, Option, Some, None, Result, refl, sym, ◌∙◌, subst}
-use Rattle.std.proofs.Common.{inl, arith}
+use Rattle.std.proofs.Common.{ap, inl, arith}
 use Rattle.lfs_model.specs.Call.{Answer, Call, Refuse, changes, cleans, is_ok, never_for_device, takes_no_memory}
 use Rattle.lfs_model.specs.Checkpoint.{CheckpointValue}
 use Rattle.lfs_model.specs.Device.{DeviceState, IsLawful}
@@ -13,6 +13,7 @@ use Rattle.lfs_model.specs.Step.{Step, no_last}
 use Rattle.lfs_model.specs.Totals.{IsCounted}
 use Rattle.lfs_model.specs.Tree.{Handles, State}
 use Rattle.lfs_model.specs.Walk.{At, Parent}
+use Rattle.lfs_files.specs.declared.fault.LogFault.{LogFault}
 use Rattle.lfs_files.specs.declared.fault.LogFault.TheVariants as log
 use Rattle.lfs_files.specs.Files as files
 use Rattle.lfs_files.specs.Files.{AreCounted}
@@ -30,7 +31,7 @@ use Rattle.lfs_entries.specs.Telling as telling
 use Rattle.lfs_fs.specs.declared.error.FsError.{FsError}
 use Rattle.lfs_fs.specs.declared.fs.Fs.{Fs}
 use Rattle.lfs_fs.specs.Accepting.{StagesDraft, TurnsDown, need_of}
-use Rattle.lfs_fs.specs.Faults.{error_of_entry}
+use Rattle.lfs_fs.specs.Faults.{error_of_entry, error_of_log}
 use Rattle.lfs_fs.specs.Finishing.{EndsDraft, GivesUp}
 use Rattle.lfs_fs.specs.Naming.{Reaches}
 use Rattle.lfs_fs.specs.Refusals.{refusal_of}
@@ -160,6 +161,15 @@ module _ {D : Type 0} (state : D → DeviceState) (lawful : (d : D) → IsLawful
           let before = begun.still.reads.looks.carries.failures in
           omega (arith, rose, before)
 
+      -- the log gave no answer
+      pub unanswered : (call : Call) → never_for_device call ≡ false → (e : LogFault)
+          → (e ≡ log.Halted → (files_of state f.store).halted ≡ true) → (e ≡ log.Full → ⊥) → InEach (λ m s. Rose)
+          → Serves state v (seen after) call (Refuse (refusal_of (error_of_log e)))
+      unanswered call free log.Device halted other each =
+          failed_serves state v (seen after) call (lawful v.log.device) still_after was free each
+      unanswered call free log.Halted halted other each = absurd (let on = halted refl in let off = begun.ready.running in cc)
+      unanswered call free log.Full halted other each = absurd (other refl)
+
       module _ (call : Call) (free : never_for_device call ≡ false) (unclean : cleans call ≡ false)
           (memory : takes_no_memory call ≡ false) where
         -- the model refuses the call
@@ -188,10 +198,8 @@ module _ {D : Type 0} (state : D → DeviceState) (lawful : (d : D) → IsLawful
         fault_serves fault.DirFull halted other each = refused_after refusals.DirFull tt each
         fault_serves fault.NoMemory halted other each =
             memory_serves state v (seen after) call (lawful v.log.device) still_after was memory
-        fault_serves (fault.Log log.Device) halted other each =
-            failed_serves state v (seen after) call (lawful v.log.device) still_after was free each
-        fault_serves (fault.Log log.Halted) halted other each = absurd (let on = halted refl in let off = begun.ready.running in cc)
-        fault_serves (fault.Log log.Full) halted other each = absurd (other refl)
+        fault_serves (fault.Log e) halted other each =
+            unanswered call free e (λ same. halted (ap fault.Log same)) (λ same. other (ap fault.Log same)) each
 
         -- a draft is given up
         pub gives_up : (new : Fs D) (e : EntryFault) (result : Result (Unit {0}) FsError) → GivesUp state after new e result
@@ -202,6 +210,20 @@ module _ {D : Type 0} (state : D → DeviceState) (lawful : (d : D) → IsLawful
             subst (λ r. Serves state v (seen new) call (answer_by (λ _. a) r)) (sym gives.is)
             (subst (λ (w : Mounted D). Serves state v w call (Refuse (refusal_of (error_of_entry e)))) (sym gives.same)
             (fault_serves e halted other each))
+
+        -- and refuses the call only where memory does, or where a call of the device failed
+        module _ (P : LogMap → Type 0) (holds : InEach (λ m s. P m)) where
+          explained : (e : EntryFault) → telling.FailsWhere (files_of state f.store) (files_of state store) P e
+              → InEach (λ m s. Explains call (segments_of v) s Rose e)
+          explained fault.NoMemory failed k m0 m s keeps is = tt
+          explained (fault.Log why) failed k m0 m s keeps is = rose_where P failed k m0 m s keeps is (holds k m0 m s keeps is)
+          explained other failed k m0 m s keeps is = absurd failed
+
+          pub gives_up_where : (new : Fs D) (e : EntryFault) (result : Result (Unit {0}) FsError) → GivesUp state after new e result
+              → telling.FailsWhere (files_of state f.store) (files_of state store) P e
+              → (e ≡ fault.Log log.Halted → (files_of state f.store).halted ≡ true) → (e ≡ fault.Log log.Full → ⊥) → (a : Answer)
+              → Serves state v (seen new) call (answer_by (λ _. a) result)
+          gives_up_where new e result gives failed halted other a = gives_up new e result gives halted other (explained e failed) a
 
     -- ---- the files were only read
     module _ (reads : files.Reads (files_of state f.store) (files_of state store)) where

@@ -30,14 +30,19 @@ use Rattle.lfs_store.specs.Accepting.{HasClean}
 use Rattle.lfs_store.specs.Recounting.{AreTotals, CountsGone}
 use Rattle.lfs_store.specs.log.Saving.{commit_orders}
 use Rattle.lfs_store.proofs.Recounted.{kept_more, removed_more}
-use Rattle.lfs_store.specs.StoreState.{IsEmpty, draft_of, volume_of}
+use Rattle.lfs_store.specs.StoreState.{volume_of}
+use Rattle.lfs_store.specs.Seen.{files_of}
+use Rattle.lfs_path.specs.Seeing.{HasHeader, HasObject}
+use Rattle.lfs_path.specs.Telling.{Tells, TellsFault}
 use Rattle.lfs_store.proofs.of_log.LogReads.{fault_more, held_still, reads_none}
 use Rattle.lfs_fs.specs.declared.error.FsError.{FsError}
 use Rattle.lfs_fs.specs.declared.fs.Fs.{Fs}
 use Rattle.lfs_fs.specs.Faults.{error_of_log}
 use Rattle.lfs_fs.specs.Refusals.{refusal_of}
-use Rattle.lfs_fs.specs.Seen.{GivesNone, HasHeader, OnlyReads, seen}
-use Rattle.lfs_fs.specs.Volume.{Behaves, IsAt, IsIn, Mounted, Serves, ServesAt, changes_handles, most_orders, segments_of}
+use Rattle.lfs_fs.specs.Seen.{GivesNone, seen}
+use Rattle.lfs_fs.specs.Volume.{Behaves, IsAt, IsIn, IsStill, Mounted, Serves, ServesAt, changes_handles, most_orders, segments_of}
+use Rattle.lfs_fs.proofs.calls.Answers.{In, ReadsTo, known, log_fails}
+use Rattle.lfs_fs.proofs.calls.Files.{IsBegun, only, with_store}
 use Rattle.lfs_fs.proofs.calls.AnyDevice.{IsOrdinary, not_halted, not_memory, not_stuck, ok_refuses_none, tells_none}
 use Rattle.lfs_fs.proofs.calls.Steps.{never_worn}
 use Rattle.lfs_fs.proofs.open_files.ClosedMaps.{closed_map, gone_map, names_by}
@@ -45,9 +50,8 @@ use Rattle.lfs_steps.proofs.open_files.CloseSteps.{close_bad_handle, close_goes,
 use Rattle.lfs_steps.proofs.open_files.CloseSteps.{named_stays}
 use Rattle.lfs_steps.proofs.open_files.CloseSteps.{open_stays, rest}
 use Rattle.lfs_fs.proofs.calls.Drafts.{runs_on}
-use Rattle.lfs_steps.proofs.volume.Nodes.{IsMapOf}
+use Rattle.lfs_steps.proofs.volume.Nodes.{IsMapOf, opened_file}
 use Rattle.lfs_fs.proofs.volume.Map.{map_of_volume, shape_of_volume}
-use Rattle.lfs_fs.proofs.read.Ends.{header_there}
 use Rattle.lfs_fs.proofs.calls.Exits.{point_of}
 use Rattle.lfs_fs.proofs.open_files.TableEnds.{quiet, table_serves}
 use Rattle.lfs_fs.proofs.write.Exits.{unopened}
@@ -333,66 +337,72 @@ module _ {D : Type 0} (state : D → DeviceState) (lawful : (d : D) → IsLawful
       (subst (λ hs. opened (without nat_cmp h hs) n ≡ 0 → ⊥) (sym is.handles) some))
 
   -- its header was read
-  module _ (mid : Fs D) (empty : IsEmpty (draft_of old.store)) (reads : OnlyReads state old mid) (head : headers.Header)
-      (has : HasHeader state old mid n head) where
-    there : (k : CheckpointValue) (m0 m : LogMap) (s : State) → (state (seen mid).log.device).keeps_model → IsIn state (seen old) k m0 m s
-        → m.header n ≡ Some (as_header head)
-    there k m0 m s keeps is =
-        header_there state old mid (Close h) (lawful (seen old).log.device) was empty reads refl n head has k m0 m s keeps is
+  module _ (begun : IsBegun state (seen old) old) (read : Store D) (reads : ReadsTo state old read) where
+    abbrev mid : Fs D
+    mid = with_store old read
 
-    -- the handle is closed as it was then
-    abbrev IsClosedNow : Handles → Type 0
-    IsClosedNow handles = handles ≡ without nat_cmp h mid.handles
+    still : IsStill state (seen old) (seen mid)
+    still = (only state lawful (seen old) old begun read reads).still
 
-    closed_then : (handles : Handles) → IsClosedNow handles → IsClosed handles
-    closed_then handles table = table ∙ ap (without nat_cmp h) reads.still.table
+    -- the file is there
+    object : In state (seen old) old (λ m s. HasObject n m)
+    object k m0 m s keeps is none =
+        let there = (opened_file (segments_of (seen old)) m s is.log h n (ap (find nat_cmp h) is.handles ∙ opens)).there in absurd (cc)
 
-    -- the file has a name
-    pub close_named : (handles : Handles) → IsClosedNow handles → 0 < head.links
-        → Serves state (seen old) (seen (with_parts mid.store handles)) (Close h) Done
-    close_named handles table some =
-        close_keeps state lawful (seen old) (seen (with_parts mid.store handles)) was h n opens
-        (closed_then handles table) reads.still.reads
-        (λ k m0 m s keeps is. (
-        let names_is = names_by (segments_of (seen old)) m s (map_of_volume state (seen old) k m0 m s is) h n
-        (ap (find nat_cmp h) is.handles ∙ opens) (as_header head) (there k m0 m s keeps is) in
-        named_stays (names s.tree n) (opened (without nat_cmp h s.handles) n) (λ none. omega (arith, names_is, none, some))))
+    pub close_unread : (e : LogFault) → (e ≡ log.Halted → (files_of state old.store).halted ≡ true) → (e ≡ log.Full → ⊥)
+        → TellsFault (files_of state old.store) (files_of state read) (HasObject n)
+        → Serves state (seen old) (seen mid) (Close h) (Refuse (refusal_of (error_of_log e)))
+    close_unread = log_fails lawful begun read reads object refl
 
-    -- it has none, and goes
-    module _ (store : Store D) where
-      pub close_last : (handles : Handles) → IsClosedNow handles → head.links ≤ 0
-          → opened (without nat_cmp h old.handles) n ≡ 0
-          → IsRemoved state (seen mid).log (volume_of store) n
-          → CountsGone state (seen mid).log (volume_of store) n (seen mid).log.totals (volume_of store).totals
-          → Serves state (seen old) (seen (with_parts store handles)) (Close h) Done
-      close_last handles table none shut gone counts =
-          let all =
-          removed_more state (seen old).log (seen mid).log (volume_of store) n (lawful (seen old).log.device) reads.still.reads gone in
-          close_removes state lawful (seen old) (seen (with_parts store handles)) was h n opens
-          (closed_then handles table) head.links (omega (arith, none)) shut
-          (λ k m0 m s keeps is. (as_header head, there k m0 m s (gone.alters.looks.carries.kept_before keeps) is, refl))
-          all
-          (λ k m0 m keeps holds map map' counted.
-          counts k m0 m keeps (held_still state (seen old).log (seen mid).log k m0 m reads.still.reads holds) map map'
-          (subst (λ (t : BlockTotals). AreTotals m t) (sym reads.still.reads.totals) counted))
+    module _ (head : headers.Header) (has : Tells (files_of state old.store) (files_of state read) (λ m. Unit {0}) (HasHeader n head)) where
+      there : In state (seen old) mid (λ m s. HasHeader n head m)
+      there = known lawful begun read reads (λ m m' keeps is. has m m' keeps is tt)
 
-      -- a call of the device failed
-      pub close_faults : (fault : LogFault) (e : FsError) → e ≡ error_of_log fault → IsKept state (seen mid).log (volume_of store)
-          → IsReadFault state (seen mid).log (volume_of store) → (volume_of store).totals ≡ (seen mid).log.totals
-          → (fault ≡ log.Halted → (seen mid).log.halted ≡ true) → (fault ≡ log.Full → ⊥)
-          → Serves state (seen old) (seen (with_parts store mid.handles)) (Close h) (Refuse (refusal_of e))
-      close_faults fault e is kept failed totals halted full =
-          subst (λ (x : FsError). Serves state (seen old) (seen (with_parts store mid.handles)) (Close h) (Refuse (refusal_of x))) (sym is)
-          (by fault halted full)
-        where
-          device : Serves state (seen old) (seen (with_parts store mid.handles)) (Close h) (Refuse Device)
-          device = close_fails state lawful (seen old) (seen (with_parts store mid.handles)) was h n opens
-              (kept_more state (seen old).log (seen mid).log (volume_of store) (lawful (seen old).log.device) reads.still.reads kept)
-              (fault_more state (seen old).log (seen mid).log (volume_of store) reads.still.reads failed)
-              (totals ∙ reads.still.reads.totals) reads.still.table
+      -- the file has a name
+      pub close_named : (handles : Handles) → IsClosed handles → 0 < head.links
+          → Serves state (seen old) (seen (with_parts read handles)) (Close h) Done
+      close_named handles table some =
+          close_keeps state lawful (seen old) (seen (with_parts read handles)) was h n opens table still.reads
+          (λ k m0 m s keeps is. (
+          let names_is = names_by (segments_of (seen old)) m s (map_of_volume state (seen old) k m0 m s is) h n
+          (ap (find nat_cmp h) is.handles ∙ opens) (as_header head) (there k m0 m s keeps is) in
+          named_stays (names s.tree n) (opened (without nat_cmp h s.handles) n) (λ none. omega (arith, names_is, none, some))))
 
-          by : (x : LogFault) → (x ≡ log.Halted → (seen mid).log.halted ≡ true) → (x ≡ log.Full → ⊥)
-              → Serves state (seen old) (seen (with_parts store mid.handles)) (Close h) (Refuse (refusal_of (error_of_log x)))
-          by log.Device halted full = device
-          by log.Halted halted full = absurd (let on = halted refl in let off = reads.still.reads.halted ∙ was in cc)
-          by log.Full halted full = absurd (full refl)
+      -- it has none, and goes
+      module _ (store : Store D) where
+        pub close_last : (handles : Handles) → IsClosed handles → head.links ≤ 0
+            → opened (without nat_cmp h old.handles) n ≡ 0
+            → IsRemoved state (seen mid).log (volume_of store) n
+            → CountsGone state (seen mid).log (volume_of store) n (seen mid).log.totals (volume_of store).totals
+            → Serves state (seen old) (seen (with_parts store handles)) (Close h) Done
+        close_last handles table none shut gone counts =
+            let all =
+            removed_more state (seen old).log (seen mid).log (volume_of store) n (lawful (seen old).log.device) still.reads gone in
+            close_removes state lawful (seen old) (seen (with_parts store handles)) was h n opens
+            table head.links (omega (arith, none)) shut
+            (λ k m0 m s keeps is. (as_header head, there k m0 m s (gone.alters.looks.carries.kept_before keeps) is, refl))
+            all
+            (λ k m0 m keeps holds map map' counted.
+            counts k m0 m keeps (held_still state (seen old).log (seen mid).log k m0 m still.reads holds) map map'
+            (subst (λ (t : BlockTotals). AreTotals m t) (sym still.reads.totals) counted))
+
+        -- a call of the device failed
+        pub close_faults : (fault : LogFault) (e : FsError) → e ≡ error_of_log fault → IsKept state (seen mid).log (volume_of store)
+            → IsReadFault state (seen mid).log (volume_of store) → (volume_of store).totals ≡ (seen mid).log.totals
+            → (fault ≡ log.Halted → (seen mid).log.halted ≡ true) → (fault ≡ log.Full → ⊥)
+            → Serves state (seen old) (seen (with_parts store old.handles)) (Close h) (Refuse (refusal_of e))
+        close_faults fault e is kept failed totals halted full =
+            subst (λ (x : FsError). Serves state (seen old) (seen (with_parts store old.handles)) (Close h) (Refuse (refusal_of x)))
+            (sym is) (by fault halted full)
+          where
+            device : Serves state (seen old) (seen (with_parts store old.handles)) (Close h) (Refuse Device)
+            device = close_fails state lawful (seen old) (seen (with_parts store old.handles)) was h n opens
+                (kept_more state (seen old).log (seen mid).log (volume_of store) (lawful (seen old).log.device) still.reads kept)
+                (fault_more state (seen old).log (seen mid).log (volume_of store) still.reads failed)
+                (totals ∙ still.reads.totals) still.table
+
+            by : (x : LogFault) → (x ≡ log.Halted → (seen mid).log.halted ≡ true) → (x ≡ log.Full → ⊥)
+                → Serves state (seen old) (seen (with_parts store old.handles)) (Close h) (Refuse (refusal_of (error_of_log x)))
+            by log.Device halted full = device
+            by log.Halted halted full = absurd (let on = halted refl in let off = still.reads.halted ∙ was in cc)
+            by log.Full halted full = absurd (full refl)

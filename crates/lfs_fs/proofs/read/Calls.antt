@@ -137,7 +137,7 @@ module _ {D : Type 0} {state : D → DeviceState} (lawful : (d : D) → IsLawful
             (known lawful is_begun store reads none.header k m0 m s keeps is) none.other)
         by fault.NoMemory any k m0 m s keeps is = tt
         by (fault.Log x) failed k m0 m s keeps is =
-            rises lawful is_begun store reads (readlink_quiet path) (object_there lawful reached) x failed k m0 m s keeps is
+            rises lawful is_begun store reads (object_there lawful reached) failed k m0 m s keeps is
         by other never k m0 m s keeps is = absurd never
 
   -- ---- readdir

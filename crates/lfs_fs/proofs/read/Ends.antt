@@ -1,5 +1,5 @@
 -- What a call that begins makes of its end, and ends after which nothing has changed.
-use Rattle.std.proofs.Common.{◌≡◌, ◌<◌, ◌+◌, ◌*◌, ℕ, Bool, true, false, ◌&&◌, Some}
+use Rattle.std.proofs.Common.{◌≡◌, ◌<◌, ◌+◌, ◌*◌, ℕ, Bool, true, false, ◌&&◌}
 use Rattle.std.proofs.Common.{refl, sym, ◌∙◌, ap, subst, inl, inr, arith}
 use Rattle.lfs_model.specs.Call.{Answer, Call, FormatVersion, Refuse, Room, Space, Version, changes, cleans, commits, is_ok}
 use Rattle.lfs_model.specs.Call.{never_for_device}
@@ -9,19 +9,16 @@ use Rattle.lfs_model.specs.Refusal.{Device, Halted}
 use Rattle.lfs_model.specs.Stands.{LogMap}
 use Rattle.lfs_model.specs.Step.{Step}
 use Rattle.lfs_model.specs.Tree.{State}
-use Rattle.lfs_files.specs.declared.header.Header.{Header}
-use Rattle.lfs_store.specs.memory.Present.{as_header}
 use Rattle.lfs_store.proofs.TreeTotals.{totals_of_tree}
-use Rattle.lfs_store.specs.StoreState.{IsEmpty, draft_of, drafted_of}
+use Rattle.lfs_store.specs.StoreState.{drafted_of}
 use Rattle.lfs_store.proofs.of_log.LogReads.{reads_none}
-use Rattle.lfs_store.proofs.Known.{empty_draft}
 use Rattle.lfs_fs.specs.declared.error.FsError.{FsError}
 use Rattle.lfs_fs.specs.declared.error.FsError.TheVariants as error
 use Rattle.lfs_fs.specs.declared.fs.Fs.{Fs}
 use Rattle.lfs_fs.specs.declared.rows.Space as space
 use Rattle.lfs_fs.specs.Answers.{room_of}
 use Rattle.lfs_fs.specs.Refusals.{refusal_of}
-use Rattle.lfs_fs.specs.Seen.{Begins, HasHeader, OnlyReads, seen}
+use Rattle.lfs_fs.specs.Seen.{Begins, seen}
 use Rattle.lfs_fs.specs.Volume.{IsIn, IsStill, Mounted, Serves, segments_of}
 use Rattle.lfs_fs.proofs.calls.AnyDevice.{IsOrdinary}
 use Rattle.lfs_fs.proofs.calls.Steps.{never_worn}
@@ -111,16 +108,3 @@ module _ {D : Type 0} (state : D → DeviceState) (old new : Mounted D) (call : 
       let rose = rises k m0 m p.state keeps is in
       inr (Device, refl, (free, (let f = here.failures in omega (arith, f, rose))), refl)))
       (not_acknowledged call Device)
-
--- ---- where an object is there
-
-module _ {D : Type 0} (state : D → DeviceState) (old new : Fs D) (call : Call) (lawful : IsLawful (state (seen old).log.device))
-    (was : (seen old).log.halted ≡ false) (empty : IsEmpty (draft_of old.store))
-    (reads : OnlyReads state old new) (free : never_for_device call ≡ false) where
-  abbrev pub InEnd : (LogMap → State → Type 0) → Type 0
-  InEnd P = AfterEach state (seen old) (seen new) call lawful reads.still was P
-
-  -- a header of the draft is that of the log map
-  pub header_there : (n : ℕ) (head : Header) → HasHeader state old new n head → InEnd (λ m s. m.header n ≡ Some (as_header head))
-  header_there n head there k m0 m s keeps is = ap (λ (x : LogMap). x.header n) (sym (empty_draft (draft_of old.store) m empty).0)
-      ∙ there k m0 m keeps is.holds

@@ -2,12 +2,12 @@
 use Rattle.std.proofs.Common.{◌≡◌, ◌<◌, ◌≤◌, ◌+◌, ◌*◌, ◌^◌, ⊎_elim, inl, inr, ℕ, true, false, Some, refl, sym, ◌∙◌, ap}
 use Rattle.std.proofs.Common.{subst, arith}
 use Rattle.std.specs.Prelude.{Result, Ok, Err, OnOk, OnErr, IfErr}
-use Rattle.lfs_model.specs.Call.{Call, Done, Refuse, Upgrade, changes, cleans}
+use Rattle.lfs_model.specs.Call.{Call, Done, Refuse, Upgrade, changes}
 use Rattle.lfs_model.specs.Checkpoint.{CheckpointValue}
 use Rattle.lfs_model.specs.Device.{DeviceState, IsLawful}
 use Rattle.lfs_model.specs.Entry.{Header}
 use Rattle.lfs_model.specs.Raising.{raised}
-use Rattle.lfs_model.specs.Refusal.{Refusal, Worn}
+use Rattle.lfs_model.specs.Refusal.{Worn}
 use Rattle.lfs_model.specs.Run.{acknowledges}
 use Rattle.lfs_model.specs.Stands.{LogMap}
 use Rattle.lfs_model.specs.Step.{Step}
@@ -28,8 +28,7 @@ use Rattle.lfs_fs.specs.Accepting.{StagesDraft, TurnsDown}
 use Rattle.lfs_fs.specs.Refusals.{refusal_of}
 use Rattle.lfs_fs.specs.Seen.{Begins, answer_by, seen}
 use Rattle.lfs_fs.specs.Volume.{IsIn, IsStill, Mounted, Serves, segments_of}
-use Rattle.lfs_fs.proofs.calls.AnyDevice.{IsOrdinary}
-use Rattle.lfs_fs.proofs.calls.Steps.{not_worn, refused_not_worn, worn}
+use Rattle.lfs_fs.proofs.calls.Steps.{not_worn, worn}
 use Rattle.lfs_fs.proofs.calls.Drafts.{not_acknowledged}
 use Rattle.lfs_steps.proofs.volume.Nodes.{IsMapOf, room_shaped, shape_of}
 use Rattle.lfs_fs.proofs.volume.Map.{headers_of_volume, map_of_volume, version_of_volume}
@@ -38,17 +37,6 @@ use Rattle.lfs_fs.proofs.calls.Exits.{point_of, served_still}
 use Rattle.lfs_fs.proofs.calls.StoreCalls.{still_logged}
 use Rattle.lfs_steps.proofs.widen.Steps.{upgrade_step, upgraded}
 use Rattle.lfs_fs.proofs.write.Ends.{draft_ends}
-
--- ---- a change that is refused by a step of the model
-pub refused_after : {D : Type 0} (state : D → DeviceState) (lawful : (d : D) → IsLawful (state d)) (v new : Mounted D) → IsStill state v new
-    → v.log.halted ≡ false → (call : Call) → cleans call ≡ false
-    → (r : Refusal) → IsOrdinary (Refuse r) → ((k : CheckpointValue) (m0 m : LogMap) (s : State) → (state new.log.device).keeps_model
-    → IsIn state v k m0 m s → Step (segments_of v) s call (Refuse r) s)
-    → Serves state v new call (Refuse r)
-refused_after state lawful v new still was call unclean r ordinary steps =
-    served_still state v new call (Refuse r) (lawful v.log.device) still was ordinary
-    (λ p keeps at k m0 m is. let step = steps k m0 m p.state keeps is in
-    inl (step, refused_not_worn (segments_of v) call p r p.state step unclean)) (not_acknowledged call r)
 
 -- ---- a change that finds nothing to do
 

@@ -1,11 +1,11 @@
 -- A write to an open file and a cut of it, from what is drafted to the call as a step of the model.
-use Rattle.std.proofs.Common.{◌≡◌, ◌<◌, ◌≤◌, ◌+◌, ◌*◌, ℕ, true, false, List, length, Some, None, Ok, Err, refl, sym, ◌∙◌, ap, arith}
+use Rattle.std.proofs.Common.{◌≡◌, ◌<◌, ◌≤◌, ◌+◌, ℕ, true, false, List, length, Some, Ok, Err, refl, sym, ◌∙◌, ap, arith}
 use Rattle.std.specs.Prelude.{Result, OnOk, IfErr, IsErrOf, max}
 use Rattle.std.specs.Ordering.{nat_cmp}
 use Rattle.std.specs.FinMap.{find}
 use Rattle.lfs_model.specs.declared.Kind.TheVariants as kind
 use Rattle.lfs_model.specs.Bytes.{AreBytes}
-use Rattle.lfs_model.specs.Call.{Answer, Call, Count, Done, Pwrite, Truncate, changes, cleans, is_ok, never_for_device, takes_no_memory}
+use Rattle.lfs_model.specs.Call.{Answer, Call, Count, Done, Pwrite, Truncate, cleans, never_for_device, takes_no_memory}
 use Rattle.lfs_model.specs.Checkpoint.{CheckpointValue}
 use Rattle.lfs_model.specs.Device.{DeviceState, IsLawful}
 use Rattle.lfs_model.specs.Entry as entry
@@ -33,14 +33,13 @@ use Rattle.lfs_fs.specs.declared.fs.Fs.{Fs}
 use Rattle.lfs_fs.specs.Finishing.{Finishes}
 use Rattle.lfs_fs.specs.Seen.{answer_by, seen}
 use Rattle.lfs_fs.specs.Volume.{IsIn, Mounted, Serves, segments_of}
-use Rattle.lfs_fs.proofs.calls.Files.{Explains, InEach, IsBegun, Makes, apart_now, counted_now, finish_ends, fits_now, gives_up, has_now}
-use Rattle.lfs_fs.proofs.calls.Files.{rose_where, still_ready, told, with_store}
-use Rattle.lfs_fs.proofs.calls.Files as calls
+use Rattle.lfs_fs.proofs.calls.Files.{InEach, IsBegun, Makes, apart_now, counted_now, finish_ends, fits_now, gives_up_where, has_now}
+use Rattle.lfs_fs.proofs.calls.Files.{still_ready, told, with_store}
 use Rattle.lfs_fs.proofs.calls.Steps.{pwrite_ends}
 use Rattle.lfs_fs.proofs.volume.Map.{headers_of_volume, map_of_volume, shape_of_volume}
 use Rattle.lfs_steps.proofs.open_files.Steps.{cut_all_done, shortened, written}
 use Rattle.lfs_steps.proofs.volume.Headers.{file_fits}
-use Rattle.lfs_steps.proofs.volume.Nodes.{IsFileOf, IsMapOf, IsShaped, opened_file, room_shaped}
+use Rattle.lfs_steps.proofs.volume.Nodes.{IsMapOf, IsShaped, opened_file, room_shaped}
 use Rattle.lfs_steps.proofs.write.Bytes.{written_log}
 use Rattle.lfs_steps.proofs.write.Lengths.{shortened_map, shortened_shape}
 
@@ -159,16 +158,8 @@ module _ {D : Type 0} (state : D → DeviceState) (lawful : (d : D) → IsLawful
         → (why ≡ fault.Log log.Halted → a.halted ≡ true) → (why ≡ fault.Log log.Full → ⊥)
         → Serves state v (seen new) call (answer_by (λ _. ok) result)
     undone why finishes failed halted other =
-        gives_up state lawful v f begun store (still_ready state lawful v f begun store redrafts) call free unclean memory new why result
-        finishes halted other (explains why failed) ok
-      where
-        explains : (why : EntryFault) → FailsWhere a b (HasObject n) why → InEach state lawful v f begun store (λ m s.
-            Explains call (segments_of v) s (calls.Rose state lawful v f begun store) why)
-        explains fault.NoMemory failed k m0 m s keeps is = tt
-        explains (fault.Log why) failed k m0 m s keeps is =
-            rose_where state lawful v f begun store (still_ready state lawful v f begun store redrafts) (HasObject n) failed k m0 m s keeps
-            is (object k m0 m s is)
-        explains other failed k m0 m s keeps is = absurd failed
+        gives_up_where state lawful v f begun store (still_ready state lawful v f begun store redrafts) call free unclean memory
+        (HasObject n) (λ k m0 m s keeps is. object k m0 m s is) new why result finishes failed halted other ok
 
   module _ (new : Fs D) (rest : new.handles ≡ f.handles) (drafted : Result (Unit {0}) EntryFault) (result : Result (Unit {0}) FsError)
       (finishes : Finishes state (with_store f store) new drafted result) (counts : OnOk drafted (Counts a b))

@@ -1,5 +1,5 @@
 -- Calls that draft a change, from what they read to what becomes of the draft, as steps of the model.
-use Rattle.std.proofs.Common.{◌≡◌, ◌<◌, ◌≤◌, ◌+◌, ◌/◌, ◌^◌, ℕ, Bool, true, false, length, Some, None, Ok, Err, refl, sym, ◌∙◌, ap, subst}
+use Rattle.std.proofs.Common.{◌≡◌, ◌<◌, ◌≤◌, ◌+◌, ◌/◌, ◌^◌, ℕ, Bool, true, false, length, Some, Ok, Err, refl, sym, ◌∙◌, ap, subst}
 use Rattle.std.proofs.Common.{inl, inr, ⊎_elim, arith, List, ◌*◌, ◌&&◌}
 use Rattle.std.specs.Prelude.{IsTrue, Result, OnOk, IfErr}
 use Rattle.std.specs.Ordering.{nat_cmp}
@@ -15,10 +15,9 @@ use Rattle.lfs_model.specs.TreeOf.{dropped}
 use Rattle.lfs_model.proofs.Moments.{carries_then, goes_on, joined, started}
 use Rattle.lfs_files.specs.declared.fault.LogFault.TheVariants as log
 use Rattle.lfs_store.specs.cleaner.Room.{HaltsLater, MayNotMakeRoom, most_checkpoints, room_orders}
-use Rattle.lfs_store.specs.log.LogState.{Holds, IsReadFault, LeavesSaved, LogState, Reads}
+use Rattle.lfs_store.specs.log.LogState.{Holds, LeavesSaved, LogState, Reads}
 use Rattle.lfs_files.specs.declared.fault.StoreFault.{StoreFault}
 use Rattle.lfs_files.specs.declared.fault.StoreFault.TheVariants as store
-use Rattle.lfs_store.specs.declared.store.Store.{Store}
 use Rattle.lfs_store.specs.log.verify.declared.totals.BlockTotals.{BlockTotals}
 use Rattle.lfs_model.specs.declared.Order.{Order}
 use Rattle.lfs_store.specs.log.Saving.{commit_orders}
@@ -29,7 +28,7 @@ use Rattle.lfs_fs.specs.declared.fs.Fs.{Fs}
 use Rattle.lfs_fs.specs.Accepting.{IsDeclined, StagesDraft, TellsFew, TurnsDown, limit_of, need_of}
 use Rattle.lfs_fs.specs.Faults.{error_of_store}
 use Rattle.lfs_fs.specs.Refusals.{refusal_of}
-use Rattle.lfs_fs.specs.Seen.{LacksHeader, answer_by, seen}
+use Rattle.lfs_fs.specs.Seen.{answer_by, seen}
 use Rattle.lfs_fs.specs.Volume.{Behaves, CommitsFew, IsIn, IsStill, Mounted, Serves, TellsAtMost, segments_of}
 use Rattle.lfs_fs.proofs.calls.AnyDevice.{IsBounded, IsOrdinary, change_bounded, change_writes, commits_none, not_both, not_halted}
 use Rattle.lfs_fs.proofs.calls.AnyDevice.{ok_refuses_none, still_behaves, write_behaves}
@@ -38,14 +37,13 @@ use Rattle.lfs_fs.proofs.calls.Drafts.{InEach, IsRest, not_acknowledged, accepts
 use Rattle.lfs_steps.proofs.volume.Nodes.{IsFileOf, opened_file, IsMapOf}
 use Rattle.lfs_fs.proofs.clean.Room.{has_room}
 use Rattle.lfs_fs.proofs.calls.Exits.{clean_still, halts_at, map_dropped, point_of, served_still, still_in}
-use Rattle.lfs_fs.proofs.calls.Reads.{fault_serves, memory_serves}
 use Rattle.lfs_model.specs.Step.{Step}
 use Rattle.lfs_model.specs.Run.{acknowledges}
-use Rattle.lfs_store.specs.StoreState.{Fits, IsEmpty, draft_of, drafted_of, volume_of, with_draft}
+use Rattle.lfs_store.specs.StoreState.{Fits, draft_of, drafted_of, with_draft}
 use Rattle.lfs_store.specs.Recounting.{AreTotals}
 use Rattle.lfs_store.specs.declared.draft.Draft.{Draft}
-use Rattle.lfs_store.proofs.of_log.LogReads.{acknowledged, fault_more, held_still, reads_more, reads_none}
-use Rattle.lfs_store.proofs.Known.{empty_draft, few_checkpoints}
+use Rattle.lfs_store.proofs.of_log.LogReads.{acknowledged, held_still, reads_more, reads_none}
+use Rattle.lfs_store.proofs.Known.{few_checkpoints}
 use Rattle.lfs_fs.proofs.calls.Steps.{not_worn, refused_not_worn, worn}
 
 -- why a draft isn't staged, by the fault of the store
@@ -220,73 +218,6 @@ module _ {D : Type 0} (state : D → DeviceState) (lawful : (d : D) → IsLawful
     module _ (h n : ℕ) (opens : find nat_cmp h old.table ≡ Some n) where
       pub opened_in : (k : CheckpointValue) (m0 m : LogMap) (s : State) → IsIn state old k m0 m s → IsFileOf m s.tree n
       opened_in k m0 m s is = opened_file (segments_of old) m s is.log h n (ap (find nat_cmp h) is.handles ∙ opens)
-
-  -- no draft is made: memory was refused, or a call of the device failed
-  pub undrafted_serves : (old new : Mounted D) (call : Call) → old.log.halted ≡ false → IsStill state old new
-      → never_for_device call ≡ false → takes_no_memory call ≡ false
-      → (fault : StoreFault) → ((fault ≡ store.NoMemory → ⊥) → IsReadFault state old.log new.log)
-      → (fault ≡ store.Log log.Halted → old.log.halted ≡ true) → (fault ≡ store.Log log.Full → ⊥)
-      → Serves state old new call (Refuse (refusal_of (error_of_store fault)))
-  undrafted_serves old new call was still free takes store.NoMemory failed halted other =
-      memory_serves state old new call (lawful old.log.device) still was takes
-  undrafted_serves old new call was still free takes (store.Log log.Device) failed halted other =
-      fault_serves state old new call (lawful old.log.device) still was free (failed (λ e. cc))
-  undrafted_serves old new call was still free takes (store.Log log.Halted) failed halted other = absurd (let on = halted refl in cc)
-  undrafted_serves old new call was still free takes (store.Log log.Full) failed halted other = absurd (other refl)
-
-  -- and the draft is given up
-  module _ (old mid : Fs D) (tried gone : Store D) (call : Call) (was : (seen old).log.halted ≡ false)
-      (still : IsStill state (seen old) (seen mid)) (reads : Reads state (seen mid).log (volume_of tried))
-      (same_log : volume_of gone ≡ volume_of tried) where
-    still_gone : IsStill state (seen mid) (seen record { alloc = mid.alloc; store = gone; handles = mid.handles })
-    still_gone = record {
-      reads = subst (λ (x : LogState D). Reads state (seen mid).log x) (sym same_log) reads;
-      table = refl;
-    }
-
-    pub given_up_serves : never_for_device call ≡ false → takes_no_memory call ≡ false → (fault : StoreFault)
-        → ((fault ≡ store.NoMemory → ⊥) → IsReadFault state (seen mid).log (volume_of tried))
-        → (fault ≡ store.Log log.Halted → (seen mid).log.halted ≡ true) → (fault ≡ store.Log log.Full → ⊥) → (e : FsError)
-        → e ≡ error_of_store fault
-        → Serves state (seen old) (seen record { alloc = mid.alloc; store = gone; handles = mid.handles }) call (Refuse (refusal_of e))
-    given_up_serves free takes fault failed halted other e is =
-        subst (λ (x : FsError). Serves state (seen old) (seen record { alloc = mid.alloc; store = gone; handles = mid.handles }) call
-        (Refuse (refusal_of x))) (sym is)
-        (undrafted_serves (seen old) (seen record { alloc = mid.alloc; store = gone; handles = mid.handles }) call was
-        (still_more (seen old) (seen mid) (seen record { alloc = mid.alloc; store = gone; handles = mid.handles }) still still_gone) free
-        takes fault
-        (λ device. subst (λ (x : LogState D). IsReadFault state (seen old).log x) (sym same_log)
-        (fault_more state (seen old).log (seen mid).log (volume_of tried) still.reads (failed device)))
-        (λ on. sym still.reads.halted ∙ halted on) other)
-
-  -- an open file has a header, unless a call of the device failed
-  pub headerless_serves : (old mid : Fs D) (call : Call) (h n : ℕ) → find nat_cmp h old.handles ≡ Some n
-      → (seen old).log.halted ≡ false → IsEmpty (draft_of old.store)
-      → IsStill state (seen old) (seen mid) → never_for_device call ≡ false → (fault : FsError) → LacksHeader state old mid n fault
-      → Serves state (seen old) (seen mid) call (Refuse (refusal_of fault))
-  headerless_serves old mid call h n opens was empty still free fault lacks = ⊎_elim
-      (λ halted. absurd (let is = halted.1 in cc))
-      (λ failed. subst (λ (e : FsError). Serves state (seen old) (seen mid) call (Refuse (refusal_of e))) (sym failed.0)
-      (served_still state (seen old) (seen mid) call (Refuse refusal.Device) (lawful (seen old).log.device) still was tt
-      (λ p keeps here k m0 m is. (
-      let file = opened_in (seen old) (seen mid) call was h n opens k m0 m p.state is in
-      inr (
-        refusal.Device,
-        refl,
-        (
-          free,
-          ⊎_elim
-              (λ (rose : (state (seen old).log.device).failures < (state (seen mid).log.device).failures).
-              (let f = here.failures in omega (arith, f, rose)))
-              (λ none. absurd (
-              let both : None ≡ Some file.head = sym none ∙ ap (λ (x : LogMap). x.header n) (empty_draft (draft_of old.store) m empty).0
-              ∙ file.there in cc))
-              (failed.1 k m0 m keeps is.holds),
-        ),
-        refl,
-      )))
-      (not_acknowledged call refusal.Device)))
-      lacks
 
   -- ---- what becomes of a draft
 

@@ -2,7 +2,7 @@ use Rattle.std.proofs.lemmas.Result.{err_from_is_err_and}
 use Rattle.std.proofs.Common.{ap, refl, Err}
 use Rattle.lfs_model.specs.Call.{Open}
 use Rattle.lfs_fs.proofs.calls.Answers.{looked, unlooked}
-use Rattle.lfs_fs.proofs.open_files.Opens.{open_quiet, opens_directory, opens_file, opens_too_many}
+use Rattle.lfs_fs.proofs.open_files.Opens.{opens_directory, opens_file, opens_too_many}
 use Rattle.lfs_fs.proofs.paths.Steps.{open_refused}
 use Rattle.lfs_fs.proofs.fs.Fs.open.Goals as goal
 
@@ -16,7 +16,7 @@ returns-in_err-header g c =
     let p = err_from_is_err_and c.from_residual-in_err-header.result c.from_residual-in_err-header.ensures.1 in rw (p.1, p.2)
     (let read = c.in_err-header.ensures in
     unlooked g.met.D.SectorDevice.lawful c.in_ok-number.ensures.found c.header_of.new.files read.reads
-    (open_quiet c.args.path.now) c.in_err-header.field-0.0
+    refl c.in_err-header.field-0.0
     (λ e. read.halted (ap Err e)) (λ e. read.other (ap Err e)) read.failed)
 
 pub returns-in_err-check_file : goal.returns-in_err-check_file

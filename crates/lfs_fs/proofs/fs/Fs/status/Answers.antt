@@ -3,7 +3,7 @@ use Rattle.std.proofs.Common.{ap, Err}
 use Rattle.lfs_fs.specs.Reading.{stat_call}
 use Rattle.lfs_fs.proofs.calls.Answers.{looked, unlooked}
 use Rattle.lfs_fs.proofs.paths.Steps.{stat_cleans, stat_may_fail, stat_memory, stat_refused}
-use Rattle.lfs_fs.proofs.read.Calls.{stat_gives, stat_quiet}
+use Rattle.lfs_fs.proofs.read.Calls.{stat_gives}
 use Rattle.lfs_fs.proofs.fs.Fs.status.Goals as goal
 
 pub returns-in_err-number : goal.returns-in_err-number
@@ -18,7 +18,7 @@ returns-in_err-header g c =
     let p = err_from_is_err_and c.from_residual-in_err-header.result c.from_residual-in_err-header.ensures.1 in rw (p.1, p.2)
     (let read = c.in_err-header.ensures in
     unlooked g.met.D.SectorDevice.lawful c.in_ok-number.ensures.found c.header_of.new.files read.reads
-    (stat_quiet c.args.follow c.args.path.now) c.in_err-header.field-0.0
+    (stat_may_fail c.args.follow c.args.path.now) c.in_err-header.field-0.0
     (λ e. read.halted (ap Err e)) (λ e. read.other (ap Err e)) read.failed)
 
 pub returns : goal.returns

@@ -11,7 +11,4 @@ returns-in_err-number g c =
     (c.in_err-number.ensures.refused (Widen c.args.path.now) refl refl refl (λ N s r w. widen_refused N s c.args.path.now r w))
 
 pub returns : goal.returns
-returns g c =
-    let reached = c.in_ok-number.ensures.found in
-    c.widen_at.ensures (seen c.args.self.now) c.args.path.now
-    record { still = reached.still; empty = reached.ready.empty; drafted = reached.drafted; walk = reached.walk }
+returns g c = c.widen_at.ensures (seen c.args.self.now) c.args.path.now c.in_ok-number.ensures.found

@@ -1,4 +1,4 @@
-use Rattle.std.proofs.Common.{rules, ◌≤◌, arith}
+use Rattle.std.proofs.Common.{rules, arith}
 use Rattle.lfs_store.proofs.of_memory.Going.{ok_then}
 use Rattle.lfs_fs.specs.Seen.{seen}
 use Rattle.lfs_fs.proofs.calls.Files.{here_begun}
