@@ -9,13 +9,14 @@ use Rattle.lfs_model.specs.Totals.{data_in, meta_in, sum_upto}
 use Rattle.lfs_cleaner.specs.log.memory.declared.changes.Changes.{Changes}
 use Rattle.lfs_cleaner.specs.log.memory.declared.batch.Loss.TheVariants.{FirstVersion}
 use Rattle.lfs_cleaner.specs.log.memory.Batch.{IsNoChange}
+use Rattle.lfs_store.specs.declared.draft.Draft.{Draft}
 use Rattle.lfs_store.specs.Drafting.{LosesOnly}
 use Rattle.lfs_store.specs.Making.{DraftsUpgrade}
 use Rattle.lfs_store.specs.Recounting.{AreTotals, CountsUpgraded}
 
-pub upgrades : (c c' : Changes) → IsNoChange c → c'.headers ≡ c.headers → c'.blocks ≡ c.blocks → LosesOnly c' FirstVersion
-    → DraftsUpgrade c'
-upgrades c c' none headers blocks only = record {
+pub upgrades : (c : Changes) (d : Draft) → IsNoChange c → d.changes.headers ≡ c.headers → d.changes.blocks ≡ c.blocks
+    → LosesOnly d.changes FirstVersion → DraftsUpgrade d
+upgrades c d none headers blocks only = record {
   map = only.map;
   fits = λ m. only.fits m tt;
   headers = ap (λ v. v.items) headers ∙ none.headers;
@@ -34,6 +35,6 @@ meta_raised : (m : LogMap) → meta_in (raised true m) ≡ meta_in m
 meta_raised m = ap (λ (f : ℕ → ℕ). sum_upto f 4095)
     (fun_ext (λ n. ap (λ (is : List ℕ). elim (m.header n) [ None ↦ 0 | Some h ↦ 1 + pointers is ]) (raised_list m n 16624)))
 
-pub counts_upgraded : (c : Changes) → DraftsUpgrade c → CountsUpgraded c
-counts_upgraded c is m t are = subst (λ (x : LogMap). AreTotals x t)
+pub counts_upgraded : (d : Draft) → DraftsUpgrade d → CountsUpgraded d
+counts_upgraded d is m t are = subst (λ (x : LogMap). AreTotals x t)
     (sym (is.map m)) record { stored = are.stored ∙ sym (data_raised m); above = are.above ∙ sym (meta_raised m) }

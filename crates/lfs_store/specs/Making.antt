@@ -13,7 +13,9 @@ use Rattle.lfs_cleaner.specs.log.memory.Batch.{is_lost, staged, FitsBatch}
 use Rattle.lfs_cleaner.specs.log.memory.Changing.{FitsHeader, with_header}
 use Rattle.lfs_cleaner.specs.log.memory.Present.{as_header}
 use Rattle.lfs_cleaner.specs.log.memory.Removing.{without_file}
+use Rattle.lfs_store.specs.declared.draft.Draft.{Draft}
 use Rattle.lfs_store.specs.Drafting.{IsApart}
+use Rattle.lfs_store.specs.StoreState.{Fits, with_draft}
 
 -- the links of a file that is made: a directory has its own besides its name
 abbrev pub first_links : Kind → ℕ
@@ -52,11 +54,11 @@ pub record SetsLinks (c c' : Changes) (n : ℕ) (h : Header) (links : ℕ) : Typ
   pub apart : (k : ℕ) → IsApart c.loss k → IsApart c'.loss k
 
 -- The version of the layout is raised, and nothing else changes.
-pub record DraftsUpgrade (c : Changes) : Type 0 where
-  pub map : (m : LogMap) → staged c m ≡ raised true m
-  pub fits : (m : LogMap) → FitsBatch m c
-  pub headers : c.headers.items ≡ []
-  pub blocks : c.blocks.items ≡ []
+pub record DraftsUpgrade (d : Draft) : Type 0 where
+  pub map : (m : LogMap) → with_draft d m ≡ raised true m
+  pub fits : (m : LogMap) → Fits d m
+  pub headers : d.changes.headers.items ≡ []
+  pub blocks : d.changes.blocks.items ≡ []
 
 -- File n goes with all its blocks, and nothing else changes.
 pub record DraftsRemoval (c : Changes) (n : ℕ) : Type 0 where

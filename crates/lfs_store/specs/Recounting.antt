@@ -13,6 +13,8 @@ use Rattle.lfs_cleaner.specs.log.LogState.{LogState, Holds}
 use Rattle.lfs_store.specs.declared.totals.Measure.{Measure}
 use Rattle.lfs_cleaner.specs.log.verify.declared.totals.BlockTotals.{BlockTotals}
 use Rattle.lfs_store.specs.Measuring.{Measures}
+use Rattle.lfs_store.specs.declared.draft.Draft.{Draft}
+use Rattle.lfs_store.specs.StoreState.{with_draft}
 use Rattle.lfs_model.specs.Totals.{IsCounted}
 
 -- In a total one share takes the place of another, where the outcome is a number of 32 bits.
@@ -38,8 +40,8 @@ abbrev pub CountsRelinked : Changes → Changes → ℕ → Header → BlockTota
 CountsRelinked c c' n h t = (m : LogMap) → (staged c m).header n ≡ Some (as_header h) → AreTotals (staged c m) t → AreTotals (staged c' m) t
 
 -- The version of the layout is raised: the totals stay.
-abbrev pub CountsUpgraded : Changes → Type 0
-CountsUpgraded c = (m : LogMap) (t : BlockTotals) → AreTotals m t → AreTotals (staged c m) t
+abbrev pub CountsUpgraded : Draft → Type 0
+CountsUpgraded d = (m : LogMap) (t : BlockTotals) → AreTotals m t → AreTotals (with_draft d m) t
 
 module _ {D : Type 0} (state : D → DeviceState) where
   -- The measure of file n takes the place of what it was before.

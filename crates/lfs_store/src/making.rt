@@ -183,8 +183,8 @@ impl<D: SectorDevice> Store<D> {
     pub fn upgrade(&mut self)
         requires empty { IsNoChange self.old.draft.changes }
         ensures keeps { DraftsUncounted self.old self.new }
-        ensures done { DraftsUpgrade self.new.draft.changes }
-        ensures counted { CountsUpgraded self.new.draft.changes }
+        ensures done { DraftsUpgrade self.new.draft }
+        ensures counted { CountsUpgraded self.new.draft }
     {
         self.draft.lose(Loss::FirstVersion);
     }

@@ -109,7 +109,7 @@ module _ {D : Type 0} (state : D → DeviceState) (lawful : (d : D) → IsLawful
       (same_state s (version_of_volume state (seen mid) k m0 m s is ∙ two)) (upgrade_step (segments_of (seen mid)) s))
 
   module _ (b : Store D) (same_log : volume_of b ≡ (seen mid).log) (same_drafted : drafted_of b ≡ drafted_of mid.store)
-      (drafts : DraftsUpgrade (draft_of b).changes) (counts : CountsUpgraded (draft_of b).changes) where
+      (drafts : DraftsUpgrade (draft_of b)) (counts : CountsUpgraded (draft_of b)) where
     abbrev ready : Fs D
     ready = record { alloc = mid.alloc; store = b; handles = mid.handles }
 
