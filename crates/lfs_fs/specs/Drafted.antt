@@ -1,14 +1,11 @@
 -- What calls on files tell of a store: of each log map that its log holds, with the draft.
-use Rattle.std.specs.Prelude.{◌<◌, ℕ}
+use Rattle.std.specs.Prelude.{◌<◌}
 use Rattle.lfs_model.specs.Checkpoint.{CheckpointValue}
 use Rattle.lfs_model.specs.Device.{DeviceState}
-use Rattle.lfs_model.specs.Objects.{IsDirectory}
 use Rattle.lfs_model.specs.Stands.{LogMap}
 use Rattle.lfs_model.specs.Tree.{Tree}
 use Rattle.lfs_model.specs.TreeOf.{tree_in}
 use Rattle.lfs_model.specs.Walk.{End, Refused}
-use Rattle.lfs_files.specs.declared.header.Header.{Header}
-use Rattle.lfs_files.specs.Headers.{as_header}
 use Rattle.lfs_store.specs.declared.draft.Draft.{Draft}
 use Rattle.lfs_store.specs.log.LogState.{LogState, Holds}
 use Rattle.lfs_store.specs.StoreState.{with_draft}
@@ -20,11 +17,6 @@ module _ {D : Type 0} (state : D → DeviceState) where
   -- this is so of each log map that the log holds, after the draft
   abbrev pub EachDrafted : LogState D → LogState D → Draft → (LogMap → Type 0) → Type 0
   EachDrafted h h' d P = (k : CheckpointValue) (m0 m : LogMap) → (state h'.device).keeps_model → Holds state h k m0 m → P (with_draft d m)
-
-  -- a call of the device failed, where d is a directory
-  abbrev pub IsDirectoryFault : LogState D → LogState D → Draft → ℕ → Header → Type 0
-  IsDirectoryFault h h' c d head =
-      EachDrafted h h' c (λ m. IsDirectory m d (as_header head) → (state h.device).failures < (state h'.device).failures)
 
   -- a walk ends there
   abbrev pub WalksTo : LogState D → LogState D → Draft → (Tree → End → Type 0) → End → Type 0

@@ -1,10 +1,9 @@
 -- Calls that only read, a call that opens a file, and calls that a fault ends, as steps of the model.
-use Rattle.std.proofs.Common.{◌≡◌, ◌+◌, ◌*◌, ℕ, Bool, true, false, ◌&&◌, refl, inl, inr, arith}
-use Rattle.lfs_model.specs.Call.{Answer, Call, Refuse, Room, Space, changes, cleans, commits, is_ok, takes_no_memory, never_for_device}
+use Rattle.std.proofs.Common.{◌≡◌, ◌+◌, ◌*◌, ℕ, Bool, true, false, ◌&&◌, refl, inl, inr}
+use Rattle.lfs_model.specs.Call.{Answer, Call, Refuse, Room, Space, changes, cleans, commits, is_ok, takes_no_memory}
 use Rattle.lfs_model.specs.Device.{DeviceState, IsLawful}
-use Rattle.lfs_model.specs.Refusal.{Device, NoMemory, Refusal}
+use Rattle.lfs_model.specs.Refusal.{NoMemory, Refusal}
 use Rattle.lfs_model.specs.Step.{Step}
-use Rattle.lfs_store.specs.log.LogState.{IsReadFault}
 use Rattle.lfs_model.specs.Totals.{TotalsOfTree}
 use Rattle.lfs_fs.specs.Volume.{IsStill, Mounted, Serves, segments_of}
 use Rattle.lfs_fs.proofs.calls.AnyDevice.{IsOrdinary, memory_behaves}
@@ -17,13 +16,6 @@ use Rattle.lfs_fs.proofs.calls.Exits.{served_by, served_still}
 
 module _ {D : Type 0} (state : D → DeviceState) (old new : Mounted D) (call : Call) (lawful : IsLawful (state old.log.device))
     (still : IsStill state old new) (was : old.log.halted ≡ false) where
-  -- a call of the device failed
-  pub fault_serves : never_for_device call ≡ false → IsReadFault state old.log new.log → Serves state old new call (Refuse Device)
-  fault_serves free fault = served_still state old new call (Refuse Device) lawful still was tt (λ p keeps here k m0 m is. (
-      let rose = fault k m0 m keeps is.holds in
-      inr (Device, refl, (free, (let f = here.failures in omega (arith, f, rose))), refl)))
-      (not_acknowledged call Device)
-
   -- memory was refused
   pub memory_serves : takes_no_memory call ≡ false → Serves state old new call (Refuse NoMemory)
   memory_serves takes =

@@ -1,9 +1,7 @@
 -- Calls that draft a change, from what they read to what becomes of the draft, as steps of the model.
-use Rattle.std.proofs.Common.{◌≡◌, ◌<◌, ◌≤◌, ◌+◌, ◌/◌, ◌^◌, ℕ, Bool, true, false, length, Some, Ok, Err, refl, sym, ◌∙◌, ap, subst}
+use Rattle.std.proofs.Common.{◌≡◌, ◌<◌, ◌≤◌, ◌+◌, ◌/◌, ◌^◌, ℕ, Bool, true, false, length, Ok, Err, refl, sym, ◌∙◌, ap, subst}
 use Rattle.std.proofs.Common.{inl, inr, ⊎_elim, arith, List, ◌*◌, ◌&&◌}
 use Rattle.std.specs.Prelude.{IsTrue, Result, OnOk, IfErr}
-use Rattle.std.specs.Ordering.{nat_cmp}
-use Rattle.std.specs.FinMap.{find}
 use Rattle.lfs_model.specs.Call.{Call, Answer, Refuse, changes, is_ok, may_write, takes_no_memory, cleans, never_for_device}
 use Rattle.lfs_model.specs.Checkpoint.{CheckpointValue}
 use Rattle.lfs_model.specs.Crash.{StandsForOn}
@@ -34,7 +32,7 @@ use Rattle.lfs_fs.proofs.calls.AnyDevice.{IsBounded, IsOrdinary, change_bounded,
 use Rattle.lfs_fs.proofs.calls.AnyDevice.{ok_refuses_none, still_behaves, write_behaves}
 use Rattle.lfs_fs.proofs.save.Declined.{accept_fault_serves, no_room_serves}
 use Rattle.lfs_fs.proofs.calls.Drafts.{InEach, IsRest, not_acknowledged, accepts_by}
-use Rattle.lfs_steps.proofs.volume.Nodes.{IsFileOf, opened_file, IsMapOf}
+use Rattle.lfs_steps.proofs.volume.Nodes.{IsMapOf}
 use Rattle.lfs_fs.proofs.clean.Room.{has_room}
 use Rattle.lfs_fs.proofs.calls.Exits.{clean_still, halts_at, map_dropped, point_of, served_still, still_in}
 use Rattle.lfs_model.specs.Step.{Step}
@@ -213,11 +211,6 @@ module _ {D : Type 0} (state : D → DeviceState) (lawful : (d : D) → IsLawful
         behaves : Behaves state old new call (Refuse refusal.Halted)
         behaves = write_behaves state old new call (Refuse refusal.Halted) may table (λ e. absurd (cc)) (λ takes e. absurd (cc))
             (bounded (let few = halts.number in omega (arith, few, low)))
-
-    -- ---- calls of an open file
-    module _ (h n : ℕ) (opens : find nat_cmp h old.table ≡ Some n) where
-      pub opened_in : (k : CheckpointValue) (m0 m : LogMap) (s : State) → IsIn state old k m0 m s → IsFileOf m s.tree n
-      opened_in k m0 m s is = opened_file (segments_of old) m s is.log h n (ap (find nat_cmp h) is.handles ∙ opens)
 
   -- ---- what becomes of a draft
 
