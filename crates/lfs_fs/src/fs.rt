@@ -113,7 +113,7 @@ impl<D: SectorDevice> Fs<D> {
             ≤ length (D.state (seen self.old).log.device).told
             + room_orders (seen self.old).log.segments }
     {
-        let space = self.space_of(self.store.drafted());
+        let space = self.space_of(self.store.space());
         if space.need > space.limit {
             self.store.give_up();
             return Err(FsError::NoSpace);

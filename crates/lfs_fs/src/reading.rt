@@ -98,7 +98,7 @@ impl<D: SectorDevice> Fs<D> {
             (answer_by room_of result) }
     {
         self.begin()?;
-        Ok(self.space_of(self.store.drafted()))
+        Ok(self.space_of(self.store.space()))
     }
 
     /// The version of the volume's layout: 1 or 2.

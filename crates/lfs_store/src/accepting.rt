@@ -243,8 +243,7 @@ impl<D: SectorDevice> Store<D> {
         ensures other { IsErrOf result LogFault.Device → ⊥ }
         ensures once { OnOk result ((self.new.log ≡ self.old.log) ⊎ (HasClean self.new.log
             ⊎ ((self.new.log.saved ≡ true) × AreAllSaved self.new.log))) }
-        ensures clean { OnOk result (self.old.log.clean
-            ≤ self.new.log.clean + 8) }
+        ensures clean { OnOk result (self.old.log.clean ≤ self.new.log.clean + 8) }
         ensures told { length (D.state self.new.log.device).told
             ≤ length (D.state self.old.log.device).told + commit_orders }
     {
@@ -263,7 +262,8 @@ impl<D: SectorDevice> Store<D> {
     fn check_segments(&self) -> Result<(), LogFault>
         ensures enough { OnOk result (HasClean self.now.log) }
         ensures full { IsErrOf result LogFault.Full → IsFull self.now.log }
-        ensures lacks { IsErrOf result LogFault.Full → LacksReserve self.now.log.segments self.now.log.clean }
+        ensures lacks { IsErrOf result LogFault.Full
+            → LacksReserve self.now.log.segments self.now.log.clean }
         ensures device { IsErrOf result LogFault.Device → ⊥ }
         ensures halted { IsErrOf result LogFault.Halted → ⊥ }
     {

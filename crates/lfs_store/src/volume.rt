@@ -1,10 +1,9 @@
 //! What is seen of a store's volume: numbers, its device, and the totals of its files.
 ghost use Rattle.std.specs.Prelude.{◌≡◌, false};
 ghost use Rattle.lfs_model.specs.Checkpoint.{IsSegmentCount, IsVersion};
-ghost use Rattle.lfs_store.specs.StoreState.{drafted_of, volume_of};
+ghost use Rattle.lfs_store.specs.StoreState.{volume_of};
 
 use crate::store::Store;
-use lfs_cleaner::volume_log::BlockTotals;
 use lfs_cleaner::volume_log::memory::segments::Usage;
 use lfs_device::{SectorDevice, TendedDevice};
 
@@ -58,18 +57,11 @@ impl<D: SectorDevice> Store<D> {
     {
         self.log.usage()
     }
-
-    /// The blocks of all files, with the draft.
-    pub fn drafted(&self) -> BlockTotals
-        ensures { result ≡ drafted_of self.now }
-    {
-        self.drafted
-    }
 }
 
 impl<D: TendedDevice> Store<D> {
     ghost use Rattle.lfs_cleaner.specs.log.LogState.{Reads};
-    ghost use Rattle.lfs_store.specs.StoreState.{draft_of};
+    ghost use Rattle.lfs_store.specs.StoreState.{draft_of, drafted_of};
 
     /// Tends to the device, of which the volume sees nothing.
     pub fn tend(&mut self)
