@@ -1,10 +1,9 @@
 //! Drafts that are accepted, given up and refused over an empty volume of 64 segments.
 use crate::devices::Probe::{Fail, Stop};
-use crate::store_steps::Call::{FilesTo, GiveUp};
-use crate::store_steps::Count::{Clean, Drafted, Number, Saved};
-use crate::store_steps::Edit::{File, Header};
+use crate::store_steps::Call::{Create, FilesTo, GiveUp, Save, WriteFile};
+use crate::store_steps::Count::{Clean, Number, Space};
 use crate::store_steps::Look::{Holds, HoldsTo, Is, Lacks};
-use crate::store_steps::Step::{Accepts, Calls, Commits, Counts, Drafts, On, Sees};
+use crate::store_steps::Step::{Accepts, Calls, Commits, Counts, On, Sees};
 use crate::store_steps::check;
 use crate::volume::Wrong;
 use lfs_device::{DeviceCall, Left};
@@ -16,20 +15,20 @@ use lfs_store::volume_log::LogFault;
 fn an_accepted_draft_stays(rt: HostRuntime) -> Result<(), Wrong> {
     for left in [Left::Old, Left::New, Left::Bad] {
         let steps = [
-            Drafts(File(2, 1)),
+            Calls(WriteFile(2, 1)),
             Accepts(Ok(())),
-            Counts(Saved(false)),
-            Counts(Drafted(0)),
-            Sees(Holds(2)),
-            Commits(Ok(())),
-            Counts(Saved(true)),
+            // Nothing is drafted any more: what is given up takes nothing away.
+            Calls(GiveUp),
+            Counts(Space(1, 2)),
+            Sees(Holds(2, 1)),
+            Calls(Save(true)),
             Counts(Number(2)),
             // There is nothing more to save.
-            Commits(Ok(())),
-            Counts(Number(2)),
+            Calls(Save(false)),
             On(Stop(left)),
-            Counts(Saved(true)),
-            Sees(Holds(2)),
+            Calls(Save(false)),
+            Counts(Number(2)),
+            Sees(Holds(2, 1)),
         ];
         check(rt.alloc(), &steps)?;
     }
@@ -39,10 +38,10 @@ fn an_accepted_draft_stays(rt: HostRuntime) -> Result<(), Wrong> {
 #[test]
 fn what_is_given_up_is_gone(rt: HostRuntime) -> Result<(), Wrong> {
     let steps = [
-        Drafts(File(2, 1)),
-        Sees(Holds(2)),
+        Calls(WriteFile(2, 1)),
+        Sees(Holds(2, 1)),
         Calls(GiveUp),
-        Counts(Saved(true)),
+        Calls(Save(false)),
         Sees(Lacks(2)),
         Accepts(Ok(())),
         Commits(Ok(())),
@@ -55,7 +54,7 @@ fn what_is_given_up_is_gone(rt: HostRuntime) -> Result<(), Wrong> {
 #[test]
 fn what_is_not_committed_is_gone(rt: HostRuntime) -> Result<(), Wrong> {
     let steps = [
-        Drafts(File(2, 1)),
+        Calls(WriteFile(2, 1)),
         Accepts(Ok(())),
         On(Stop(Left::New)),
         Sees(Lacks(2)),
@@ -68,14 +67,13 @@ fn too_few_clean_segments_are_made_more(rt: HostRuntime) -> Result<(), Wrong> {
     let steps = [
         Calls(FilesTo(50)),
         Counts(Clean(15)),
-        Drafts(File(50, 1)),
+        Calls(WriteFile(50, 1)),
         Accepts(Ok(())),
-        Counts(Saved(false)),
-        Counts(Drafted(0)),
-        Sees(HoldsTo(51)),
-        Commits(Ok(())),
+        Calls(GiveUp),
+        Sees(HoldsTo(51, 1)),
+        Calls(Save(true)),
         On(Stop(Left::Old)),
-        Sees(HoldsTo(51)),
+        Sees(HoldsTo(51, 1)),
     ];
     check(rt.alloc(), &steps)
 }
@@ -85,21 +83,20 @@ fn too_few_clean_segments_are_made_more(rt: HostRuntime) -> Result<(), Wrong> {
 fn early_writes_make_room_in_memory(rt: HostRuntime) -> Result<(), Wrong> {
     for left in [Left::Old, Left::New, Left::Bad] {
         let steps = [
-            Drafts(File(2, 100)),
+            Calls(WriteFile(2, 100)),
             Accepts(Ok(())),
-            Drafts(File(3, 100)),
+            Calls(WriteFile(3, 100)),
             Accepts(Ok(())),
-            Drafts(File(4, 100)),
+            Calls(WriteFile(4, 100)),
             Accepts(Ok(())),
-            Drafts(File(5, 100)),
+            Calls(WriteFile(5, 100)),
             Accepts(Ok(())),
-            Drafts(File(6, 100)),
+            Calls(WriteFile(6, 100)),
             Accepts(Ok(())),
-            Counts(Saved(false)),
             Counts(Number(1)),
-            Sees(HoldsTo(7)),
+            Sees(HoldsTo(7, 100)),
             On(Stop(left)),
-            Counts(Saved(true)),
+            Calls(Save(false)),
             Counts(Number(1)),
             Sees(Lacks(2)),
             Sees(Lacks(6)),
@@ -116,26 +113,20 @@ fn a_commit_makes_room_in_memory(rt: HostRuntime) -> Result<(), Wrong> {
         Calls(FilesTo(49)),
         Counts(Clean(16)),
         Counts(Number(48)),
-        Drafts(File(50, 100)),
-        Drafts(Header(50, 51_200)),
+        Calls(WriteFile(50, 100)),
         Accepts(Ok(())),
-        Drafts(File(51, 100)),
-        Drafts(Header(51, 51_200)),
+        Calls(WriteFile(51, 100)),
         Accepts(Ok(())),
-        Drafts(File(52, 100)),
-        Drafts(Header(52, 51_200)),
+        Calls(WriteFile(52, 100)),
         Accepts(Ok(())),
         Counts(Number(48)),
-        Drafts(File(53, 100)),
-        Drafts(Header(53, 51_200)),
+        Calls(WriteFile(53, 100)),
         Accepts(Ok(())),
-        Drafts(File(54, 100)),
-        Drafts(Header(54, 51_200)),
+        Calls(WriteFile(54, 100)),
         Accepts(Ok(())),
-        Counts(Saved(false)),
         Sees(Is(54, Kind::File, 1, 51_200)),
         On(Stop(Left::Old)),
-        Sees(HoldsTo(49)),
+        Sees(HoldsTo(49, 1)),
         Sees(Is(50, Kind::File, 1, 51_200)),
         Sees(Is(52, Kind::File, 1, 51_200)),
         Sees(Lacks(54)),
@@ -148,12 +139,14 @@ fn a_failed_commit_halts_the_store(rt: HostRuntime) -> Result<(), Wrong> {
     let steps = [
         // The sync as the store is opened counts too.
         On(Fail(DeviceCall::Sync, 1)),
-        Drafts(File(2, 1)),
+        Calls(WriteFile(2, 1)),
         Accepts(Ok(())),
         Commits(Err(LogFault::Halted)),
-        Drafts(File(3, 1)),
+        // A halted store can't be read, as a write would; a file without a byte is made unread.
+        Calls(Create(3, Kind::File)),
+        Counts(Space(1, 3)),
         Accepts(Err(StoreFault::Log(LogFault::Halted))),
-        Counts(Drafted(0)),
+        Counts(Space(1, 2)),
         Commits(Err(LogFault::Halted)),
         On(Stop(Left::New)),
         Sees(Lacks(2)),

@@ -28,10 +28,10 @@ fn links_change(rt: HostRuntime) -> Result<(), Wrong> {
     let steps = [
         Calls(Create(2, File)),
         Accepts(Ok(())),
-        Calls(SetLinks(3)),
+        Calls(SetLinks(0, 3)),
         Accepts(Ok(())),
         Sees(Is(2, File, 3, 0)),
-        Calls(SetLinks(0)),
+        Calls(SetLinks(0, 0)),
         Accepts(Ok(())),
         Sees(Is(2, File, 0, 0)),
         Commits(Ok(())),

@@ -2,7 +2,7 @@
 //! its blocks.
 use crate::devices::Probe::Stop;
 use crate::store_steps::Call::{Create, Forget, GiveUp, Remove, SetLen, WriteBlock};
-use crate::store_steps::Count::{Space, Staged};
+use crate::store_steps::Count::Space;
 use crate::store_steps::Step::{Accepts, Calls, Commits, Counts, On};
 use crate::store_steps::check;
 use crate::volume::Wrong;
@@ -66,7 +66,6 @@ fn what_is_given_up_is_not_counted(rt: HostRuntime) -> Result<(), Wrong> {
         Calls(Create(3, Directory)),
         Calls(WriteBlock(0, 0, 7)),
         Counts(Space(1, 3)),
-        Counts(Staged(0, 2)),
         Calls(GiveUp),
         Counts(Space(0, 2)),
     ];
@@ -86,7 +85,8 @@ fn a_removed_file_counts_no_more(rt: HostRuntime) -> Result<(), Wrong> {
         Counts(Space(1, 4)),
         Calls(Forget),
         Counts(Space(0, 1)),
-        Counts(Staged(0, 1)),
+        Calls(GiveUp),
+        Counts(Space(0, 1)),
     ];
     check(rt.alloc(), &steps)
 }
@@ -101,7 +101,8 @@ fn a_mount_counts_the_volume(rt: HostRuntime) -> Result<(), Wrong> {
         Commits(Ok(())),
         On(Stop(Left::Old)),
         Counts(Space(1, 4)),
-        Counts(Staged(1, 4)),
+        Calls(GiveUp),
+        Counts(Space(1, 4)),
     ];
     check(rt.alloc(), &steps)
 }

@@ -5,26 +5,9 @@ use crate::devices::{Probe, is_probe_well};
 use crate::volume::{Wrong, new_volume};
 use lfs_device::MemDevice;
 use lfs_model::{FileNumber, Kind};
-use lfs_store::volume_log::{Cut, Header, LastLink, LogFault, Loss, Removal};
-use lfs_store::{BlockTotals, Draft, Measure, Store, StoreFault};
+use lfs_store::volume_log::{Header, LogFault};
+use lfs_store::{BlockTotals, Measure, Store, StoreFault};
 use std::alloc::Global;
-
-/// A change of the draft.
-#[derive(Clone, Copy)]
-pub enum Edit {
-    /// A file has one link and this size.
-    Header(u16, u32),
-    /// A block of a file is filled with a byte.
-    Block(u16, u32, u8),
-    /// A file of 512 bytes has so many blocks of sevens.
-    File(u16, u32),
-    /// File 2 loses its blocks from this one on.
-    LoseFrom(u32),
-    /// File 2, of this size, loses its last link.
-    LoseLink(u32),
-    /// File 2 goes.
-    LoseFile,
-}
 
 /// A call of the store that has to be done.
 #[derive(Clone, Copy)]
@@ -33,12 +16,14 @@ pub enum Call {
     Create(u16, Kind),
     /// A symbolic link of so many bytes is made.
     CreateLink(u16, u32),
+    /// A file, made where it isn't there, is written with so many blocks of sevens.
+    WriteFile(u16, u32),
     /// A block of file 2, of this size, is written with a byte.
     WriteBlock(u32, u32, u8),
     /// File 2, of this size, is written from a place on: a byte so many times.
     Write(u32, u32, usize, u8),
-    /// In an empty draft file 2 has so many links in the place of one.
-    SetLinks(u32),
+    /// In an empty draft file 2, of this size, has so many links in the place of one.
+    SetLinks(u32, u32),
     /// In an empty draft file 2 has another size in the place of this.
     SetLen(u32, u32),
     /// In an empty draft file 2 is removed.
@@ -46,6 +31,9 @@ pub enum Call {
     /// File 2 is removed at once.
     Forget,
     GiveUp,
+    /// A commit, and whether it had something to save: the acknowledged checkpoint's number is one
+    /// more then.
+    Save(bool),
     /// Files with one block of sevens are made from number 2 to before this one, each with a commit
     /// that fills a segment: with both inodes, two blocks of the tables and 58 blocks of file 100,
     /// which the next one writes again, it has 63.
@@ -59,10 +47,10 @@ pub enum Look {
     Is(u16, Kind, u32, u32),
     /// There is no file of this number.
     Lacks(u16),
-    /// A file of 512 bytes whose first block is sevens.
-    Holds(u16),
+    /// A file of so many blocks of sevens, with one link.
+    Holds(u16, u32),
     /// Such files from number 2 to before this one.
-    HoldsTo(u16),
+    HoldsTo(u16, u32),
     /// A block of file 2 is filled with this byte: 0 where it isn't stored.
     Reads(u32, u8),
     /// The byte of file 2 at a place, if its block is stored.
@@ -74,10 +62,6 @@ pub enum Look {
 /// What is counted.
 #[derive(Clone, Copy)]
 pub enum Count {
-    /// Whether nothing changed since the acknowledged checkpoint.
-    Saved(bool),
-    /// How many blocks the draft has.
-    Drafted(usize),
     /// The acknowledged checkpoint's number.
     Number(u64),
     /// How many segments are clean.
@@ -85,8 +69,6 @@ pub enum Count {
     LeastFree(u16),
     /// Data blocks, and inodes and blocks of pointers, with the draft.
     Space(u32, u32),
-    /// And without it.
-    Staged(u32, u32),
     /// From one index to before another: the data blocks of file 2, and all its other blocks.
     Measured(u32, u32, u32, u32),
 }
@@ -94,7 +76,6 @@ pub enum Count {
 /// A step of a test.
 #[derive(Clone, Copy)]
 pub enum Step {
-    Drafts(Edit),
     Calls(Call),
     Accepts(Result<(), StoreFault>),
     Commits(Result<(), LogFault>),
@@ -105,7 +86,7 @@ pub enum Step {
 }
 
 /// The file of most steps.
-const FILE_2: FileNumber = FileNumber { value: 2 };
+pub const FILE_2: FileNumber = FileNumber { value: 2 };
 
 /// The nearest number that a file may have.
 fn number_of(file: u16) -> FileNumber {
@@ -114,7 +95,7 @@ fn number_of(file: u16) -> FileNumber {
     }
 }
 
-fn file_of(links: u32, size: u32) -> Header {
+pub fn file_of(links: u32, size: u32) -> Header {
     Header {
         kind: Kind::File,
         form: 0,
@@ -123,43 +104,22 @@ fn file_of(links: u32, size: u32) -> Header {
     }
 }
 
-/// Drafts a file of 512 bytes with blocks of sevens before this one.
-fn draft_file(draft: &mut Draft, file: u16, end: u32) -> bool {
+/// Writes a file with blocks of sevens before this one, and makes it where it isn't there.
+fn write_file(store: &mut Store<MemDevice>, file: u16, end: u32) -> bool {
     let number = number_of(file);
+    if store.header(number) == Ok(None) && store.create(number, Kind::File, 0).is_err() {
+        return false;
+    }
     for index in 0..end {
-        if draft
-            .put_block(number, index.min(16_623), &[7; 512])
+        let Ok(Some(header)) = store.header(number) else {
+            return false;
+        };
+        if store
+            .write_at(number, header, index.min(16_623) * 512, &[7; 512])
             .is_err()
         {
             return false;
         }
-    }
-    draft.put_header(number, file_of(1, 512)).is_ok()
-}
-
-/// Changes the draft: whether there was memory for it.
-fn draft(draft: &mut Draft, edit: Edit) -> bool {
-    match edit {
-        Edit::Header(file, size) => {
-            return draft.put_header(number_of(file), file_of(1, size)).is_ok();
-        }
-        Edit::Block(file, index, byte) => {
-            return draft
-                .put_block(number_of(file), index.min(16_623), &[byte; 512])
-                .is_ok();
-        }
-        Edit::File(file, end) => return draft_file(draft, file, end),
-        Edit::LoseFrom(first) => draft.lose(Loss::Blocks(Cut {
-            number: 2,
-            first: first.min(16_624),
-        })),
-        Edit::LoseLink(size) => draft.lose(Loss::Link(LastLink {
-            number: 2,
-            kind: Kind::File,
-            form: 0,
-            size,
-        })),
-        Edit::LoseFile => draft.lose(Loss::File(Removal { number: 2 })),
     }
     true
 }
@@ -167,14 +127,7 @@ fn draft(draft: &mut Draft, edit: Edit) -> bool {
 /// Makes files from number 2 to before this one.
 fn make_files(store: &mut Store<MemDevice>, end: u16) -> bool {
     for file in 2..end {
-        if !draft_file(&mut store.draft, file, 1) || !draft_file(&mut store.draft, 100, 58) {
-            return false;
-        }
-        if store
-            .draft
-            .put_header(number_of(100), file_of(1, 29_696))
-            .is_err()
-        {
+        if !write_file(store, file, 1) || !write_file(store, 100, 58) {
             return false;
         }
         if store.accept().is_err() || store.commit().is_err() {
@@ -184,16 +137,19 @@ fn make_files(store: &mut Store<MemDevice>, end: u16) -> bool {
     true
 }
 
+/// Commits: whether that was done, and had something to save, or nothing.
+fn save(store: &mut Store<MemDevice>, changed: bool) -> bool {
+    let number = store.number();
+    store.commit().is_ok() && store.number() == number.saturating_add(u64::from(changed))
+}
+
 /// Writes the same byte so many times.
 fn write(store: &mut Store<MemDevice>, size: u32, at: u32, len: usize, byte: u8) -> bool {
     let bytes = [byte; 1_200];
+    let len = len.clamp(1, 1_200);
+    let at = at.min(8_511_488 - len as u32);
     store
-        .write_at(
-            FILE_2,
-            file_of(1, size),
-            at.min(8_510_288),
-            &bytes[..len.clamp(1, 1_200)],
-        )
+        .write_at(FILE_2, file_of(1, size), at, &bytes[..len])
         .is_ok()
 }
 
@@ -201,7 +157,7 @@ fn write(store: &mut Store<MemDevice>, size: u32, at: u32, len: usize, byte: u8)
 fn change(store: &mut Store<MemDevice>, call: Call) -> bool {
     store.give_up();
     match call {
-        Call::SetLinks(links) => store.set_links(FILE_2, file_of(1, 0), links).is_ok(),
+        Call::SetLinks(size, links) => store.set_links(FILE_2, file_of(1, size), links).is_ok(),
         Call::SetLen(size, len) => store
             .set_len(FILE_2, file_of(1, size), len.min(8_511_488))
             .is_ok(),
@@ -216,10 +172,12 @@ fn is_done(store: &mut Store<MemDevice>, call: Call) -> bool {
     match call {
         Call::Create(file, kind) => store.create(number_of(file), kind, 0).is_ok(),
         Call::CreateLink(file, size) => store.create_link(number_of(file), size.min(1_023)).is_ok(),
+        Call::WriteFile(file, end) => write_file(store, file, end),
         Call::WriteBlock(size, index, byte) => {
             write(store, size, index.min(16_623) * 512, 512, byte)
         }
         Call::Write(size, at, len, byte) => write(store, size, at, len, byte),
+        Call::Save(changed) => save(store, changed),
         Call::FilesTo(end) => make_files(store, end),
         _ => change(store, call),
     }
@@ -231,10 +189,24 @@ fn reads(store: &mut Store<MemDevice>, file: u16, index: u32, byte: u8) -> bool 
     store.block(number_of(file), index, &mut bytes) == Ok(byte != 0) && bytes == [byte; 512]
 }
 
-/// Whether files from number 2 to before this one have 512 bytes, and a block of sevens.
-fn holds(store: &mut Store<MemDevice>, first: u16, end: u16) -> bool {
-    for file in first..end {
-        if store.header(number_of(file)) != Ok(Some(file_of(1, 512))) || !reads(store, file, 0, 7) {
+/// Whether a file has so many blocks of sevens, and one link.
+fn holds(store: &mut Store<MemDevice>, file: u16, blocks: u32) -> bool {
+    let size = blocks.saturating_mul(512);
+    if store.header(number_of(file)) != Ok(Some(file_of(1, size))) {
+        return false;
+    }
+    for index in 0..blocks {
+        if !reads(store, file, index, 7) {
+            return false;
+        }
+    }
+    true
+}
+
+/// Whether files from number 2 to before this one have so many blocks of sevens.
+fn holds_to(store: &mut Store<MemDevice>, end: u16, blocks: u32) -> bool {
+    for file in 2..end {
+        if !holds(store, file, blocks) {
             return false;
         }
     }
@@ -271,8 +243,8 @@ fn is_seen(store: &mut Store<MemDevice>, alloc: Global, look: Look) -> bool {
                 }))
         }
         Look::Lacks(file) => store.header(number_of(file)) == Ok(None),
-        Look::Holds(file) => holds(store, file, file.saturating_add(1)),
-        Look::HoldsTo(end) => holds(store, 2, end),
+        Look::Holds(file, blocks) => holds(store, file, blocks),
+        Look::HoldsTo(end, blocks) => holds_to(store, end, blocks),
         Look::Reads(index, byte) => reads(store, 2, index, byte),
         Look::Byte(place, byte) => byte_at(store, place) == Ok(byte),
         Look::Bytes(from, bytes) => has_bytes(store, alloc, from, bytes),
@@ -300,13 +272,10 @@ fn measures(store: &mut Store<MemDevice>, from: u32, to: u32, want: (u32, u32)) 
 
 fn is_counted(store: &mut Store<MemDevice>, count: Count) -> bool {
     match count {
-        Count::Saved(saved) => store.log.is_saved() == saved,
-        Count::Drafted(blocks) => store.draft.changes.blocks.len() == blocks,
         Count::Number(number) => store.number() == number,
         Count::Clean(segments) => store.usage().clean() == segments,
         Count::LeastFree(number) => store.least_free() == FileNumber::new(number),
         Count::Space(data, meta) => store.space() == totals_of(data, meta),
-        Count::Staged(data, meta) => store.log.totals() == totals_of(data, meta),
         Count::Measured(from, to, data, meta) => measures(store, from, to, (data, meta)),
     }
 }
@@ -337,7 +306,6 @@ fn between(
 fn after(alloc: Global, store: Box<Store<MemDevice>>, step: Step) -> Option<Box<Store<MemDevice>>> {
     let mut store = store;
     let well = match step {
-        Step::Drafts(edit) => draft(&mut store.draft, edit),
         Step::Calls(call) => is_done(&mut store, call),
         Step::Accepts(outcome) => store.accept() == outcome,
         Step::Commits(outcome) => store.commit() == outcome,
