@@ -17,8 +17,8 @@ pub returns : goal.returns
 returns g c =
     begun_space g.D.SectorDevice.state c.args.self.now c.begin.new.self (g.met.D.SectorDevice.lawful (seen c.begin.new.self).log.device)
     c.in_ok-begin.ensures.done c.space_of.result
-    (c.space_of.ensures.stored ∙ ap (λ (t : BlockTotals). t.data_blocks) c.drafted.ensures)
-    (c.space_of.ensures.above ∙ ap (λ (t : BlockTotals). t.meta_blocks) c.drafted.ensures)
-    (subst (λ (t : BlockTotals). c.space_of.result.need ≡ t.data_blocks + 7 * t.meta_blocks + 720) c.drafted.ensures
+    (c.space_of.ensures.stored ∙ ap (λ (t : BlockTotals). t.data_blocks) c.space.ensures)
+    (c.space_of.ensures.above ∙ ap (λ (t : BlockTotals). t.meta_blocks) c.space.ensures)
+    (subst (λ (t : BlockTotals). c.space_of.result.need ≡ t.data_blocks + 7 * t.meta_blocks + 720) c.space.ensures
     c.space_of.ensures.need)
     c.space_of.ensures.limit
