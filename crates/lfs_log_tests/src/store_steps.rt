@@ -6,7 +6,7 @@ use crate::volume::{Wrong, new_volume};
 use lfs_device::MemDevice;
 use lfs_model::{FileNumber, Kind};
 use lfs_store::volume_log::{Cut, Header, LastLink, LogFault, Loss, Removal};
-use lfs_store::{BlockTotals, Draft, Measure, Store, StoreFault};
+use lfs_store::{BlockTotals, Draft, Files, Measure, Store, StoreFault};
 use std::alloc::Global;
 
 /// A change of the draft.
