@@ -5,7 +5,7 @@ use lfs_device::MemDevice;
 use lfs_fs::path::text::check_text;
 use lfs_fs::path::tree::{parent, resolve};
 use lfs_fs::path::{Last, WalkFault};
-use lfs_fs::store::Store;
+use lfs_fs::store::{Files, Store};
 use lfs_model::{FileNumber, Kind};
 use std::alloc::Global;
 use std::test::Fail;

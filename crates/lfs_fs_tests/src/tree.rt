@@ -5,7 +5,7 @@ use lfs_device::MemDevice;
 use lfs_fs::path::dirs::add;
 use lfs_fs::path::tree::{parent, resolve};
 use lfs_fs::path::{Last, WalkFault};
-use lfs_fs::store::{Header, Store};
+use lfs_fs::store::{Files, Header, Store};
 use lfs_layout::is_name;
 use lfs_model::{FileNumber, Kind};
 use std::alloc::Global;

@@ -6,7 +6,7 @@ use crate::volume::{Wrong, new_volume};
 use lfs_device::MemDevice;
 use lfs_model::{FileNumber, Kind};
 use lfs_store::volume_log::{Header, LogFault};
-use lfs_store::{BlockTotals, Measure, Store, StoreFault};
+use lfs_store::{BlockTotals, Files, Measure, Store, StoreFault};
 use std::alloc::Global;
 
 /// A call of the store that has to be done.

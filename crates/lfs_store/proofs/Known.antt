@@ -2,7 +2,6 @@
 use Rattle.std.proofs.Common.{◌≡◌, ◌≤◌, ◌+◌, ◌*◌, ◌/◌, ℕ, Bool, true, false, cond, length, sym, ap, subst, arith}
 use Rattle.lfs_model.specs.Device.{DeviceState}
 use Rattle.lfs_model.specs.Stands.{LogMap}
-use Rattle.lfs_files.specs.declared.header.Header.{Header}
 use Rattle.lfs_files.specs.Files as files
 use Rattle.lfs_cleaner.specs.log.LogState.{LogState, Reads, commits_due}
 use Rattle.lfs_cleaner.specs.log.memory.Batch.{is_lost}
@@ -13,9 +12,8 @@ use Rattle.lfs_store.specs.declared.draft.Draft.{Draft}
 use Rattle.lfs_store.specs.Drafting.{IsApart}
 use Rattle.lfs_store.specs.Seen.{StagedLog, staged_of}
 use Rattle.lfs_store.specs.StoreState.{Fits, IsEmpty, asked_by, with_draft}
-use Rattle.lfs_store.specs.Writing.{SetsLen}
 use Rattle.lfs_store.proofs.Apart.{draft_empty, nothing_apart}
-use Rattle.lfs_store.proofs.Growths.{grown_fits, room_few}
+use Rattle.lfs_store.proofs.Growths.{room_few}
 
 -- ---- an empty draft
 
@@ -36,12 +34,11 @@ empty_apart d n none = let apart = empty_loses d n none in record { inode = apar
 pub grown_asks : (a b : Draft) (h k : ℕ) → 2 * h + 4 * k ≤ 452 → IsEmpty a
     → length b.changes.headers.items ≤ length a.changes.headers.items + h
     → length b.changes.blocks.items ≤ length a.changes.blocks.items + k → asked_by b ≤ 456
-grown_asks a b h k few none headers blocks = grown_fits a.changes b.changes h k few none record { headers = headers; blocks = blocks }
-
--- one that gives a file another length
-pub cut_asks : {D : Type 0} (state : D → DeviceState) (h h' : LogState D) (d : Draft) (n : ℕ) (head : Header) (len : ℕ)
-    → SetsLen state h h' d.changes n head len → asked_by d ≤ 456
-cut_asks state h h' d n head len is = let room = room_few d.changes 1 1 is.headers is.blocks in omega (arith, room)
+grown_asks a b h k few none headers blocks =
+    let no_header = ap length none.headers in
+    let no_block = ap length none.blocks in
+    let room = room_few b.changes h k (omega (arith, headers, no_header)) (omega (arith, blocks, no_block)) in
+    omega (arith, room, few)
 
 -- ---- its volume
 

@@ -4,11 +4,6 @@ use Rattle.lfs_cleaner.specs.log.memory.declared.batch.BlockEdit.{BlockEdit}
 use Rattle.lfs_cleaner.specs.log.memory.declared.changes.Changes.{Changes}
 use Rattle.lfs_store.specs.Drafting.{IsBlock, NoBlock}
 
--- A draft changes at most so many headers, and so many blocks, more than it did before.
-pub record GrowsBy (c c' : Changes) (more_headers more_blocks : ℕ) : Type 0 where
-  pub headers : length c'.headers.items ≤ length c.headers.items + more_headers
-  pub blocks : length c'.blocks.items ≤ length c.blocks.items + more_blocks
-
 -- how many blocks of memory it asks for where it lays no more bytes over a file than one call gives, and nothing else
 abbrev pub asked_by_transfer : ℕ
 asked_by_transfer = 144

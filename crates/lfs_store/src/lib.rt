@@ -21,6 +21,6 @@ mod writing;
 pub use draft::Draft;
 pub use lfs_cleaner::volume_log;
 pub use lfs_cleaner::volume_log::{BlockTotals, Header, Log, LogFault, MountFault};
-pub use lfs_files::StoreFault;
+pub use lfs_files::{Files, StoreFault};
 pub use store::Store;
 pub use totals::Measure;

@@ -56,7 +56,12 @@ impl<D: SectorDevice> Store<D> {
     /// # Errors
     ///
     /// `NoMemory` where memory runs out. What the draft holds then is of no use.
-    pub fn create(&mut self, number: FileNumber, kind: Kind, form: u8) -> Result<(), StoreFault>
+    pub(crate) fn create(
+        &mut self,
+        number: FileNumber,
+        kind: Kind,
+        form: u8,
+    ) -> Result<(), StoreFault>
         ensures keeps { OnlyDrafts self.old self.new }
         ensures done { OnOk result (Makes self.old.draft.changes self.new.draft.changes number.value
             (first_header kind form 0)) }
@@ -73,7 +78,7 @@ impl<D: SectorDevice> Store<D> {
     /// # Errors
     ///
     /// As those of `create`.
-    pub fn create_link(&mut self, number: FileNumber, size: u32) -> Result<(), StoreFault>
+    pub(crate) fn create_link(&mut self, number: FileNumber, size: u32) -> Result<(), StoreFault>
         requires most { size ≤ LONGEST_PATH }
         ensures keeps { OnlyDrafts self.old self.new }
         ensures done { OnOk result (Makes self.old.draft.changes self.new.draft.changes number.value
@@ -123,7 +128,7 @@ impl<D: SectorDevice> Store<D> {
     /// # Errors
     ///
     /// As those of `create`.
-    pub fn set_links(
+    pub(crate) fn set_links(
         &mut self,
         number: FileNumber,
         header: Header,
@@ -194,7 +199,7 @@ impl<D: SectorDevice> Store<D> {
     /// # Errors
     ///
     /// As those of `header`. What the draft holds then is of no use.
-    pub fn remove(&mut self, number: FileNumber) -> Result<(), LogFault>
+    pub(crate) fn remove(&mut self, number: FileNumber) -> Result<(), LogFault>
         requires empty { IsNoChange self.old.draft.changes }
         ensures redrafts { RedraftsStore D.SectorDevice.state self.old self.new }
         ensures done { OnOk result (DraftsRemoval self.new.draft.changes number.value) }

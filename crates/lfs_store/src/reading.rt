@@ -20,7 +20,7 @@ impl<D: SectorDevice> Store<D> {
     /// # Errors
     ///
     /// `NoMemory` where memory runs out; else as those of `block`.
-    pub fn read_at(
+    pub(crate) fn read_at(
         &mut self,
         alloc: Global,
         number: FileNumber,

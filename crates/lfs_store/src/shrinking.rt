@@ -21,7 +21,12 @@ impl<D: SectorDevice> Store<D> {
     /// # Errors
     ///
     /// As those of `write_at`.
-    pub fn shrink(&mut self, number: FileNumber, header: Header, len: u32) -> Result<(), StoreFault>
+    pub(crate) fn shrink(
+        &mut self,
+        number: FileNumber,
+        header: Header,
+        len: u32,
+    ) -> Result<(), StoreFault>
         requires less { len < header.size }
         requires last { header.size ≤ SECTOR_LEN * (len / SECTOR_LEN) + SECTOR_LEN }
         requires most { header.size ≤ LARGEST_FILE }

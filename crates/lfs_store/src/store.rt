@@ -27,7 +27,7 @@ impl<D: SectorDevice> Store<D> {
     /// # Errors
     ///
     /// `Halted` once a write of the log failed, `Device` where a call of the device failed.
-    pub fn header(&mut self, number: FileNumber) -> Result<Option<Header>, LogFault>
+    pub(crate) fn header(&mut self, number: FileNumber) -> Result<Option<Header>, LogFault>
         ensures reads { ReadsStore D.SectorDevice.state self.old self.new }
         ensures answer { IfOk result (ReadsHeader D.SectorDevice.state self.old.log self.new.log
             self.old.draft.changes number.value) }
@@ -46,7 +46,7 @@ impl<D: SectorDevice> Store<D> {
     /// # Errors
     ///
     /// As those of `header`.
-    pub fn block(
+    pub(crate) fn block(
         &mut self,
         number: FileNumber,
         index: u32,

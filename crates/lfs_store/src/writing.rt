@@ -68,7 +68,7 @@ impl<D: SectorDevice> Store<D> {
     ///
     /// `NoMemory` where memory runs out; else as those of `block`. What the draft holds then is of
     /// no use.
-    pub fn write_at(
+    pub(crate) fn write_at(
         &mut self,
         number: FileNumber,
         header: Header,
@@ -183,7 +183,7 @@ impl<D: SectorDevice> Store<D> {
     /// # Errors
     ///
     /// As those of `write_at`.
-    pub fn set_len(
+    pub(crate) fn set_len(
         &mut self,
         number: FileNumber,
         header: Header,
@@ -315,7 +315,7 @@ impl<D: SectorDevice> Store<D> {
     /// # Errors
     ///
     /// `NoMemory` where memory runs out. What the draft holds then is of no use.
-    pub fn reform(
+    pub(crate) fn reform(
         &mut self,
         number: FileNumber,
         header: Header,
