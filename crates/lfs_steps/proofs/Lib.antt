@@ -1,3 +1,4 @@
+mod Prelude
 pub mod calls
 pub mod link
 pub mod list

@@ -1,10 +1,6 @@
 -- Lists of refusals, one condition at a time.
-use Rattle.std.proofs.Common.{◌≡◌, ◌<◌, ◌≤◌, ℕ, Bool, true, false, List, ◌∷◌, Option, Some, None, ap, nat_lt, nat_le, arith}
-use Rattle.std.specs.Prelude.{is_none, if◌then◌else◌}
-use Rattle.std.proofs.lemmas.Bool.Decides.{nat_tests}
-use Rattle.lfs_model.specs.Call.{Answer}
-use Rattle.lfs_model.specs.Step.{checked}
-use Rattle.lfs_model.specs.Tree.{State}
+use Rattle.lfs_steps.proofs.Prelude.{◌≡◌, ◌<◌, ◌≤◌, ℕ, Bool, true, false, List, ◌∷◌, Option, Some, None, ap, nat_lt, nat_le, arith, is_none}
+use Rattle.lfs_steps.proofs.Prelude.{if◌then◌else◌, nat_tests, Answer, checked, State}
 
 pub refuses : (s : State) (b : Bool) (a : Answer) (cs : List (Bool × Answer)) (otherwise : Answer × State) → b ≡ true
     → checked s ((b, a) ∷ cs) otherwise ≡ (a, s)

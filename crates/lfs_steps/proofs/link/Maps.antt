@@ -1,33 +1,21 @@
 -- A further name of a file or a link, from the log map before the call to the state after it.
-use Rattle.std.proofs.Common.{◌≡◌, ◌≢◌, ◌<◌, ◌+◌, ◌∙◌, ℕ, Bool, false, List, length, Some, refl, sym, ap, subst, arith}
-use Rattle.std.specs.Prelude.{max}
-use Rattle.lfs_model.specs.declared.limits.TheConstants.{MOST_LINKS}
-use Rattle.lfs_model.specs.Bytes.{AreBytes}
-use Rattle.lfs_model.specs.Objects.{IsHeaderOf}
-use Rattle.lfs_files.specs.Files.{FilesState, IsApart}
-use Rattle.lfs_files.specs.Headers.{as_header, relinked}
-use Rattle.lfs_path.specs.declared.last.Last.{Last}
+use Rattle.lfs_steps.proofs.Prelude.{◌≡◌, ◌≢◌, ◌<◌, ◌+◌, ◌∙◌, ℕ, Bool, false, List, length, Some, refl, sym, ap, subst, arith, max}
+use Rattle.lfs_steps.proofs.Prelude.{MOST_LINKS, AreBytes, IsHeaderOf, FilesState, IsApart, as_header, relinked, Last, LogMap, Dir, State}
+use Rattle.lfs_steps.proofs.Prelude.{Tree, form_of, is_dir, links, names_in, node, slot_len, with_name, name, with_tree, tree_in, dir_at}
+use Rattle.lfs_steps.proofs.Prelude.{not_some, IsWithHeader, named_counts, AddsName, grown, slot_for, Sound}
 use Rattle.lfs_entries.specs.NewNames.{Names, TakesFurther}
 use Rattle.lfs_steps.proofs.new_entries.Maps.{Enters, adds_name, few_grown, holder_is, takes_name}
 use Rattle.lfs_steps.proofs.paths.Named.{dir, fits_d}
 use Rattle.lfs_steps.proofs.volume.Headers.{known_form}
 use Rattle.lfs_model.specs.Entry as entry
-use Rattle.lfs_model.specs.Stands.{LogMap}
-use Rattle.lfs_model.specs.Tree.{Dir, State, Tree, entry as entry_in, form_of, is_dir, links, names_in, node, slot_len, with_name}
+use Rattle.lfs_model.specs.Tree.{entry as entry_in}
 use Rattle.lfs_steps.proofs.volume.Nodes.{IsMapOf, IsShaped}
-use Rattle.lfs_model.specs.Step.{name, with_tree}
 use Rattle.lfs_files.specs.declared.header.Header.{Header}
-use Rattle.lfs_model.specs.TreeOf.{tree_in}
-use Rattle.lfs_model.proofs.Makes.{dir_at, not_some}
 use Rattle.lfs_steps.proofs.volume.KeptMaps.{HasHolder, map_by, relinked_kept, relinked_tree, relinked_shifts, written_kept, written_tree}
 use Rattle.lfs_steps.proofs.volume.KeptMaps.{written_shifts}
-use Rattle.lfs_model.specs.Changing.{IsWithHeader}
-use Rattle.lfs_model.proofs.Shrinking.{named_counts}
 use Rattle.lfs_model.proofs.Naming.{leaf_names_are}
-use Rattle.lfs_path.specs.dirs.Adding.{AddsName, grown, slot_for}
 use Rattle.lfs_steps.proofs.link.Steps.{NamesObject, linked}
 use Rattle.lfs_steps.proofs.volume.MovedNames.{links_more, link_of, nothing_at, only_at}
-use Rattle.lfs_model.specs.Sound.{Sound}
 
 -- A path's last name gives the object n, which is no directory, and directory d takes the last piece of the other path as a further one.
 pub record IsLink (N : ℕ) (m : LogMap) (s : State) (a b : List ℕ) (da d : ℕ) (l : Last) (head : Header) (n : ℕ) (object : Header) : Type 0

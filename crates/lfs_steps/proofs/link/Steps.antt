@@ -1,19 +1,13 @@
 -- The call link, exit by exit: the rule of an old entry, the second path, the rule of a new entry.
-use Rattle.std.proofs.Common.{◌≡◌, ◌<◌, ◌≤◌, ◌*◌, ◌||◌, ℕ, Bool, false, List, [], ◌∷◌, ◌++◌, Option, Some, refl, ◌∙◌, ap, nat_le}
-use Rattle.std.specs.Prelude.{is_some, unwrap_or}
-use Rattle.lfs_model.specs.Call.{Answer, Done, LinkTo, Refuse}
-use Rattle.lfs_model.specs.Need.{need}
-use Rattle.lfs_model.specs.Refusal.{NoSpace, Refusal, TooManyLinks}
+use Rattle.lfs_steps.proofs.Prelude.{◌≡◌, ◌<◌, ◌≤◌, ◌*◌, ◌||◌, ℕ, Bool, false, List, [], ◌∷◌, ◌++◌, Option, Some, refl, ◌∙◌, ap, nat_le}
+use Rattle.lfs_steps.proofs.Prelude.{is_some, unwrap_or, Answer, Done, Refuse, need, NoSpace, Refusal, TooManyLinks, LogMap, Step, checked}
+use Rattle.lfs_steps.proofs.Prelude.{is_long, last_dots, name, new_entry, no_last, no_space, outcome, target, when, with_tree, slash, State}
+use Rattle.lfs_steps.proofs.Prelude.{Tree, entry, is_dir, links, node, with_name, At, End, Parent, Refused, as_header}
+use Rattle.lfs_model.specs.Call.{LinkTo}
 use Rattle.lfs_model.specs.Sound.{NamesGive}
-use Rattle.lfs_model.specs.Stands.{LogMap}
-use Rattle.lfs_model.specs.Step.{Step, checked, is_long, last_dots, name, new_entry, no_last, no_space, outcome, reached, target, when}
-use Rattle.lfs_model.specs.Step.{with_tree}
-use Rattle.lfs_model.specs.PathText.{slash}
-use Rattle.lfs_model.specs.Tree.{State, Tree, entry, is_dir, links, node, with_name}
-use Rattle.lfs_model.specs.Walk.{At, End, Parent, Refused}
+use Rattle.lfs_model.specs.Step.{reached}
 use Rattle.lfs_model.proofs.StepsAre.{step_ends}
 use Rattle.lfs_files.specs.declared.header.Header.{Header}
-use Rattle.lfs_files.specs.Headers.{as_header}
 use Rattle.lfs_steps.proofs.calls.Checks.{at_most, below, not_at_most, not_below}
 use Rattle.lfs_steps.proofs.new_entries.RuleSteps.{ChecksNew, IsTaken, new_taken, step_new}
 use Rattle.lfs_steps.proofs.old_entries.Steps.{ChecksOld, OldCall, old_taken, step_old}

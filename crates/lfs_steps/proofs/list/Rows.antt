@@ -1,12 +1,11 @@
 -- The rows of a volume's tree: those of its directories, number by number.
-use Rattle.std.proofs.Common.{◌≡◌, ◌<◌, ◌≤◌, ◌+◌, ◌-◌, ℕ, zero, suc, List, [], ◌++◌, map, Option, Some, None, refl, sym, ◌∙◌, ap, arith}
-use Rattle.std.specs.Prelude.{flat_map, unwrap_or}
+use Rattle.lfs_steps.proofs.Prelude.{◌≡◌, ◌<◌, ◌≤◌, ◌+◌, ◌-◌, ℕ, zero, suc, List, [], ◌++◌, map, Option, Some, None, refl, sym, ◌∙◌, ap}
+use Rattle.lfs_steps.proofs.Prelude.{arith, unwrap_or, LogMap, stat_of, the_node, File, Node, State, Tree, names_in, names_of, node_of}
+use Rattle.lfs_steps.proofs.Prelude.{IsLogOf}
+use Rattle.std.specs.Prelude.{flat_map}
 use Rattle.lfs_model.specs.Call.{TreeRow}
-use Rattle.lfs_model.specs.Stands.{LogMap}
-use Rattle.lfs_model.specs.Step.{head_of, rows_of, stat_of, the_node}
-use Rattle.lfs_model.specs.Tree.{File, Node, State, Tree, names_in, names_of}
-use Rattle.lfs_model.specs.TreeOf.{node_of, nodes_from, tree_in, with_object}
-use Rattle.lfs_model.specs.Volume.{IsLogOf}
+use Rattle.lfs_model.specs.Step.{head_of, rows_of}
+use Rattle.lfs_model.specs.TreeOf.{nodes_from, tree_in, with_object}
 use Rattle.lfs_steps.proofs.volume.Nodes.{node_is}
 
 -- the model's row of an entry of directory d

@@ -1,42 +1,24 @@
 -- A new object with a name in a directory, from the log map before the call to the state after it.
-use Rattle.std.proofs.Common.{◌≡◌, ◌≢◌, ◌<◌, ◌≤◌, ◌+◌, ◌%◌, ℕ, zero, suc, Bool, true, false, List, [], length, Some, None, refl, sym, ◌∙◌}
-use Rattle.std.proofs.Common.{ap}
-use Rattle.std.proofs.Common.{subst, ⊎_elim, arith}
-use Rattle.std.specs.Prelude.{max}
-use Rattle.std.specs.List.{AllByRecursion}
-use Rattle.std.proofs.lemmas.Bool.{cases_eq}
-use Rattle.std.specs.FinMap.{find, put}
+use Rattle.lfs_steps.proofs.Prelude.{◌≡◌, ◌≢◌, ◌<◌, ◌≤◌, ◌+◌, ◌%◌, ℕ, zero, suc, Bool, true, false, List, [], length, Some, None, refl, sym}
+use Rattle.lfs_steps.proofs.Prelude.{◌∙◌, ap, subst, ⊎_elim, arith, max, AllByRecursion, cases_eq, find, LAST_NUMBER, MOST_LINKS}
+use Rattle.lfs_steps.proofs.Prelude.{IsWithHeader, IsVersion, IsForm, IsDirectory, IsHeaderOf, IsObject, slot_in, Sound, LogMap, name}
+use Rattle.lfs_steps.proofs.Prelude.{with_new, Dir, File, Link, Node, State, Tree, byte_cmp, least, links, node, slot_len, with_name}
+use Rattle.lfs_steps.proofs.Prelude.{with_node, map_of, node_by, node_of, object, tree_in, least_free, not_some, starts_one, object_kept}
+use Rattle.lfs_steps.proofs.Prelude.{change_more, node_in, FilesState, IsApart, as_header, relinked, Last, AddsName, grown, slot_for}
+use Rattle.lfs_steps.proofs.Prelude.{LooksUp, links_beside, NewKind, form_of_new, kind_of_new, makes_directory, new_directory, new_file}
+use Rattle.lfs_steps.proofs.Prelude.{new_link, text_of_new, HasRoom}
+use Rattle.std.specs.FinMap.{put}
 use Rattle.lfs_model.specs.declared.Kind.TheVariants as kind
-use Rattle.lfs_model.specs.declared.limits.TheConstants.{LAST_NUMBER, MOST_LINKS}
-use Rattle.lfs_model.specs.Changing.{IsWithHeader}
-use Rattle.lfs_model.specs.Checkpoint.{IsVersion}
 use Rattle.lfs_model.specs.Entry as entry
-use Rattle.lfs_model.specs.Inode.{IsForm, IsSize}
-use Rattle.lfs_model.specs.Objects.{IsDirectory, IsHeaderOf, IsObject}
-use Rattle.lfs_model.specs.Slot.{slot_in}
-use Rattle.lfs_model.specs.Sound.{Sound}
-use Rattle.lfs_model.specs.Stands.{LogMap}
-use Rattle.lfs_model.specs.Step.{name, with_new}
-use Rattle.lfs_model.specs.Tree.{Dir, File, Link, Node, State, Tree, byte_cmp, entry as entry_in, least, links, node}
-use Rattle.lfs_model.specs.Tree.{slot_len, with_name, with_node}
-use Rattle.lfs_model.specs.TreeOf.{map_of, node_by, node_of, object, slots, tree_in}
-use Rattle.lfs_model.proofs.Leasts.{least_free}
-use Rattle.lfs_model.proofs.Makes.{not_some, starts_one}
-use Rattle.lfs_model.proofs.ObjectMaps.{object_kept}
+use Rattle.lfs_model.specs.Inode.{IsSize}
+use Rattle.lfs_model.specs.Tree.{entry as entry_in}
+use Rattle.lfs_model.specs.TreeOf.{slots}
 use Rattle.lfs_model.proofs.ObjectTrees.{tree_with}
-use Rattle.lfs_model.proofs.Swaps.{change_more}
-use Rattle.lfs_model.proofs.Volume.{node_in}
 use Rattle.lfs_files.specs.declared.header.Header.{Header}
-use Rattle.lfs_files.specs.Files.{FilesState, IsApart}
-use Rattle.lfs_files.specs.Headers.{as_header, first_header, relinked}
-use Rattle.lfs_path.specs.declared.last.Last.{Last}
-use Rattle.lfs_path.specs.dirs.Adding.{AddsName, grown, slot_for}
+use Rattle.lfs_files.specs.Headers.{first_header}
 use Rattle.lfs_path.proofs.of_dirs.SlotsKept.{directory_stays}
-use Rattle.lfs_entries.specs.Looking.{LooksUp}
-use Rattle.lfs_entries.specs.NewNames.{LacksObject, Names, TakesEntry, TakesName, holder_with, links_beside}
-use Rattle.lfs_entries.specs.NewObjects.{IsMade, NewKind, form_of_new, kind_of_new, makes_directory, new_directory, new_file, new_header}
-use Rattle.lfs_entries.specs.NewObjects.{new_link, text_of_new}
-use Rattle.lfs_entries.specs.Sizes.{HasRoom}
+use Rattle.lfs_entries.specs.NewNames.{LacksObject, Names, TakesEntry, TakesName, holder_with}
+use Rattle.lfs_entries.specs.NewObjects.{IsMade, new_header}
 use Rattle.lfs_steps.proofs.new_entries.RuleSteps.{IsTaken}
 use Rattle.lfs_steps.proofs.new_entries.Steps.{NewCall, new_node}
 use Rattle.lfs_steps.proofs.new_entries.Trees.{HasLinks, links_after}

@@ -1,12 +1,8 @@
 -- The calls that ask for a new entry of a directory, exit by exit of the rule of a new entry.
-use Rattle.std.proofs.Common.{◌≡◌, ℕ, Bool, true, false, not, ◌&&◌, ◌||◌, List, ◌++◌, ◌∙◌, ap, refl}
-use Rattle.lfs_model.specs.Call.{Answer, Call, Refuse}
-use Rattle.lfs_model.specs.PathText.{slash}
-use Rattle.lfs_model.specs.Refusal.{DirFull, Exist, NameTooLong, NoEntry}
-use Rattle.lfs_model.specs.Step.{PathEnds, Step, checked, is_full, is_long, is_there, last_dots, new_entry, no_last, outcome, path_of}
-use Rattle.lfs_model.specs.Step.{second_path_of}
-use Rattle.lfs_model.specs.Tree.{State}
-use Rattle.lfs_model.specs.Walk.{End}
+use Rattle.lfs_steps.proofs.Prelude.{◌≡◌, ℕ, Bool, true, false, not, ◌&&◌, ◌||◌, List, ◌++◌, ◌∙◌, ap, refl, Answer, Call, Refuse, slash}
+use Rattle.lfs_steps.proofs.Prelude.{DirFull, NameTooLong, NoEntry, PathEnds, Step, checked, is_full, is_long, is_there, last_dots}
+use Rattle.lfs_steps.proofs.Prelude.{new_entry, no_last, outcome, path_of, second_path_of, State, End}
+use Rattle.lfs_model.specs.Refusal.{Exist}
 
 -- A call whose walks have these ends is refused by the rule of a new entry, for the last piece of
 -- p in directory d, and then by the rest.

@@ -1,26 +1,22 @@
 -- The calls that make a new entry of a directory, exit by exit.
-use Rattle.std.proofs.Common.{◌≡◌, ◌<◌, ◌≤◌, ◌*◌, ℕ, Bool, true, false, List, [], ◌∷◌, ◌++◌, length, Option, None}
-use Rattle.std.proofs.Common.{refl, sym, ◌∙◌, ap, subst, ⊎_elim, arith, nat_le}
-use Rattle.std.specs.Prelude.{option_map, unwrap_or}
-use Rattle.std.specs.Ordering.{nat_cmp}
+use Rattle.lfs_steps.proofs.Prelude.{◌≡◌, ◌<◌, ◌≤◌, ◌*◌, ℕ, Bool, true, false, List, [], ◌∷◌, ◌++◌, length, Option, None, refl, sym, ◌∙◌}
+use Rattle.lfs_steps.proofs.Prelude.{ap, subst, ⊎_elim, arith, nat_le, unwrap_or, nat_cmp, AreBytes, Answer, AreArguments, Call, Done}
+use Rattle.lfs_steps.proofs.Prelude.{Refuse, cleans, never_for_device, IsVersion, IsForm, need, text_refusal, Refusal, NoEntry, NoSpace}
+use Rattle.lfs_steps.proofs.Prelude.{TooManyLinks, PathEnds, Step, checked, new_entry, no_space, outcome, path_of, second_path_of, when}
+use Rattle.lfs_steps.proofs.Prelude.{with_new, with_tree, Dir, File, Handles, Link, Node, State, Tree, least, links, At, Parent, FitsHeader}
+use Rattle.lfs_steps.proofs.Prelude.{first_links, good_text, NewKind, form_of_new, kind_of_new, new_directory, new_file, new_link}
+use Rattle.lfs_steps.proofs.Prelude.{text_of_new}
+use Rattle.std.specs.Prelude.{option_map}
 use Rattle.std.specs.FinMap.{put}
 use Rattle.lfs_model.specs.declared.Kind.TheVariants as kinds
-use Rattle.lfs_model.specs.Bytes.{AreBytes}
-use Rattle.lfs_model.specs.Call.{Answer, AreArguments, Call, Create, Done, Handle, Mkdir, Refuse, Symlink, changes, cleans, is_ok}
-use Rattle.lfs_model.specs.Call.{takes_no_memory, never_for_device}
-use Rattle.lfs_model.specs.Checkpoint.{IsVersion}
+use Rattle.lfs_model.specs.Call.{Create, Handle, Mkdir, Symlink, changes, is_ok}
+use Rattle.lfs_model.specs.Call.{takes_no_memory}
 use Rattle.lfs_model.specs.Image.{new_form}
-use Rattle.lfs_model.specs.Inode.{IsForm, IsSize}
-use Rattle.lfs_model.specs.Need.{need}
-use Rattle.lfs_model.specs.PathText.{text_refusal}
-use Rattle.lfs_model.specs.Refusal.{Refusal, NoEntry, NoNumber, NoSpace, TooManyLinks, TooManyOpen}
-use Rattle.lfs_model.specs.Step.{PathEnds, Step, checked, makes_link, new_entry, no_number}
-use Rattle.lfs_model.specs.Step.{no_space, outcome, path_of, second_path_of, text_check, when, with_new, with_tree}
-use Rattle.lfs_model.specs.Tree.{Dir, File, Handles, Link, Node, State, Tree, least, least_handle, links}
-use Rattle.lfs_model.specs.Walk.{At, Parent}
-use Rattle.lfs_files.specs.Headers.{FitsHeader, first_links}
-use Rattle.lfs_model.proofs.Keeps.{good_text}
-use Rattle.lfs_entries.specs.NewObjects.{NewKind, form_of_new, kind_of_new, new_directory, new_file, new_link, text_of_new}
+use Rattle.lfs_model.specs.Inode.{IsSize}
+use Rattle.lfs_model.specs.Refusal.{NoNumber, TooManyOpen}
+use Rattle.lfs_model.specs.Step.{makes_link, no_number}
+use Rattle.lfs_model.specs.Step.{text_check}
+use Rattle.lfs_model.specs.Tree.{least_handle}
 use Rattle.lfs_steps.proofs.calls.Checks.{below, not_below}
 use Rattle.lfs_steps.proofs.new_entries.RuleSteps.{ChecksNew, IsTaken, new_taken, step_new}
 

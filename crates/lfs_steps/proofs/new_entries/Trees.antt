@@ -1,25 +1,16 @@
 -- A tree with a new object of some kind under a name that was free in a directory: its links.
-use Rattle.std.proofs.Common.{◌≡◌, ◌≢◌, ◌+◌, not, ℕ, Bool, true, false, List, [], Option, Some, None, refl, sym, ◌∙◌, ap, subst, cond}
-use Rattle.std.proofs.Common.{⊎_elim, arith}
-use Rattle.std.specs.Prelude.{T, count_by, unwrap_or, ◌==◌}
-use Rattle.std.proofs.lemmas.Bool.{cases_eq}
-use Rattle.std.proofs.lemmas.Cmp.{nat_cmp_total}
-use Rattle.std.specs.Ordering.{nat_cmp, eq_by_cmp}
-use Rattle.std.specs.FinMap.{find, is_sorted, put}
-use Rattle.std.specs.FinMap.Entries.{is_sorted-put, is_sorted-where_key}
-use Rattle.lfs_model.specs.Sound.{Sound}
-use Rattle.lfs_model.specs.Tree.{Dir, File, Names, Node, State, Tree, byte_cmp, form_of, is_dir, least, links, links_at, names, names_in}
-use Rattle.lfs_model.specs.Tree.{names_of, node, with_name, with_node, without}
-use Rattle.lfs_model.proofs.Growing.{gives}
-use Rattle.lfs_model.proofs.Leasts.{least_free}
-use Rattle.lfs_model.proofs.Makes.{dir_at, starts_one, unnamed}
+use Rattle.lfs_steps.proofs.Prelude.{◌≡◌, ◌≢◌, ◌+◌, not, ℕ, Bool, true, false, List, [], Option, Some, None, refl, sym, ◌∙◌, ap, subst}
+use Rattle.lfs_steps.proofs.Prelude.{cond, ⊎_elim, arith, T, count_by, unwrap_or, ◌==◌, cases_eq, nat_cmp_total, nat_cmp, eq_by_cmp, find}
+use Rattle.lfs_steps.proofs.Prelude.{is_sorted, is_sorted-where_key, Sound, Dir, File, Node, State, Tree, byte_cmp, form_of, is_dir, least}
+use Rattle.lfs_steps.proofs.Prelude.{links, links_at, names, names_in, names_of, node, with_name, with_node, without, gives, least_free}
+use Rattle.lfs_steps.proofs.Prelude.{dir_at, starts_one, find_without, total_put, weight, change_more, cmp_other, find_here, find_other}
+use Rattle.lfs_steps.proofs.Prelude.{first_links, links_beside, NewKind, kind_of_new, makes_directory, new_directory, new_file, new_link}
+use Rattle.std.specs.FinMap.{put}
+use Rattle.std.specs.FinMap.Entries.{is_sorted-put}
+use Rattle.lfs_model.specs.Tree.{Names}
+use Rattle.lfs_model.proofs.Makes.{unnamed}
 use Rattle.lfs_model.proofs.ObjectTrees.{same_trees}
-use Rattle.lfs_model.proofs.Sums.{find_without, total_put, weight}
-use Rattle.lfs_model.proofs.Swaps.{change_more}
-use Rattle.lfs_model.proofs.Trees.{cmp_other, cmp_same, find_here, find_other}
-use Rattle.lfs_files.specs.Headers.{first_links}
-use Rattle.lfs_entries.specs.NewNames.{links_beside}
-use Rattle.lfs_entries.specs.NewObjects.{NewKind, kind_of_new, makes_directory, new_directory, new_file, new_link}
+use Rattle.lfs_model.proofs.Trees.{cmp_same}
 use Rattle.lfs_steps.proofs.new_entries.Steps.{new_node}
 use Rattle.lfs_steps.proofs.volume.MovedNames.{link_of, links_left, links_more, never, once}
 

@@ -1,23 +1,12 @@
 -- An object that lost its name in a directory, and with it a link, or went: from the log map of a draft to the state after the call.
-use Rattle.std.proofs.Common.{◌≡◌, ◌≢◌, ◌<◌, ◌+◌, ◌-◌, ℕ, Bool, true, false, List, [], Some, refl, sym}
-use Rattle.std.proofs.Common.{◌∙◌, ap}
-use Rattle.std.proofs.Common.{subst, inr, arith}
-use Rattle.std.specs.Prelude.{if◌then◌else◌}
-use Rattle.lfs_model.specs.Call.{Call, Done}
-use Rattle.lfs_model.specs.Objects.{one_if}
-use Rattle.lfs_model.specs.Sound.{Sound}
-use Rattle.lfs_model.specs.Stands.{LogMap}
-use Rattle.lfs_model.specs.Step.{Step, name}
-use Rattle.lfs_model.specs.Tree.{State, Tree, is_dir, links as links_of, names_in, node, opened, slot_len}
-use Rattle.lfs_model.proofs.Shrinking.{named_counts}
+use Rattle.lfs_steps.proofs.Prelude.{◌≡◌, ◌≢◌, ◌<◌, ◌+◌, ◌-◌, ℕ, Bool, true, false, List, [], Some, refl, sym, ◌∙◌, ap, subst, inr, arith}
+use Rattle.lfs_steps.proofs.Prelude.{if◌then◌else◌, Call, Done, one_if, Sound, LogMap, Step, name, State, Tree, is_dir, names_in, node}
+use Rattle.lfs_steps.proofs.Prelude.{opened, slot_len, named_counts, FilesState, IsApart, FitsHeader, as_header, Last, is_directory}
+use Rattle.lfs_steps.proofs.Prelude.{LooksAt}
+use Rattle.lfs_model.specs.Tree.{links as links_of}
 use Rattle.lfs_files.specs.declared.header.Header.{Header}
-use Rattle.lfs_files.specs.Files.{FilesState, IsApart}
-use Rattle.lfs_files.specs.Headers.{FitsHeader, as_header}
-use Rattle.lfs_path.specs.declared.last.Last.{Last}
 use Rattle.lfs_path.specs.dirs.Taking.{TakesName}
 use Rattle.lfs_entries.specs.declared.entry.Entry.{Entry}
-use Rattle.lfs_entries.specs.Entries.{is_directory}
-use Rattle.lfs_entries.specs.Looking.{LooksAt}
 use Rattle.lfs_entries.specs.OldNames.{HasBoth, HasDropped, HasOld, TakesDrop, holder_without}
 use Rattle.lfs_steps.proofs.old_entries.Removal.{IsEntry, apart, holder_2, holder_is, names_plain, not_root, removed_map}
 use Rattle.lfs_steps.proofs.old_entries.Removal.{removed_shape, shape_2}

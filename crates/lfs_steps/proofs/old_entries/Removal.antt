@@ -1,27 +1,14 @@
 -- A name that goes with one link of what it gave, from the log map to the state after the call.
-use Rattle.std.proofs.Common.{◌≡◌, ◌≢◌, ◌≤◌, ◌+◌, ◌∙◌, ℕ, Bool, true, false, List, [], Option, Some, None, refl, sym, ap, subst, arith, not}
-use Rattle.std.proofs.Common.{◌*◌}
+use Rattle.lfs_steps.proofs.Prelude.{◌≡◌, ◌≢◌, ◌≤◌, ◌+◌, ◌∙◌, ℕ, Bool, true, false, List, [], Option, Some, None, refl, sym, ap, subst}
+use Rattle.lfs_steps.proofs.Prelude.{arith, not, ◌*◌, ◌==◌, unwrap_or, T, find, is_sorted, LogMap, one_if, Sound, let_go, name, target, Dir}
+use Rattle.lfs_steps.proofs.Prelude.{File, Node, State, Tree, byte_cmp, form_of, is_dir, names, names_in, names_of, node, slot_len, without}
+use Rattle.lfs_steps.proofs.Prelude.{without_name, tree_in, At, Parent, parent_dir, dir_at, change_less, find_other, named_counts}
+use Rattle.lfs_steps.proofs.Prelude.{as_header, relinked, CutsSlot}
 use Rattle.lfs_model.specs.Entry as entry
 use Rattle.lfs_steps.proofs.volume.MovedNames as trees
-use Rattle.std.specs.Prelude.{◌==◌, unwrap_or, T}
-use Rattle.std.specs.FinMap.{find, is_sorted}
-use Rattle.lfs_model.specs.Stands.{LogMap}
-use Rattle.lfs_model.specs.Objects.{one_if}
-use Rattle.lfs_model.specs.Sound.{Sound}
-use Rattle.lfs_model.specs.Step.{let_go, name, target}
-use Rattle.lfs_model.specs.Tree.{Dir, File, Names, Node, State, Tree, byte_cmp, entry as entry_in, form_of, is_dir, links as links_in}
-use Rattle.lfs_model.specs.Tree.{names, names_in, names_of, node, slot_len, without, without_name}
-use Rattle.lfs_model.specs.TreeOf.{tree_in}
-use Rattle.lfs_model.specs.Walk.{At, Parent}
-use Rattle.lfs_model.proofs.Keeps.{parent_dir}
-use Rattle.lfs_model.proofs.Makes.{dir_at}
-use Rattle.lfs_model.proofs.Swaps.{change_less}
-use Rattle.lfs_model.proofs.Trees.{find_other}
-use Rattle.lfs_model.proofs.Shrinking.{named_counts}
+use Rattle.lfs_model.specs.Tree.{Names, entry as entry_in, links as links_in}
 use Rattle.lfs_files.specs.declared.header.Header.{Header}
-use Rattle.lfs_files.specs.Headers.{as_header}
-use Rattle.lfs_files.specs.Headers.{relinked}
-use Rattle.lfs_path.specs.dirs.Taking.{CutsSlot, TakesName}
+use Rattle.lfs_path.specs.dirs.Taking.{TakesName}
 use Rattle.lfs_steps.proofs.volume.Nodes.{IsMapOf, IsShaped, dir_there}
 use Rattle.lfs_steps.proofs.volume.Directories.{directory_kind}
 use Rattle.lfs_steps.proofs.volume.KeptMaps.{HasHolder, map_by, taken_kept, taken_tree, taken_shifts}

@@ -1,14 +1,10 @@
 -- The calls that take an entry that a directory has, exit by exit of the rule of an old entry.
-use Rattle.std.proofs.Common.{◌≡◌, ℕ, Bool, true, false, not, ◌&&◌, ◌||◌, List, [], ◌∷◌, refl, ◌∙◌, ap}
-use Rattle.lfs_model.specs.Call.{Answer, Call, Refuse, cleans, never_for_device}
-use Rattle.lfs_model.specs.PathText.{slash}
-use Rattle.lfs_model.specs.Refusal.{NameTooLong, NoEntry, NotDir, Perm}
-use Rattle.lfs_model.specs.Sound.{Sound}
-use Rattle.lfs_model.specs.Step.{PathEnds, Step, checked, gives_dir, is_long, is_there, last_dots, let_go, name, no_last, old_entry}
-use Rattle.lfs_model.specs.Step.{outcome}
-use Rattle.lfs_model.specs.Step.{path_of, second_path_of, target, when, with_tree}
-use Rattle.lfs_model.specs.Tree.{State, without_name}
-use Rattle.lfs_model.specs.Walk.{At, End, Parent}
+use Rattle.lfs_steps.proofs.Prelude.{◌≡◌, ℕ, Bool, true, false, not, ◌&&◌, ◌||◌, List, [], ◌∷◌, refl, ◌∙◌, ap, Answer, Call, Refuse, cleans}
+use Rattle.lfs_steps.proofs.Prelude.{never_for_device, slash, NameTooLong, NoEntry, NotDir, Sound, PathEnds, Step, checked, gives_dir}
+use Rattle.lfs_steps.proofs.Prelude.{is_long, is_there, last_dots, let_go, name, no_last, outcome, path_of, second_path_of, target, when}
+use Rattle.lfs_steps.proofs.Prelude.{with_tree, State, without_name, At, End, Parent}
+use Rattle.lfs_model.specs.Refusal.{Perm}
+use Rattle.lfs_model.specs.Step.{old_entry}
 use Rattle.lfs_steps.proofs.calls.Checks.{passes, refuses}
 
 -- the state after a call that takes a path's last name away, in directory d

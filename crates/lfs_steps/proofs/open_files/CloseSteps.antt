@@ -1,15 +1,9 @@
 -- A handle that is closed, and a sync through a handle, exit by exit.
-use Rattle.std.proofs.Common.{◌≡◌, ◌≢◌, ℕ, Bool, true, false, ◌&&◌, [], Some, None, refl, ◌∙◌, ap, arith, eqb}
-use Rattle.std.specs.Prelude.{◌==◌, if◌then◌else◌, is_none}
-use Rattle.std.proofs.lemmas.Bool.{eq-eqb}
-use Rattle.std.proofs.lemmas.Bool.Decides.{nat_tests}
-use Rattle.std.specs.Ordering.{nat_cmp}
-use Rattle.std.specs.FinMap.{find}
-use Rattle.lfs_model.specs.Call.{Answer, Close, Done, Fsync, Refuse}
-use Rattle.lfs_model.specs.Refusal.{BadHandle}
-use Rattle.lfs_model.specs.Step.{Step, closes, file_at, let_go}
-use Rattle.lfs_model.specs.Tree.{Handles, State, Tree, names, opened, without}
-use Rattle.lfs_model.specs.Walk.{At}
+use Rattle.lfs_steps.proofs.Prelude.{◌≡◌, ◌≢◌, ℕ, Bool, true, false, ◌&&◌, [], Some, None, refl, ◌∙◌, ap, arith, eqb, ◌==◌, if◌then◌else◌}
+use Rattle.lfs_steps.proofs.Prelude.{is_none, eq-eqb, nat_tests, nat_cmp, find, Answer, Done, Refuse, BadHandle, Step, file_at, let_go}
+use Rattle.lfs_steps.proofs.Prelude.{Handles, State, Tree, names, opened, without, At}
+use Rattle.lfs_model.specs.Call.{Close, Fsync}
+use Rattle.lfs_model.specs.Step.{closes}
 use Rattle.lfs_steps.proofs.calls.Checks.{is_missing, is_some, passes, refuses}
 use Rattle.lfs_steps.proofs.open_files.Steps.{file_is}
 

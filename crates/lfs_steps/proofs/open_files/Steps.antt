@@ -1,17 +1,12 @@
 -- The calls of open files, exit by exit.
-use Rattle.std.proofs.Common.{◌≡◌, ◌<◌, ◌≤◌, ◌+◌, ◌*◌, ◌==◌, ℕ, Bool, true, false, List, [], ◌∷◌, length, Option, Some, None, refl, ◌∙◌, ap}
-use Rattle.std.proofs.Common.{arith, nat_lt}
-use Rattle.std.specs.Prelude.{unwrap_or, is_none}
-use Rattle.std.specs.Ordering.{nat_cmp}
-use Rattle.std.specs.FinMap.{find}
-use Rattle.std.proofs.lemmas.Bool.Decides.{nat_tests}
+use Rattle.lfs_steps.proofs.Prelude.{◌≡◌, ◌<◌, ◌≤◌, ◌+◌, ◌*◌, ◌==◌, ℕ, Bool, true, false, List, [], ◌∷◌, length, Option, Some, None, refl}
+use Rattle.lfs_steps.proofs.Prelude.{◌∙◌, ap, arith, nat_lt, unwrap_or, is_none, nat_cmp, find, nat_tests, Answer, Refuse, Done, need}
+use Rattle.lfs_steps.proofs.Prelude.{BadHandle, Inval, NoSpace, Step, checked, when, file_at, file_bytes, the_node, no_space, with_tree}
+use Rattle.lfs_steps.proofs.Prelude.{State, Tree, File, with_node, At}
 use Rattle.lfs_model.specs.Bytes as bytes
-use Rattle.lfs_model.specs.Call.{Pread, Pwrite, Truncate, Answer, Refuse, Count, Data, Done}
-use Rattle.lfs_model.specs.Need.{need}
-use Rattle.lfs_model.specs.Refusal.{BadHandle, Inval, FileTooBig, NoSpace}
-use Rattle.lfs_model.specs.Step.{Step, checked, when, file_at, file_bytes, the_node, no_space, with_tree, reads, writes, truncates}
-use Rattle.lfs_model.specs.Tree.{State, Tree, File, with_node}
-use Rattle.lfs_model.specs.Walk.{At}
+use Rattle.lfs_model.specs.Call.{Pread, Pwrite, Truncate, Count, Data}
+use Rattle.lfs_model.specs.Refusal.{FileTooBig}
+use Rattle.lfs_model.specs.Step.{reads, writes, truncates}
 use Rattle.lfs_steps.proofs.calls.Checks.{refuses, passes, is_some, is_missing, below, not_below}
 
 is_zero_length : (n : ℕ) → n ≡ 0 → (n == 0) ≡ true

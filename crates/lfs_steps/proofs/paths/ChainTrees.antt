@@ -1,16 +1,12 @@
 -- What stands in a chain of directories is within, as the model has it.
-use Rattle.std.proofs.Common.{◌≡◌, ◌≢◌, ◌≤◌, ◌<◌, ℕ, zero, suc, Bool, true, false, ◌||◌, List, [], ◌∷◌, Some, refl, sym, ◌∙◌, ap, subst}
-use Rattle.std.proofs.Common.{⊎_elim, arith, eqb, length}
-use Rattle.std.specs.Prelude.{◌==◌}
-use Rattle.std.specs.List.{list_any}
-use Rattle.std.proofs.lemmas.Bool.{cases_lt}
-use Rattle.std.proofs.lemmas.Bool.Decides.{nat_tests}
-use Rattle.lfs_model.specs.Sound.{IsReachable, Sound, below, root}
-use Rattle.lfs_model.specs.Step.{chain, is_within}
-use Rattle.lfs_model.specs.Tree.{State, Tree, entry, is_dir, node, up}
+use Rattle.lfs_steps.proofs.Prelude.{◌≡◌, ◌≢◌, ◌≤◌, ◌<◌, ℕ, zero, suc, Bool, true, false, ◌||◌, List, [], ◌∷◌, Some, refl, sym, ◌∙◌, ap}
+use Rattle.lfs_steps.proofs.Prelude.{subst, ⊎_elim, arith, eqb, length, ◌==◌, list_any, cases_lt, nat_tests, Sound, is_within, State, Tree}
+use Rattle.lfs_steps.proofs.Prelude.{entry, is_dir, node, same_or_not}
+use Rattle.lfs_model.specs.Sound.{IsReachable, below, root}
+use Rattle.lfs_model.specs.Step.{chain}
+use Rattle.lfs_model.specs.Tree.{up}
 use Rattle.lfs_model.proofs.Climbing.{under_within}
 use Rattle.lfs_model.proofs.Detached.{Under, inside, itself}
-use Rattle.lfs_model.proofs.Growing.{same_or_not}
 use Rattle.lfs_path.specs.Trees.{IsChain, here, risen}
 use Rattle.lfs_path.proofs.Uppers.{up_is}
 use Rattle.lfs_entries.specs.Renaming.{IsAbove, IsNotAbove, risen_by}

@@ -1,18 +1,16 @@
 -- The last piece of a path as a name of a directory.
-use Rattle.std.proofs.Common.{◌≡◌, ◌≢◌, ◌<◌, ◌≤◌, ◌||◌, ℕ, zero, suc, Bool, true, false, List, [], ◌∷◌, length, get_or, Option, Some, None}
-use Rattle.std.proofs.Common.{refl, cond, eqb, nat_lt, arith}
-use Rattle.std.specs.Prelude.{MatchOption, filter, if◌then◌else◌, is_none, unwrap_or}
-use Rattle.std.specs.List.{AllByRecursion, last_or, list_any}
-use Rattle.std.proofs.lemmas.Bool.Decides.{nat_tests}
-use Rattle.lfs_model.specs.Bytes.{AreBytes}
-use Rattle.lfs_model.specs.PathText.{before_parts, comps, last, parts}
+use Rattle.lfs_steps.proofs.Prelude.{◌≡◌, ◌≢◌, ◌<◌, ◌≤◌, ◌||◌, ℕ, zero, suc, Bool, true, false, List, [], ◌∷◌, length, Option, Some, None}
+use Rattle.lfs_steps.proofs.Prelude.{refl, cond, eqb, nat_lt, arith, MatchOption, if◌then◌else◌, is_none, unwrap_or, AllByRecursion}
+use Rattle.lfs_steps.proofs.Prelude.{list_any, nat_tests, AreBytes, comps, Sound, last_dots, name, no_last, State, name_limit, At, Parent}
+use Rattle.lfs_steps.proofs.Prelude.{good_text, parent_dir}
+use Rattle.std.proofs.Common.{get_or}
+use Rattle.std.specs.Prelude.{filter}
+use Rattle.std.specs.List.{last_or}
+use Rattle.lfs_model.specs.PathText.{before_parts, last, parts}
 use Rattle.lfs_model.specs.Slot.{IsName}
-use Rattle.lfs_model.specs.Sound.{Sound}
-use Rattle.lfs_model.specs.Step.{last_dots, name, no_last}
-use Rattle.lfs_model.specs.Tree.{State, name_limit, same_name}
-use Rattle.lfs_model.specs.Walk.{At, Parent, dot, dot_dot}
+use Rattle.lfs_model.specs.Tree.{same_name}
+use Rattle.lfs_model.specs.Walk.{dot, dot_dot}
 use Rattle.lfs_model.proofs.GoodNames.{IsClean}
-use Rattle.lfs_model.proofs.Keeps.{good_text, parent_dir}
 use Rattle.lfs_model.proofs.Walks.{same_name-false}
 
 each_at : (P : ℕ → Type 0) (xs : List ℕ) → AllByRecursion P xs → (i : ℕ) → i < length xs

@@ -1,35 +1,21 @@
 -- What a name gives in the directory of a path's last piece, as the model sees it.
-use Rattle.std.proofs.Common.{◌≡◌, ◌≤◌, ◌<◌, ◌+◌, ◌-◌, ◌*◌, ◌||◌, ℕ, true, false, List, length, Option, Some, sym, ◌∙◌, ap, subst}
-use Rattle.std.proofs.Common.{nat_lt, arith, refl}
-use Rattle.std.specs.Prelude.{is_some, unwrap_or, T}
-use Rattle.std.specs.FinMap.{find, is_sorted}
-use Rattle.lfs_model.specs.declared.Kind.{Kind}
+use Rattle.lfs_steps.proofs.Prelude.{◌≡◌, ◌≤◌, ◌<◌, ◌+◌, ◌-◌, ◌*◌, ◌||◌, ℕ, true, false, List, length, Option, Some, sym, ◌∙◌, ap, subst}
+use Rattle.lfs_steps.proofs.Prelude.{nat_lt, arith, refl, is_some, unwrap_or, T, find, is_sorted, Kind, LAST_NUMBER, AreBytes, IsHeaderOf}
+use Rattle.lfs_steps.proofs.Prelude.{slash, LogMap, gives_dir, is_full, is_long, is_there, last_dots, name, no_last, target, Dir, State}
+use Rattle.lfs_steps.proofs.Prelude.{Tree, byte_cmp, entry, form_of, is_dir, links, name_len, names_in, node, slot_len, without_name}
+use Rattle.lfs_steps.proofs.Prelude.{node_by, At, Parent, parent_dir, dir_at, as_header, names_at, Last, is_directory, LooksUp, HasRoom}
 use Rattle.lfs_model.specs.declared.Kind.TheVariants as kinds
-use Rattle.lfs_model.specs.declared.limits.TheConstants.{LAST_NUMBER, MOST_ENTRIES}
-use Rattle.lfs_model.specs.Bytes.{AreBytes}
+use Rattle.lfs_model.specs.declared.limits.TheConstants.{MOST_ENTRIES}
 use Rattle.lfs_model.specs.Entry as entries
-use Rattle.lfs_model.specs.Objects.{IsHeaderOf}
-use Rattle.lfs_model.specs.PathText.{slash}
-use Rattle.lfs_model.specs.Stands.{LogMap}
-use Rattle.lfs_model.specs.Step.{gives_dir, is_full, is_long, is_there, last_dots, name, no_last, target}
-use Rattle.lfs_model.specs.Tree.{Dir, Names, State, Tree, byte_cmp, entry, form_of, is_dir, links, name_len, names_in, node}
-use Rattle.lfs_model.specs.Tree.{slot_len, without_name}
-use Rattle.lfs_model.specs.TreeOf.{node_by}
-use Rattle.lfs_model.specs.Walk.{At, Parent}
-use Rattle.lfs_model.proofs.Keeps.{parent_dir}
-use Rattle.lfs_model.proofs.Makes.{dir_at}
+use Rattle.lfs_model.specs.Tree.{Names}
 use Rattle.lfs_files.specs.declared.header.Header.{Header}
-use Rattle.lfs_files.specs.Headers.{as_header}
-use Rattle.lfs_path.specs.dirs.Directory.{names_at}
-use Rattle.lfs_path.specs.declared.last.Last.{Last}
 use Rattle.lfs_path.specs.Lasts.{HasLast}
 use Rattle.lfs_path.specs.Laws.{SaysLast}
 use Rattle.lfs_path.specs.Pieces.{is_dots}
 use Rattle.lfs_path.specs.Seeing.{HasHeader}
 use Rattle.lfs_path.proofs.LastPieces.{last_says}
-use Rattle.lfs_entries.specs.Entries.{is_directory}
-use Rattle.lfs_entries.specs.Looking.{IsHolder, LooksUp}
-use Rattle.lfs_entries.specs.Sizes.{HasRoom, IsSmall}
+use Rattle.lfs_entries.specs.Looking.{IsHolder}
+use Rattle.lfs_entries.specs.Sizes.{IsSmall}
 use Rattle.lfs_steps.proofs.calls.Checks.{below, not_below}
 use Rattle.lfs_steps.proofs.volume.Nodes.{IsMapOf, dir_there, no_header_none, node_by_header}
 use Rattle.lfs_steps.proofs.volume.Directories.{directory_formed, directory_node, entry_in_directory, free_directory, full_directory}

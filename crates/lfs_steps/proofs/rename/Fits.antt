@@ -1,30 +1,15 @@
 -- A rename can be drafted in a state, and the draft fits its log map: what is lost first, then the headers of both directories and the
 -- names in them.
-use Rattle.std.proofs.Common.{◌≡◌, ◌&&◌, ◌<◌, ◌≤◌, ◌+◌, ◌-◌, not, ℕ, Bool, true, false, List, Option, Some, None, refl, sym}
-use Rattle.std.proofs.Common.{◌∙◌, ap, subst, arith}
-use Rattle.std.specs.Prelude.{◌==◌, if◌then◌else◌, is_none}
-use Rattle.std.specs.FinMap.{find}
-use Rattle.std.proofs.lemmas.Bool.{eq-eqb}
-use Rattle.lfs_model.specs.Objects.{IsDirectory, IsHeaderOf}
-use Rattle.lfs_model.specs.Stands.{LogMap}
-use Rattle.lfs_model.specs.Step.{name}
-use Rattle.lfs_model.specs.Tree.{State, byte_cmp, entry, slot_len}
+use Rattle.lfs_steps.proofs.Prelude.{◌≡◌, ◌&&◌, ◌<◌, ◌≤◌, ◌+◌, ◌-◌, not, ℕ, Bool, true, false, List, Option, Some, None, refl, sym, ◌∙◌, ap}
+use Rattle.lfs_steps.proofs.Prelude.{subst, arith, ◌==◌, if◌then◌else◌, is_none, find, eq-eqb, IsDirectory, IsHeaderOf, LogMap, name, State}
+use Rattle.lfs_steps.proofs.Prelude.{byte_cmp, entry, slot_len, FilesState, IsApart, FitsHeader, as_header, Last, names_at, shrunk, Object}
+use Rattle.lfs_steps.proofs.Prelude.{Source, Target, is_directory, fewer_links, more_links, GivesName, FitsFound}
 use Rattle.lfs_files.specs.declared.header.Header.{Header}
-use Rattle.lfs_files.specs.Files.{FilesState, IsApart}
-use Rattle.lfs_files.specs.Headers.{FitsHeader, as_header}
-use Rattle.lfs_path.specs.declared.last.Last.{Last}
-use Rattle.lfs_path.specs.dirs.Directory.{names_at}
-use Rattle.lfs_path.specs.dirs.Taking.{shrunk}
-use Rattle.lfs_entries.specs.declared.entry.Object.{Object}
-use Rattle.lfs_entries.specs.declared.moving.Source.{Source}
-use Rattle.lfs_entries.specs.declared.moving.Target.{Target}
 use Rattle.lfs_entries.specs.Drafting.{HasNamed}
-use Rattle.lfs_entries.specs.Entries.{is_directory, number_of}
+use Rattle.lfs_entries.specs.Entries.{number_of}
 use Rattle.lfs_entries.specs.Moving.{HasFoundName, HasMove, HasMoved, HasNames, IsOther, IsThere, NamedFound, TakesFound, TakesMove}
-use Rattle.lfs_entries.specs.Moving.{fewer_links, first_holder, gains_directory, loses_directory, more_links, second_holder, second_linked}
+use Rattle.lfs_entries.specs.Moving.{first_holder, gains_directory, loses_directory, second_holder, second_linked}
 use Rattle.lfs_entries.specs.Moving.{size_with}
-use Rattle.lfs_entries.specs.Renaming.{GivesName}
-use Rattle.lfs_entries.specs.Replacing.{FitsFound}
 use Rattle.lfs_steps.proofs.paths.Named.{dir, entry_is, fits_d, holder, piece_is}
 use Rattle.lfs_steps.proofs.rename.Maps.{IsRename, apart_first, apart_second, found, holder_a, holder_b, linked_twice, linked_twice_b}
 use Rattle.lfs_steps.proofs.rename.Maps.{looks_o}

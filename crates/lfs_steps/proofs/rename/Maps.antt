@@ -6,34 +6,17 @@
 -- first name goes (`MovedMaps.DraftsMove`). The second then gives the object (`DraftsName`, or
 -- `DraftsOver` where it gave another). `free_moved` and `over_moved` say that m5 is the log map of
 -- the state after the call, whether there is room for it or not.
-use Rattle.std.proofs.Common.{length, ◌≡◌, ◌≢◌, ◌≤◌, ◌+◌, ◌-◌, ◌&&◌, not, ℕ, Bool, true, false, List, [], Option, Some, None, refl, sym}
-use Rattle.std.proofs.Common.{◌∙◌, ap, arith, ◌∷◌, ◌<◌, subst, ◌||◌}
-use Rattle.std.specs.Prelude.{nat_lt, T, ◌==◌, if◌then◌else◌, is_some, unwrap_or, is_none}
-use Rattle.std.proofs.lemmas.Bool.{eq-eqb}
-use Rattle.std.proofs.lemmas.Bool.Decides.{nat_tests}
-use Rattle.std.specs.FinMap.{is_sorted}
-use Rattle.lfs_model.specs.Call.{AreArguments, Done, Rename}
+use Rattle.lfs_steps.proofs.Prelude.{length, ◌≡◌, ◌≢◌, ◌≤◌, ◌+◌, ◌-◌, ◌&&◌, not, ℕ, Bool, true, false, List, [], Option, Some, None, refl}
+use Rattle.lfs_steps.proofs.Prelude.{sym, ◌∙◌, ap, arith, ◌∷◌, ◌<◌, subst, ◌||◌, nat_lt, T, ◌==◌, if◌then◌else◌, is_some, unwrap_or}
+use Rattle.lfs_steps.proofs.Prelude.{is_none, eq-eqb, nat_tests, is_sorted, AreArguments, Done, Rename, one_if, LogMap, Step, is_there}
+use Rattle.lfs_steps.proofs.Prelude.{let_go, name, target, with_tree, Dir, State, Tree, byte_cmp, form_of, is_dir, links, names, names_in}
+use Rattle.lfs_steps.proofs.Prelude.{node, with_name, without_name, tree_in, dir_at, named_counts, as_header, Last, Object, Source, Target}
+use Rattle.lfs_steps.proofs.Prelude.{is_directory, LooksAt, fewer_links, more_links, GivesName, FitsFound}
 use Rattle.lfs_model.specs.Entry as entry
-use Rattle.lfs_model.specs.Objects.{one_if}
-use Rattle.lfs_model.specs.Stands.{LogMap}
-use Rattle.lfs_model.specs.Step.{Step, is_there, let_go, name, target, with_tree}
-use Rattle.lfs_model.specs.Tree.{Dir, Names, State, Tree, byte_cmp, entry as entry_in, form_of, is_dir, links, names, names_in, node}
-use Rattle.lfs_model.specs.Tree.{with_name, without_name}
-use Rattle.lfs_model.specs.TreeOf.{tree_in}
+use Rattle.lfs_model.specs.Tree.{Names, entry as entry_in}
 use Rattle.lfs_model.proofs.KeepsNames.{rename_keeps}
-use Rattle.lfs_model.proofs.Makes.{dir_at}
-use Rattle.lfs_model.proofs.Shrinking.{named_counts}
 use Rattle.lfs_files.specs.declared.header.Header.{Header}
-use Rattle.lfs_files.specs.Headers.{as_header}
-use Rattle.lfs_path.specs.declared.last.Last.{Last}
-use Rattle.lfs_entries.specs.declared.entry.Object.{Object}
-use Rattle.lfs_entries.specs.declared.moving.Source.{Source}
-use Rattle.lfs_entries.specs.declared.moving.Target.{Target}
-use Rattle.lfs_entries.specs.Entries.{is_directory}
-use Rattle.lfs_entries.specs.Looking.{LooksAt}
-use Rattle.lfs_entries.specs.Moving.{fewer_links, more_links}
-use Rattle.lfs_entries.specs.Renaming.{GivesName}
-use Rattle.lfs_entries.specs.Replacing.{FitsFound, FitsReplaced, FitsTarget}
+use Rattle.lfs_entries.specs.Replacing.{FitsReplaced, FitsTarget}
 use Rattle.lfs_steps.proofs.volume.Nodes.{IsMapOf, IsShaped}
 use Rattle.lfs_steps.proofs.volume.KeptMaps.{HasHolder, map_by}
 use Rattle.lfs_steps.proofs.volume.MovedMaps.{DraftsMove, DraftsName, DraftsOver, IsMoving, IsNamed, named_kept, named_new, named_over}

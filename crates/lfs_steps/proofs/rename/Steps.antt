@@ -1,16 +1,11 @@
 -- The call rename, exit by exit.
-use Rattle.std.proofs.Common.{◌≡◌, ◌⊎◌, ◌<◌, ◌≤◌, ◌*◌, ◌++◌, ℕ, Bool, true, false, not, ◌&&◌, ◌||◌, List, [], ◌∷◌, length, refl, ◌∙◌, ap}
-use Rattle.std.proofs.Common.{◌≢◌, inl, inr, ⊎_elim, nat_le, nat_lt, eqb}
-use Rattle.std.specs.Prelude.{◌==◌, if◌then◌else◌}
-use Rattle.std.proofs.lemmas.Bool.Decides.{eqb_tells}
-use Rattle.lfs_model.specs.Call.{Answer, Done, Refuse, Rename}
-use Rattle.lfs_model.specs.Need.{need}
-use Rattle.lfs_model.specs.PathText.{slash}
-use Rattle.lfs_model.specs.Refusal.{Busy, DirFull, Inval, IsDir, NameTooLong, NoEntry, NoSpace, NotDir, NotEmpty, Refusal, TooManyLinks}
-use Rattle.lfs_model.specs.Step.{Step, checked, gives_dir, is_full, is_long, is_there, is_within, last_dots, let_go, name, no_last}
-use Rattle.lfs_model.specs.Step.{no_space, target, when, with_tree}
-use Rattle.lfs_model.specs.Tree.{State, Tree, links, names_in, with_name, without_name}
-use Rattle.lfs_model.specs.Walk.{At, End, Parent, Refused}
+use Rattle.lfs_steps.proofs.Prelude.{◌≡◌, ◌⊎◌, ◌<◌, ◌≤◌, ◌*◌, ◌++◌, ℕ, Bool, true, false, not, ◌&&◌, ◌||◌, List, [], ◌∷◌, length, refl, ◌∙◌}
+use Rattle.lfs_steps.proofs.Prelude.{ap, ◌≢◌, inl, inr, ⊎_elim, nat_le, nat_lt, eqb, ◌==◌, if◌then◌else◌, eqb_tells, Answer, Done, Refuse}
+use Rattle.lfs_steps.proofs.Prelude.{Rename, need, slash, Busy, DirFull, Inval, NameTooLong, NoEntry, NoSpace, NotDir, NotEmpty, Refusal}
+use Rattle.lfs_steps.proofs.Prelude.{TooManyLinks, Step, checked, gives_dir, is_full, is_long, is_there, is_within, last_dots, let_go, name}
+use Rattle.lfs_steps.proofs.Prelude.{no_last, no_space, target, when, with_tree, State, Tree, links, names_in, with_name, without_name, At}
+use Rattle.lfs_steps.proofs.Prelude.{End, Parent, Refused}
+use Rattle.lfs_model.specs.Refusal.{IsDir}
 use Rattle.lfs_steps.proofs.calls.Checks.{below, not_below, passes, refuses}
 
 -- ---- lists of refusals

@@ -1,12 +1,9 @@
 -- Objects that names give, as the model sees them: whether names stand in them.
-use Rattle.std.proofs.Common.{◌≡◌, ◌<◌, ◌≤◌, ◌*◌, ℕ, Bool, true, false, [], length, Option, Some, None, refl, ◌∙◌, ap, nat_lt, arith}
-use Rattle.std.specs.Prelude.{unwrap_or}
-use Rattle.lfs_model.specs.Objects.{IsHeaderOf}
-use Rattle.lfs_model.specs.Stands.{LogMap}
-use Rattle.lfs_model.specs.Tree.{Dir, File, Link, Names, Node, State, Tree, is_dir, links_at, names_in, names_of, node, slot_len}
+use Rattle.lfs_steps.proofs.Prelude.{◌≡◌, ◌<◌, ◌≤◌, ◌*◌, ℕ, Bool, true, false, [], length, Option, Some, None, refl, ◌∙◌, ap, nat_lt, arith}
+use Rattle.lfs_steps.proofs.Prelude.{unwrap_or, IsHeaderOf, LogMap, Dir, File, Link, Node, State, Tree, is_dir, links_at, names_in}
+use Rattle.lfs_steps.proofs.Prelude.{names_of, node, slot_len, as_header, is_directory}
+use Rattle.lfs_model.specs.Tree.{Names}
 use Rattle.lfs_files.specs.declared.header.Header.{Header}
-use Rattle.lfs_files.specs.Headers.{as_header}
-use Rattle.lfs_entries.specs.Entries.{is_directory}
 use Rattle.lfs_steps.proofs.calls.Checks.{below, not_below}
 use Rattle.lfs_steps.proofs.volume.Nodes.{IsMapOf}
 use Rattle.lfs_steps.proofs.volume.Directories.{size_of_directory}

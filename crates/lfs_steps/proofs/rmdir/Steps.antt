@@ -1,11 +1,9 @@
 -- The call rmdir, exit by exit.
-use Rattle.std.proofs.Common.{◌≡◌, ℕ, Bool, true, false, List, [], ◌∷◌, length, nat_lt, refl, ◌∙◌, ap}
-use Rattle.std.specs.Prelude.{not}
-use Rattle.lfs_model.specs.Call.{Answer, Done, Refuse, Rmdir}
-use Rattle.lfs_model.specs.Refusal.{Busy, Inval, NameTooLong, NoEntry, NotDir, NotEmpty, Refusal}
-use Rattle.lfs_model.specs.Step.{Step, checked, gives_dir, is_long, is_there, last_dots, no_last, removes_dir, target, when}
-use Rattle.lfs_model.specs.Tree.{State, names_in}
-use Rattle.lfs_model.specs.Walk.{At, Parent, Refused}
+use Rattle.lfs_steps.proofs.Prelude.{◌≡◌, ℕ, Bool, true, false, List, [], ◌∷◌, length, nat_lt, refl, ◌∙◌, ap, not, Answer, Done, Refuse}
+use Rattle.lfs_steps.proofs.Prelude.{Busy, Inval, NameTooLong, NoEntry, NotDir, NotEmpty, Refusal, Step, checked, gives_dir, is_long}
+use Rattle.lfs_steps.proofs.Prelude.{is_there, last_dots, no_last, target, when, State, names_in, At, Parent, Refused}
+use Rattle.lfs_model.specs.Call.{Rmdir}
+use Rattle.lfs_model.specs.Step.{removes_dir}
 use Rattle.lfs_steps.proofs.calls.Checks.{passes, refuses}
 use Rattle.lfs_steps.proofs.old_entries.Steps.{gone}
 

@@ -1,11 +1,7 @@
 -- The call unlink as one that takes an old entry.
-use Rattle.std.proofs.Common.{◌≡◌, ℕ, false, ◌||◌, true, List, refl}
-use Rattle.lfs_model.specs.Call.{Done, Refuse, Unlink}
-use Rattle.lfs_model.specs.PathText.{slash}
-use Rattle.lfs_model.specs.Refusal.{Refusal}
-use Rattle.lfs_model.specs.Step.{Step, gives_dir, is_long, is_there, last_dots, no_last}
-use Rattle.lfs_model.specs.Tree.{State}
-use Rattle.lfs_model.specs.Walk.{At, Parent, Refused}
+use Rattle.lfs_steps.proofs.Prelude.{◌≡◌, ℕ, false, ◌||◌, true, List, refl, Done, Refuse, slash, Refusal, Step, gives_dir, is_long}
+use Rattle.lfs_steps.proofs.Prelude.{is_there, last_dots, no_last, State, At, Parent, Refused}
+use Rattle.lfs_model.specs.Call.{Unlink}
 use Rattle.lfs_steps.proofs.old_entries.Steps.{ChecksOld, OldCall, gone, old_taken, step_old}
 
 pub unlink_refused : (N : ℕ) (s : State) (p : List ℕ) (r : Refusal) → Parent s.tree p (Refused r)

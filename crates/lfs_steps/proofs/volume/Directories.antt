@@ -1,24 +1,14 @@
 -- A directory of a volume: its names as the model sees them, and the least number that is free.
-use Rattle.std.proofs.Common.{refl, ◌≡◌, ◌≢◌, ◌<◌, ◌≤◌, ◌*◌, ℕ, true, false, List, [], length}
-use Rattle.std.proofs.Common.{Option, Some, None, sym, ◌∙◌, ap, ⊎_elim, arith, ◌∷◌}
-use Rattle.std.specs.Prelude.{unwrap_or}
-use Rattle.std.proofs.lemmas.Bool.{cases_lt}
-use Rattle.std.specs.FinMap.{find}
-use Rattle.lfs_model.specs.declared.Kind.{Kind}
+use Rattle.lfs_steps.proofs.Prelude.{refl, ◌≡◌, ◌≢◌, ◌<◌, ◌≤◌, ◌*◌, ℕ, true, false, List, [], length, Option, Some, None, sym, ◌∙◌, ap}
+use Rattle.lfs_steps.proofs.Prelude.{⊎_elim, arith, ◌∷◌, unwrap_or, cases_lt, find, Kind, IsDirectory, IsHeaderOf, LogMap, is_full, Dir}
+use Rattle.lfs_steps.proofs.Prelude.{File, Node, State, byte_cmp, form_of, is_dir, least, name_limit, name_len, names_in, names_of, node}
+use Rattle.lfs_steps.proofs.Prelude.{slot_len, map_of, node_by, slots, least_free, starts_one, slots_length, as_header}
 use Rattle.lfs_model.specs.declared.Kind.TheVariants as kind
 use Rattle.lfs_model.specs.Encodes.{HasInode}
 use Rattle.lfs_model.specs.Entry as entry
-use Rattle.lfs_model.specs.Objects.{IsDirectory, IsHeaderOf}
-use Rattle.lfs_model.specs.Stands.{LogMap}
-use Rattle.lfs_model.specs.Step.{is_full}
-use Rattle.lfs_model.specs.Tree.{Dir, File, Names, Node, State, byte_cmp, entry as entry_in, form_of, is_dir, least, name_limit, name_len}
-use Rattle.lfs_model.specs.Tree.{names_in, names_of, node, slot_len}
-use Rattle.lfs_model.specs.TreeOf.{map_of, node_by, slots}
-use Rattle.lfs_model.proofs.Leasts.{least_free, least_taken}
-use Rattle.lfs_model.proofs.Makes.{starts_one}
-use Rattle.lfs_model.proofs.Standing.{slots_length}
+use Rattle.lfs_model.specs.Tree.{Names, entry as entry_in}
+use Rattle.lfs_model.proofs.Leasts.{least_taken}
 use Rattle.lfs_files.specs.declared.header.Header.{Header}
-use Rattle.lfs_files.specs.Headers.{as_header}
 use Rattle.lfs_steps.proofs.calls.Checks.{below, at_most, not_at_most}
 use Rattle.lfs_steps.proofs.volume.Slots.{all_slots, free_slots, slots_whole, some_slot}
 use Rattle.lfs_steps.proofs.volume.Nodes.{IsMapOf, dir_there, no_header_none, node_by_header}

@@ -1,29 +1,14 @@
 -- A file of a volume's log map with other bytes: the next log map is that of the state with the file so.
-use Rattle.std.proofs.Common.{◌≡◌, ◌≢◌, ◌<◌, ◌≤◌, ◌+◌, ◌*◌, ◌/◌, ◌%◌, ℕ, Bool, List, length, map, take, drop, Option, Some, None, refl, sym}
-use Rattle.std.proofs.Common.{◌∙◌, ap, subst, ⊎_elim, arith, slice_index}
-use Rattle.std.specs.Prelude.{T, count_by}
-use Rattle.std.specs.List.{AllByRecursion, range_with_len}
-use Rattle.std.proofs.Math.Path.{fun_ext}
-use Rattle.std.proofs.lemmas.Bool.{cases_eq}
-use Rattle.std.proofs.lemmas.Cmp.{nat_cmp_total}
-use Rattle.std.specs.Ordering.{nat_cmp}
-use Rattle.std.specs.FinMap.{is_sorted}
+use Rattle.lfs_steps.proofs.Prelude.{◌≡◌, ◌≢◌, ◌<◌, ◌≤◌, ◌+◌, ◌*◌, ◌/◌, ◌%◌, ℕ, Bool, List, length, map, take, drop, Option, Some, None}
+use Rattle.lfs_steps.proofs.Prelude.{refl, sym, ◌∙◌, ap, subst, ⊎_elim, arith, slice_index, T, count_by, AllByRecursion, range_with_len}
+use Rattle.lfs_steps.proofs.Prelude.{fun_ext, cases_eq, nat_cmp_total, nat_cmp, is_sorted, IsLogMap, need, AreLong, IsChangedAt}
+use Rattle.lfs_steps.proofs.Prelude.{IsDirectory, IsObject, slot_in, IsWithinLimits, LogMap, with_tree, Node, File, Dir, Link, State, Tree}
+use Rattle.lfs_steps.proofs.Prelude.{is_dir, links, links_at, names, node, slot_len, with_node, map_of, object, tree_in, same_or_not, gives}
+use Rattle.lfs_steps.proofs.Prelude.{same_objects, object_kept, total_put, weight, find_here, find_other}
 use Rattle.lfs_model.specs.declared.Kind.TheVariants as kind
-use Rattle.lfs_model.specs.Encodes.{IsLogMap}
 use Rattle.lfs_model.specs.Entry.{Header}
-use Rattle.lfs_model.specs.Need.{need}
-use Rattle.lfs_model.specs.Objects.{AreLong, IsChangedAt, IsDirectory, IsObject}
-use Rattle.lfs_model.specs.Slot.{slot_in}
-use Rattle.lfs_model.specs.Sound.{IsWithinLimits}
-use Rattle.lfs_model.specs.Stands.{LogMap}
-use Rattle.lfs_model.specs.Step.{with_tree}
-use Rattle.lfs_model.specs.Tree.{Node, File, Dir, Link, Names, State, Tree, is_dir, links, links_at, names, node, slot_len, with_node}
-use Rattle.lfs_model.specs.TreeOf.{AreFormed, map_of, object, slots, tree_in}
-use Rattle.lfs_model.proofs.Growing.{same_or_not, gives}
-use Rattle.lfs_model.proofs.ObjectBytes.{same_objects}
-use Rattle.lfs_model.proofs.ObjectMaps.{object_kept}
-use Rattle.lfs_model.proofs.Sums.{total_put, weight}
-use Rattle.lfs_model.proofs.Trees.{find_here, find_other}
+use Rattle.lfs_model.specs.Tree.{Names}
+use Rattle.lfs_model.specs.TreeOf.{AreFormed, slots}
 use Rattle.lfs_model.proofs.Writes.{written_sound}
 use Rattle.lfs_steps.proofs.volume.Nodes.{IsMapOf, IsFileOf, IsShaped}
 

@@ -1,13 +1,9 @@
 -- The headers that calls give to files and to directories fit an inode.
-use Rattle.std.proofs.Common.{◌≡◌, ◌≤◌, ◌+◌, ◌-◌, ◌*◌, ℕ, sym, subst, arith}
-use Rattle.lfs_model.specs.declared.Kind.{Kind}
+use Rattle.lfs_steps.proofs.Prelude.{◌≡◌, ◌≤◌, ◌+◌, ◌-◌, ◌*◌, ℕ, sym, subst, arith, Kind, IsForm, IsHeaderOf, slot_len, FitsHeader}
+use Rattle.lfs_steps.proofs.Prelude.{as_header}
 use Rattle.lfs_model.specs.declared.Kind.TheVariants as kind
-use Rattle.lfs_model.specs.Inode.{IsForm, IsSize}
-use Rattle.lfs_model.specs.Objects.{IsHeaderOf}
-use Rattle.lfs_model.specs.Tree.{slot_len}
+use Rattle.lfs_model.specs.Inode.{IsSize}
 use Rattle.lfs_files.specs.declared.header.Header.{Header}
-use Rattle.lfs_files.specs.Headers.{FitsHeader}
-use Rattle.lfs_files.specs.Headers.{as_header}
 use Rattle.lfs_steps.proofs.volume.Slots.{whole_less, whole_more}
 
 -- the form of what a volume has

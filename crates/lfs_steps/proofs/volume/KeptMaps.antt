@@ -1,37 +1,24 @@
 -- What the log map of a volume keeps through each step of a draft, whatever state it is of, and
 -- what becomes of links.
-use Rattle.std.proofs.Common.{◌≡◌, ◌≢◌, ◌⊎◌, inl, inr, ◌<◌, ◌≤◌, ◌+◌, ◌*◌, ◌/◌, ◌%◌, ℕ, Bool, true, false, List, length, map, take, drop}
-use Rattle.std.proofs.Common.{slice_index, Some, None, refl, sym, ◌∙◌, ap, subst, cond, ⊎_elim, arith}
-use Rattle.std.specs.Prelude.{◌==◌}
-use Rattle.std.specs.List.{AllByRecursion, range_with_len}
+use Rattle.lfs_steps.proofs.Prelude.{◌≡◌, ◌≢◌, ◌⊎◌, inl, inr, ◌<◌, ◌≤◌, ◌+◌, ◌*◌, ◌/◌, ◌%◌, ℕ, Bool, true, false, List, length, map, take}
+use Rattle.lfs_steps.proofs.Prelude.{drop, slice_index, Some, None, refl, sym, ◌∙◌, ap, subst, cond, ⊎_elim, arith, ◌==◌, AllByRecursion}
+use Rattle.lfs_steps.proofs.Prelude.{range_with_len, cases_eq, eq-eqb, nat_cmp, Kind, IsForm, IsWithHeader, IsWithoutFile, AreLong}
+use Rattle.lfs_steps.proofs.Prelude.{IsChangedAt, IsDirectory, IsObject, slot_in, LogMap, byte_cmp, slot_len, with_name, without}
+use Rattle.lfs_steps.proofs.Prelude.{without_name, State, Tree, links, map_of, tree_in, same_objects, write_ends, object_fits, object_kept}
+use Rattle.lfs_steps.proofs.Prelude.{with_header_at, without_file_at, WritesFile, as_header, names_at, CutsSlot, shrunk, Sound}
 use Rattle.std.specs.FinMap.{put}
-use Rattle.std.proofs.lemmas.Bool.{cases_eq, eq-eqb}
-use Rattle.std.specs.Ordering.{nat_cmp}
-use Rattle.lfs_model.specs.declared.Kind.{Kind}
-use Rattle.lfs_model.specs.Inode.{IsForm}
 use Rattle.lfs_model.specs.declared.Kind.TheVariants as kind
-use Rattle.lfs_model.specs.Changing.{IsWithHeader}
-use Rattle.lfs_model.specs.Cutting.{IsWithoutFile}
 use Rattle.lfs_model.specs.Entry as entry
-use Rattle.lfs_model.specs.Objects.{AreLong, IsChangedAt, IsDirectory, IsObject}
-use Rattle.lfs_model.specs.Slot.{slot_in}
-use Rattle.lfs_model.specs.Stands.{LogMap}
-use Rattle.lfs_model.specs.Tree.{byte_cmp, slot_len, with_name, without, without_name, State, Tree, links}
-use Rattle.lfs_model.specs.TreeOf.{map_of, slots, tree_in}
-use Rattle.lfs_model.proofs.ObjectBytes.{same_objects, write_ends}
-use Rattle.lfs_model.proofs.ObjectMaps.{object_fits, object_kept, object_lost}
-use Rattle.lfs_model.proofs.ObjectTrees.{links_apart, object_taken, with_header_at, without_file_at}
+use Rattle.lfs_model.specs.TreeOf.{slots}
+use Rattle.lfs_model.proofs.ObjectMaps.{object_lost}
+use Rattle.lfs_model.proofs.ObjectTrees.{links_apart, object_taken}
 use Rattle.lfs_files.specs.declared.header.Header.{Header}
-use Rattle.lfs_files.specs.Files.{WritesFile}
-use Rattle.lfs_files.specs.Headers.{as_header}
-use Rattle.lfs_path.specs.dirs.Directory.{names_at}
-use Rattle.lfs_path.specs.dirs.Taking.{CutsSlot, TakesName, shrunk}
+use Rattle.lfs_path.specs.dirs.Taking.{TakesName}
 use Rattle.lfs_path.proofs.of_dirs.InTrees.{name_in_tree, name_off_tree}
 use Rattle.lfs_path.proofs.of_dirs.Takings.{cut_kept}
 use Rattle.lfs_steps.proofs.volume.FileBytes.{shape_kept}
 use Rattle.lfs_steps.proofs.volume.Nodes.{IsShaped, IsMapOf}
 use Rattle.lfs_steps.proofs.volume.MovedNames.{never, only_at}
-use Rattle.lfs_model.specs.Sound.{Sound}
 use Rattle.lfs_steps.proofs.volume.Slots.{slot_some}
 
 -- Each object that is there was there, and its links are others by what goes and what comes.

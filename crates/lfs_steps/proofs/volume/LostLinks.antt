@@ -1,13 +1,8 @@
 -- An object that has a link less in a draft, or is gone from it, as what loses its name in a state.
-use Rattle.std.proofs.Common.{◌≡◌, ◌≢◌, ◌⊎◌, ◌≤◌, ◌-◌, ◌&&◌, ◌||◌, not, ℕ, Bool, true, false, refl, ap, inl, inr, ⊎_elim, nat_lt, arith}
-use Rattle.std.proofs.lemmas.Bool.Decides.{nat_tests}
-use Rattle.lfs_model.specs.declared.Kind.{Kind}
+use Rattle.lfs_steps.proofs.Prelude.{◌≡◌, ◌≢◌, ◌⊎◌, ◌≤◌, ◌-◌, ◌&&◌, ◌||◌, not, ℕ, Bool, true, false, refl, ap, inl, inr, ⊎_elim, nat_lt}
+use Rattle.lfs_steps.proofs.Prelude.{arith, nat_tests, Kind, LogMap, State, opened, as_header, is_directory}
 use Rattle.lfs_model.specs.declared.Kind.TheVariants as kind
-use Rattle.lfs_model.specs.Stands.{LogMap}
-use Rattle.lfs_model.specs.Tree.{State, opened}
 use Rattle.lfs_files.specs.declared.header.Header.{Header}
-use Rattle.lfs_files.specs.Headers.{as_header}
-use Rattle.lfs_entries.specs.Entries.{is_directory}
 use Rattle.lfs_entries.specs.OldNames.{LosesLink, stays}
 use Rattle.lfs_steps.proofs.volume.LostNames.{LosesName}
 

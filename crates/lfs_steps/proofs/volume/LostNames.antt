@@ -1,27 +1,16 @@
 -- An object that loses a name has a link less, or goes: in the log map, and in the tree.
-use Rattle.std.proofs.Common.{◌≡◌, ◌≢◌, ◌⊎◌, ◌≤◌, ◌∙◌, ◌+◌, ◌-◌, ◌&&◌, not, ℕ, Bool, true, false, Option, Some, None, refl, sym, ap, inl}
-use Rattle.std.proofs.Common.{inr, ⊎_elim, arith}
+use Rattle.lfs_steps.proofs.Prelude.{◌≡◌, ◌≢◌, ◌⊎◌, ◌≤◌, ◌∙◌, ◌+◌, ◌-◌, ◌&&◌, not, ℕ, Bool, true, false, Option, Some, None, refl, sym, ap}
+use Rattle.lfs_steps.proofs.Prelude.{inl, inr, ⊎_elim, arith, ◌==◌, if◌then◌else◌, Dir, File, Link, Node, State, Tree, is_dir, links}
+use Rattle.lfs_steps.proofs.Prelude.{links_at, names, node, opened, without, IsChangedAt, one_if, IsWithHeader, IsWithinLimits}
+use Rattle.lfs_steps.proofs.Prelude.{IsWithoutFile, Kind, LogMap, let_go, nat_cmp, nat_tests, node_by, tree_in, object_length}
+use Rattle.lfs_steps.proofs.Prelude.{with_header_at, without_file_at}
 use Rattle.lfs_model.specs.declared.Kind.TheVariants as kind
 use Rattle.lfs_model.specs.Entry as entry
-use Rattle.std.specs.Prelude.{◌==◌, if◌then◌else◌}
-use Rattle.lfs_model.specs.Tree.{Dir, File, Link, Node, State, Tree, is_dir, links, links_at, names, node, opened, without}
-use Rattle.lfs_model.specs.Objects.{IsChangedAt, one_if}
 use Rattle.lfs_steps.proofs.volume.Nodes.{IsMapOf, IsShaped, node_by_header}
-use Rattle.lfs_model.specs.Changing.{IsWithHeader}
-use Rattle.lfs_model.specs.Sound.{IsWithinLimits}
-use Rattle.lfs_model.specs.Cutting.{IsWithoutFile}
-use Rattle.lfs_model.specs.declared.Kind.{Kind}
-use Rattle.lfs_model.specs.Stands.{LogMap}
 use Rattle.lfs_steps.proofs.volume.KeptMaps.{Shifts, gone_kept, gone_tree, none_at, relinked_kept, relinked_shifts, relinked_tree}
 use Rattle.lfs_steps.proofs.volume.KeptMaps.{shifts_gone}
-use Rattle.lfs_model.specs.Step.{let_go}
-use Rattle.std.specs.Ordering.{nat_cmp}
-use Rattle.std.proofs.lemmas.Bool.Decides.{nat_tests}
-use Rattle.lfs_model.specs.TreeOf.{node_by, tree_in}
 use Rattle.lfs_steps.proofs.volume.MovedNames.{nothing_at, only_at}
-use Rattle.lfs_model.proofs.Standing.{object_length}
 use Rattle.lfs_model.proofs.Dropping.{opened_file}
-use Rattle.lfs_model.proofs.ObjectTrees.{with_header_at, without_file_at}
 
 -- Object old, of this header, has a link less in the log map, and keeps another or a handle.
 pub record KeepsLink (s : State) (m m1 : LogMap) (old : ℕ) (h : entry.Header) : Type 0 where

@@ -1,26 +1,18 @@
 -- A name moved from one directory to another, from log map to log map: a draft changes the links
 -- of both directories, takes
 -- the name out of the first, and writes it into the second. The two may be one directory.
-use Rattle.std.proofs.Common.{◌≡◌, ◌≢◌, ◌⊎◌, ◌≤◌, ◌+◌, ℕ, List, [], Option, Some, None, refl, sym, ◌∙◌, ap, subst, ⊎_elim, arith, Bool}
-use Rattle.std.proofs.Common.{true, false, cond, eqb}
-use Rattle.std.specs.Prelude.{◌==◌, unwrap_or}
-use Rattle.std.specs.FinMap.{find, put}
-use Rattle.std.proofs.lemmas.Bool.Decides.{eqb_tells}
+use Rattle.lfs_steps.proofs.Prelude.{◌≡◌, ◌≢◌, ◌⊎◌, ◌≤◌, ◌+◌, ℕ, List, [], Option, Some, None, refl, sym, ◌∙◌, ap, subst, ⊎_elim, arith}
+use Rattle.lfs_steps.proofs.Prelude.{Bool, true, false, cond, eqb, ◌==◌, unwrap_or, find, eqb_tells, IsWithHeader, IsDirectory, LogMap}
+use Rattle.lfs_steps.proofs.Prelude.{File, Node, Tree, byte_cmp, names_of, node, with_name, without_name, tree_in, WritesFile, as_header}
+use Rattle.lfs_steps.proofs.Prelude.{AddsName, grown, names_at, CutsSlot, shrunk, relinked}
+use Rattle.std.specs.FinMap.{put}
 use Rattle.lfs_model.specs.declared.Kind.TheVariants as kind
-use Rattle.lfs_model.specs.Changing.{IsWithHeader}
-use Rattle.lfs_model.specs.Objects.{IsDirectory}
-use Rattle.lfs_model.specs.Stands.{LogMap}
-use Rattle.lfs_model.specs.Tree.{File, Node, Tree, byte_cmp, entry as entry_in, names_of, node, with_name, without_name}
-use Rattle.lfs_model.specs.TreeOf.{tree_in}
+use Rattle.lfs_model.specs.Tree.{entry as entry_in}
 use Rattle.lfs_files.specs.declared.header.Header.{Header}
-use Rattle.lfs_files.specs.Files.{HasFile, WritesFile}
-use Rattle.lfs_files.specs.Headers.{as_header}
-use Rattle.lfs_path.specs.dirs.Adding.{AddsName, grown}
-use Rattle.lfs_path.specs.dirs.Directory.{names_at}
+use Rattle.lfs_files.specs.Files.{HasFile}
 use Rattle.lfs_path.specs.dirs.Repointing.{RepointsName}
-use Rattle.lfs_path.specs.dirs.Taking.{CutsSlot, TakesName, shrunk}
+use Rattle.lfs_path.specs.dirs.Taking.{TakesName}
 use Rattle.lfs_path.proofs.of_dirs.InTrees.{directory_node}
-use Rattle.lfs_files.specs.Headers.{relinked}
 use Rattle.lfs_steps.proofs.volume.Nodes.{IsShaped}
 use Rattle.lfs_steps.proofs.volume.KeptMaps.{HasHolder, Shifts, holder_directory, relinked_kept, relinked_shifts, relinked_tree}
 use Rattle.lfs_steps.proofs.volume.KeptMaps.{shifts_joined}

@@ -1,26 +1,19 @@
 -- Trees with the names of a directory changed: how many names and links each node has then.
-use Rattle.std.proofs.Common.{◌≡◌, ◌≢◌, ◌+◌, ◌&&◌, ℕ, Bool, true, false, not, List, [], ◌∷◌, Option, Some, None, refl, sym, ◌∙◌, ap, subst}
-use Rattle.std.proofs.Common.{cond, ⊎_elim, eqb, arith}
-use Rattle.std.specs.Prelude.{T, ◌==◌, count_by, sum_by, unwrap_or}
-use Rattle.std.proofs.Math.Path.{fun_ext}
-use Rattle.std.proofs.lemmas.Bool.{eq-eqb}
-use Rattle.std.proofs.lemmas.Bool.Decides.{eqb_tells}
-use Rattle.std.proofs.lemmas.Cmp.{nat_cmp_total}
+use Rattle.lfs_steps.proofs.Prelude.{◌≡◌, ◌≢◌, ◌+◌, ◌&&◌, ℕ, Bool, true, false, not, List, [], ◌∷◌, Option, Some, None, refl, sym, ◌∙◌, ap}
+use Rattle.lfs_steps.proofs.Prelude.{subst, cond, ⊎_elim, eqb, arith, T, ◌==◌, count_by, unwrap_or, fun_ext, eq-eqb, eqb_tells}
+use Rattle.lfs_steps.proofs.Prelude.{nat_cmp_total, nat_cmp, eq_by_cmp, find, is_sorted, is_sorted-where_key, one_if, Dir, File, Link, Node}
+use Rattle.lfs_steps.proofs.Prelude.{Tree, byte_cmp, entry, form_of, is_dir, links, links_at, names, names_in, names_of, node, with_name}
+use Rattle.lfs_steps.proofs.Prelude.{with_node, without, without_name, gives, same_or_not, dir_at, find_without, total_put, weight}
+use Rattle.lfs_steps.proofs.Prelude.{change_less, cmp_other, find_here, find_other}
+use Rattle.std.specs.Prelude.{sum_by}
 use Rattle.std.proofs.lemmas.List.Sums.{sum_by-cons}
 use Rattle.std.specs.Cmp.Lexicographic.{nat_list_cmp_total}
-use Rattle.std.specs.Ordering.{nat_cmp, eq_by_cmp}
-use Rattle.std.specs.FinMap.{find, is_sorted, put}
-use Rattle.std.specs.FinMap.Entries.{is_sorted-where_key}
-use Rattle.lfs_model.specs.Objects.{one_if}
-use Rattle.lfs_model.specs.Tree.{Dir, File, Link, Names, Node, Tree, byte_cmp, entry, form_of, is_dir, links, links_at, names, names_in}
-use Rattle.lfs_model.specs.Tree.{names_of, node, with_name, with_node, without, without_name}
-use Rattle.lfs_model.proofs.Growing.{gives, same_or_not}
-use Rattle.lfs_model.proofs.Makes.{dir_at}
+use Rattle.std.specs.FinMap.{put}
+use Rattle.lfs_model.specs.Tree.{Names}
 use Rattle.lfs_model.proofs.Moves.{none_if}
 use Rattle.lfs_model.proofs.Shrinking as shrinks
-use Rattle.lfs_model.proofs.Sums.{find_without, total_put, total_without, weight, weight-le-total}
-use Rattle.lfs_model.proofs.Swaps.{change_less, change_order}
-use Rattle.lfs_model.proofs.Trees.{cmp_other, find_here, find_other}
+use Rattle.lfs_model.proofs.Sums.{total_without, weight-le-total}
+use Rattle.lfs_model.proofs.Swaps.{change_order}
 
 -- ---- numbers that count once
 

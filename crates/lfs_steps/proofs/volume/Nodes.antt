@@ -1,31 +1,21 @@
 -- What a volume's log map says of the nodes of its tree: files that handles give, what stat tells, the ends of walks, and the need.
-use Rattle.std.proofs.Common.{◌≡◌, ◌≢◌, ◌≤◌, ◌+◌, ◌*◌, ◌/◌, ◌%◌, ℕ, zero, suc, Bool, true, false, List, [], length, Option, Some, None}
-use Rattle.std.proofs.Common.{refl, sym, ◌∙◌, ap, arith, subst}
-use Rattle.std.specs.Prelude.{MatchOption, if◌then◌else◌, unwrap_or}
-use Rattle.std.specs.Ordering.{nat_cmp}
-use Rattle.std.specs.FinMap.{find}
-use Rattle.lfs_model.specs.declared.Kind.{Kind}
+use Rattle.lfs_steps.proofs.Prelude.{◌≡◌, ◌≢◌, ◌≤◌, ◌+◌, ◌*◌, ◌/◌, ◌%◌, ℕ, zero, suc, Bool, true, false, List, [], length, Option, Some}
+use Rattle.lfs_steps.proofs.Prelude.{None, refl, sym, ◌∙◌, ap, arith, subst, MatchOption, if◌then◌else◌, unwrap_or, nat_cmp, find, Kind}
+use Rattle.lfs_steps.proofs.Prelude.{IsLogMap, need, AreLong, IsDirectory, IsHeaderOf, comps, slash, text_refusal, Refusal, Sound}
+use Rattle.lfs_steps.proofs.Prelude.{IsWithinLimits, LogMap, stat_of, the_node, Node, File, Link, State, Tree, is_dir, links, node}
+use Rattle.lfs_steps.proofs.Prelude.{slot_len, map_of, node_by, node_of, object, slots, tree_in, IsLogOf, End, At, Refused, Resolve}
+use Rattle.lfs_steps.proofs.Prelude.{object_length, slots_length, node_in, IsCounted, TotalsOfTree}
 use Rattle.lfs_model.specs.declared.Kind.TheVariants as kind
 use Rattle.lfs_model.specs.Call.{Room}
-use Rattle.lfs_model.specs.Encodes.{IsLogMap}
 use Rattle.lfs_model.specs.Entry.{Header}
-use Rattle.lfs_model.specs.Need.{data_blocks, meta_blocks, need}
-use Rattle.lfs_model.specs.Objects.{AreLong, IsDirectory, IsHeaderOf}
-use Rattle.lfs_model.specs.PathText.{comps, from_root, slash, text_refusal}
-use Rattle.lfs_model.specs.Refusal.{Refusal}
-use Rattle.lfs_model.specs.Sound.{Sound, IsFile, IsWithinLimits}
-use Rattle.lfs_model.specs.Stands.{LogMap}
-use Rattle.lfs_model.specs.Step.{kind_of, room, size_of, stat_of, the_node}
-use Rattle.lfs_model.specs.Tree.{Node, File, Link, State, Tree, is_dir, links, node, slot_len}
-use Rattle.lfs_model.specs.TreeOf.{map_of, node_by, node_of, object, slots, tree_in}
-use Rattle.lfs_model.specs.Volume.{IsLogOf}
+use Rattle.lfs_model.specs.Need.{data_blocks, meta_blocks}
+use Rattle.lfs_model.specs.PathText.{from_root}
+use Rattle.lfs_model.specs.Sound.{IsFile}
+use Rattle.lfs_model.specs.Step.{kind_of, room, size_of}
 use Rattle.lfs_model.specs.Walk.{Walk, no_piece, stays, goes_up, too_long, not_there, directory, file, not_dir, link, loops, followed}
-use Rattle.lfs_model.specs.Walk.{start, End, At, Refused, Resolve}
+use Rattle.lfs_model.specs.Walk.{start}
 use Rattle.lfs_model.proofs.ObjectTrees.{no_header_no_node}
 use Rattle.lfs_model.proofs.Parents.{up_dir}
-use Rattle.lfs_model.proofs.Standing.{object_length, slots_length}
-use Rattle.lfs_model.proofs.Volume.{node_in}
-use Rattle.lfs_model.specs.Totals.{IsCounted, TotalsOfTree}
 
 -- The log map of a volume between two calls: it can be laid out, and its tree is the state's, any sound one.
 pub record IsMapOf (N : ℕ) (m : LogMap) (s : State) : Type 0 where

@@ -1,6 +1,5 @@
 -- How many slots a directory of either form has, by its bytes.
-use Rattle.std.proofs.Common.{◌≡◌, ◌<◌, ◌≤◌, ◌+◌, ◌*◌, ◌-◌, ◌/◌, ◌%◌, ℕ, zero, suc, arith}
-use Rattle.lfs_model.specs.Tree.{slot_len}
+use Rattle.lfs_steps.proofs.Prelude.{◌≡◌, ◌<◌, ◌≤◌, ◌+◌, ◌*◌, ◌-◌, ◌/◌, ◌%◌, ℕ, zero, suc, arith, slot_len}
 
 -- a directory of so many slots, each of one name
 pub slots_whole : (form names size : ℕ) → names ≡ size / slot_len form → size % slot_len form ≡ 0 → slot_len form * names ≡ size

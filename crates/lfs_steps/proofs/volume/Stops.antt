@@ -1,14 +1,13 @@
 -- What a stop leaves of a running volume.
-use Rattle.std.proofs.Common.{◌⊎◌, ℕ, List, ◌∷◌, refl, sym, subst, inl, inr, ⊎_elim, arith}
+use Rattle.lfs_steps.proofs.Prelude.{◌⊎◌, ℕ, List, ◌∷◌, refl, sym, subst, inl, inr, ⊎_elim, arith, LogMap, State, tree_in, IsLogOf}
 use Rattle.lfs_model.specs.Checkpoint.{CheckpointValue}
 use Rattle.lfs_model.specs.Content.{Content}
 use Rattle.lfs_model.specs.Crash.{StandsOn, StandsForOn}
 use Rattle.lfs_model.specs.Device.{DeviceState, IsLawful, LeavesOnly}
 use Rattle.lfs_model.specs.Settled.{IsSettled}
-use Rattle.lfs_model.specs.Stands.{LogMap}
-use Rattle.lfs_model.specs.Tree.{State, drop_nameless}
-use Rattle.lfs_model.specs.TreeOf.{IsTree, Left, LeavesStates, Stands, dropped, tree_in}
-use Rattle.lfs_model.specs.Volume.{IsLogOf, mounted}
+use Rattle.lfs_model.specs.Tree.{drop_nameless}
+use Rattle.lfs_model.specs.TreeOf.{IsTree, Left, LeavesStates, Stands, dropped}
+use Rattle.lfs_model.specs.Volume.{mounted}
 use Rattle.lfs_model.proofs.Committed.{dropped_stands}
 use Rattle.lfs_model.proofs.Moments.{weaker}
 use Rattle.std.specs.List.{Contains}

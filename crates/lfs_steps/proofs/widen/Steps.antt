@@ -1,11 +1,9 @@
 -- The steps of upgrade and widen, exit by exit.
-use Rattle.std.proofs.Common.{◌≡◌, ◌<◌, ◌≤◌, ◌*◌, ◌==◌, not, nat_lt, ℕ, Bool, true, false, List, [], ◌∷◌, refl, ◌∙◌, ap}
-use Rattle.lfs_model.specs.Call.{Answer, Done, Refuse, Upgrade, Widen}
-use Rattle.lfs_model.specs.Need.{need}
-use Rattle.lfs_model.specs.Refusal.{Refusal, Inval, NoSpace, NotDir}
-use Rattle.lfs_model.specs.Step.{Step, checked, no_space, when, widened, widens, with_tree}
-use Rattle.lfs_model.specs.Tree.{State, Tree, form_of, is_dir, node}
-use Rattle.lfs_model.specs.Walk.{At, Refused, Resolve}
+use Rattle.lfs_steps.proofs.Prelude.{◌≡◌, ◌<◌, ◌≤◌, ◌*◌, ◌==◌, not, nat_lt, ℕ, Bool, true, false, List, [], ◌∷◌, refl, ◌∙◌, ap, Answer}
+use Rattle.lfs_steps.proofs.Prelude.{Done, Refuse, need, Refusal, Inval, NoSpace, NotDir, Step, checked, no_space, when, with_tree, State}
+use Rattle.lfs_steps.proofs.Prelude.{Tree, form_of, is_dir, node, At, Refused, Resolve}
+use Rattle.lfs_model.specs.Call.{Upgrade, Widen}
+use Rattle.lfs_model.specs.Step.{widened, widens}
 use Rattle.lfs_steps.proofs.calls.Checks.{below, not_below, passes, refuses}
 
 -- the state whose layout has version 2

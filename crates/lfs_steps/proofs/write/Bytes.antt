@@ -1,29 +1,14 @@
 -- A write to an open file, from the blocks of the log map to the state after the call.
-use Rattle.std.proofs.Common.{◌≡◌, ◌≤◌, ◌+◌, ◌*◌, ℕ, List, length, Some, sym, ◌∙◌, ap, subst, arith}
-use Rattle.std.specs.Prelude.{max}
-use Rattle.std.specs.Ordering.{nat_cmp}
-use Rattle.std.specs.FinMap.{find}
-use Rattle.lfs_model.specs.Inode.{IsForm}
+use Rattle.lfs_steps.proofs.Prelude.{◌≡◌, ◌≤◌, ◌+◌, ◌*◌, ℕ, List, length, Some, sym, ◌∙◌, ap, subst, arith, max, nat_cmp, find, IsForm}
+use Rattle.lfs_steps.proofs.Prelude.{AreBytes, IsLogMap, need, IsObject, IsWithinLimits, LogMap, file_bytes, the_node, with_tree, File}
+use Rattle.lfs_steps.proofs.Prelude.{Node, State, Tree, with_node, object, tree_in, write_ends, object_fits, object_kept, as_header}
+use Rattle.lfs_steps.proofs.Prelude.{IsCounted, TotalsOfTree, WritesFile, resized}
 use Rattle.lfs_model.specs.declared.Kind.TheVariants as kind
-use Rattle.lfs_model.specs.Bytes.{AreBytes, put}
-use Rattle.lfs_model.specs.Encodes.{IsLogMap}
+use Rattle.lfs_model.specs.Bytes.{put}
 use Rattle.lfs_model.specs.Entry as entry
-use Rattle.lfs_model.specs.Need.{need}
-use Rattle.lfs_model.specs.Objects.{IsObject}
-use Rattle.lfs_model.specs.Sound.{IsWithinLimits}
-use Rattle.lfs_model.specs.Stands.{LogMap}
-use Rattle.lfs_model.specs.Step.{file_bytes, the_node, with_tree}
-use Rattle.lfs_model.specs.Tree.{File, Node, State, Tree, with_node}
-use Rattle.lfs_model.specs.TreeOf.{object, tree_in}
 use Rattle.lfs_model.proofs.FileBytes.{put_bytes, put_length}
-use Rattle.lfs_model.proofs.ObjectBytes.{write_ends}
-use Rattle.lfs_model.proofs.ObjectMaps.{object_fits, object_kept}
 use Rattle.lfs_model.proofs.ObjectTrees.{file_written}
 use Rattle.lfs_files.specs.declared.header.Header.{Header}
-use Rattle.lfs_files.specs.Headers.{as_header}
-use Rattle.lfs_model.specs.Totals.{IsCounted, TotalsOfTree}
-use Rattle.lfs_files.specs.Files.{WritesFile}
-use Rattle.lfs_files.specs.Headers.{resized}
 use Rattle.lfs_steps.proofs.volume.Nodes.{IsMapOf, IsFileOf, IsShaped, need_shaped, opened_file}
 use Rattle.lfs_steps.proofs.volume.FileBytes.{changed_map, not_directory, shape_kept}
 use Rattle.lfs_steps.proofs.open_files.Steps.{file_is, written}

@@ -1,30 +1,19 @@
 -- An open file that is cut, or made longer, from the blocks of the log map to the state after the call.
-use Rattle.std.proofs.Common.{◌≡◌, ◌≤◌, ◌*◌, ℕ, List, Some, sym, ◌∙◌, ap, subst, ⊎_elim, arith}
-use Rattle.std.proofs.lemmas.Bool.{cases_lt}
-use Rattle.std.specs.Ordering.{nat_cmp}
-use Rattle.std.specs.FinMap.{find}
-use Rattle.lfs_model.specs.Inode.{IsForm}
+use Rattle.lfs_steps.proofs.Prelude.{◌≡◌, ◌≤◌, ◌*◌, ℕ, List, Some, sym, ◌∙◌, ap, subst, ⊎_elim, arith, cases_lt, nat_cmp, find, IsForm}
+use Rattle.lfs_steps.proofs.Prelude.{IsLogMap, need, IsObject, IsWithinLimits, LogMap, file_bytes, the_node, with_tree, File, Node, State}
+use Rattle.lfs_steps.proofs.Prelude.{Tree, node, with_node, object, tree_in, object_fits, object_kept, as_header, resized}
 use Rattle.lfs_model.specs.declared.Kind.TheVariants as kind
 use Rattle.lfs_model.specs.Bytes.{cut}
-use Rattle.lfs_model.specs.Encodes.{IsLogMap}
 use Rattle.lfs_model.specs.Entry as entry
-use Rattle.lfs_model.specs.Need.{cost, cost_at, need}
-use Rattle.lfs_model.specs.Objects.{CutsBytes, IsObject}
-use Rattle.lfs_model.specs.Sound.{IsWithinLimits}
-use Rattle.lfs_model.specs.Stands.{LogMap}
-use Rattle.lfs_model.specs.Step.{file_bytes, the_node, with_tree}
-use Rattle.lfs_model.specs.Tree.{File, Node, State, Tree, node, with_node}
-use Rattle.lfs_model.specs.TreeOf.{object, tree_in}
+use Rattle.lfs_model.specs.Need.{cost, cost_at}
+use Rattle.lfs_model.specs.Objects.{CutsBytes}
 use Rattle.lfs_model.proofs.Cuts.{cut_cost}
 use Rattle.lfs_model.proofs.FileBytes.{cut_bytes, length-cut}
 use Rattle.lfs_model.proofs.Needs.{need-with_node}
 use Rattle.lfs_model.proofs.ObjectBytes.{cut_ends}
-use Rattle.lfs_model.proofs.ObjectMaps.{object_fits, object_kept}
 use Rattle.lfs_model.proofs.ObjectTrees.{file_cut}
 use Rattle.lfs_files.specs.declared.header.Header.{Header}
-use Rattle.lfs_files.specs.Headers.{as_header}
 use Rattle.lfs_files.specs.Files.{SizesFile}
-use Rattle.lfs_files.specs.Headers.{resized}
 use Rattle.lfs_steps.proofs.volume.Nodes.{IsMapOf, IsFileOf, IsShaped, opened_file}
 use Rattle.lfs_steps.proofs.volume.FileBytes.{changed_map, not_directory, shape_kept}
 use Rattle.lfs_steps.proofs.open_files.Steps.{file_is, shortened}
