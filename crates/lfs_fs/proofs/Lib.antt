@@ -1,3 +1,4 @@
+mod Prelude
 mod calls
 mod volume
 mod paths

@@ -1,28 +1,21 @@
 -- Lines of a script on a volume, one after the other: a run of the model, and what a stop in it leaves.
-use Rattle.std.proofs.Common.{◌≡◌, ◌⊎◌, ◌<◌, ℕ, zero, suc, List, [], ◌∷◌, ◌++◌, length, length-append, map, slice_get, slice_index_or, refl}
-use Rattle.std.proofs.Common.{sym, ◌∙◌, ap, subst, inl, inr, ⊎_elim, arith}
-use Rattle.std.specs.List.{Contains}
+use Rattle.lfs_fs.proofs.Prelude.{◌≡◌, ◌⊎◌, ◌<◌, ℕ, zero, suc, List, [], ◌∷◌, ◌++◌, length, map, slice_index_or, refl, sym, ◌∙◌, ap, subst}
+use Rattle.lfs_fs.proofs.Prelude.{inl, inr, ⊎_elim, arith, Contains, Answer, Call, Refuse, Content, DeviceState, IsLawful, LeavesOnly}
+use Rattle.lfs_fs.proofs.Prelude.{Stuck, LineAnswers, Point, final, Line, call_of, State, drop_nameless, Left, LeavesOne, LeavesStates}
+use Rattle.lfs_fs.proofs.Prelude.{Stands, LeavesPrefix, carries_none, carries_then, joined, single_state, StandsForSome, RanAt, RunsLines}
+use Rattle.lfs_fs.proofs.Prelude.{ServesLine, TellsLines, IsAt, Mounted, Serves, segments_of}
+use Rattle.std.proofs.Common.{length-append, slice_get}
 use Rattle.std.proofs.lemmas.List.{length-map}
 use Rattle.std.proofs.lemmas.List.Elements.{Contains-append_left, Contains-append_right}
-use Rattle.lfs_model.specs.Call.{Answer, Call, Refuse}
-use Rattle.lfs_model.specs.Content.{Content}
-use Rattle.lfs_model.specs.Device.{DeviceState, IsLawful, LeavesOnly}
-use Rattle.lfs_model.specs.Refusal.{Stuck}
-use Rattle.lfs_model.specs.Run.{LineAnswers, LineRun, Point, final}
-use Rattle.lfs_model.specs.Script.{Line, call_of}
+use Rattle.lfs_model.specs.Run.{LineRun}
 use Rattle.lfs_model.specs.Since.{AreKeptSince}
-use Rattle.lfs_model.specs.Tree.{State, drop_nameless}
-use Rattle.lfs_model.specs.TreeOf.{Left, LeavesOne, LeavesStates, Stands}
-use Rattle.lfs_model.specs.Volume.{LeavesPrefix}
 use Rattle.lfs_model.proofs.CrashRuns.{IsRunSoFar, leaves_first, leaves_more}
 use Rattle.lfs_model.proofs.Lefts.{left_only}
-use Rattle.lfs_model.proofs.Moments.{carries_none, carries_then, joined, weaker}
+use Rattle.lfs_model.proofs.Moments.{weaker}
 use Rattle.lfs_model.proofs.Pendings.{at_final}
 use Rattle.lfs_model.proofs.SinceRuns.{kept_more, kept_none, kept_told}
-use Rattle.lfs_model.proofs.Volume.{single_state}
-use Rattle.lfs_model.specs.Use.{AreUnstuck, StandsForSome, left_states}
-use Rattle.lfs_fs.specs.Scripts.{RanAt, RunsLines, ServesLine, ServesLines, TellsLines, ToldAt}
-use Rattle.lfs_fs.specs.Volume.{IsAt, Mounted, Serves, segments_of}
+use Rattle.lfs_model.specs.Use.{AreUnstuck, left_states}
+use Rattle.lfs_fs.specs.Scripts.{ServesLines, ToldAt}
 use Rattle.lfs_fs.proofs.scripts.Lines.{StepsLine, left_none, line_carries, line_running, line_segments, line_steps}
 
 -- ---- the points of a run

@@ -1,26 +1,16 @@
 -- A use of a volume, from its mount to a stop: which states it goes from, and what a stop in it leaves.
-use Rattle.std.proofs.Common.{◌≡◌, ◌⊎◌, ℕ, false, List, ◌∷◌, sym, ◌∙◌, ap, subst, inl, inr}
-use Rattle.lfs_model.specs.Call.{Answer, Call}
-use Rattle.lfs_model.specs.Checkpoint.{CheckpointValue}
-use Rattle.lfs_model.specs.Content.{Content, newest}
-use Rattle.lfs_model.specs.Device.{AllLeft, DeviceState, Carries, IsLawful, IsUntouched, LeavesOnly, Only}
-use Rattle.lfs_model.specs.Run.{Point, final}
-use Rattle.lfs_model.specs.Script.{Line}
+use Rattle.lfs_fs.proofs.Prelude.{◌≡◌, ◌⊎◌, ℕ, false, List, ◌∷◌, sym, ◌∙◌, ap, subst, inl, inr, Answer, Call, CheckpointValue, Content}
+use Rattle.lfs_fs.proofs.Prelude.{AllLeft, DeviceState, Carries, IsLawful, LeavesOnly, Only, Point, final, Line, State, drop_nameless}
+use Rattle.lfs_fs.proofs.Prelude.{LeavesOne, Stands, StandsForSome, LeavesPrefix, joined, single_state, Some-injective, settled, Fs}
+use Rattle.lfs_fs.proofs.Prelude.{FindsState, RanAt, RunsLines, TellsLines, seen, IsAt, Mounted, Runs, segments_of}
+use Rattle.lfs_model.specs.Content.{newest}
+use Rattle.lfs_model.specs.Device.{IsUntouched}
 use Rattle.lfs_model.specs.Since.{UsesTold}
-use Rattle.lfs_model.specs.Tree.{State, drop_nameless}
-use Rattle.lfs_model.specs.TreeOf.{LeavesOne, Stands, TreeOf}
-use Rattle.lfs_model.specs.Use.{Continues, IsNumbered, StandsForSome, UsesVolume}
-use Rattle.lfs_model.specs.Volume.{LeavesPrefix, StandsForPrefix}
+use Rattle.lfs_model.specs.TreeOf.{TreeOf}
+use Rattle.lfs_model.specs.Use.{Continues, IsNumbered, UsesVolume}
+use Rattle.lfs_model.specs.Volume.{StandsForPrefix}
 use Rattle.lfs_model.proofs.Committed.{nothing_dropped}
-use Rattle.lfs_model.proofs.Moments.{joined}
-use Rattle.lfs_model.proofs.Volume.{single_state}
-use Rattle.lfs_model.proofs.Walks.{Some-injective}
-use Rattle.lfs_store.proofs.of_log.LogReads.{settled}
-use Rattle.lfs_fs.specs.declared.fs.Fs.{Fs}
-use Rattle.lfs_fs.specs.Mounting.{FindsState, MountsAt}
-use Rattle.lfs_fs.specs.Scripts.{RanAt, RunsLines, TellsLines}
-use Rattle.lfs_fs.specs.Seen.{seen}
-use Rattle.lfs_fs.specs.Volume.{IsAt, Mounted, Runs, segments_of}
+use Rattle.lfs_fs.specs.Mounting.{MountsAt}
 
 -- what a content stands for, under another name of the state
 stands_as : (c : Content) (s t : State) → t ≡ s → Stands c s → Stands c t

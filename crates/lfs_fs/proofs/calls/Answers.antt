@@ -1,37 +1,20 @@
 -- Calls that change nothing, over files: what is told of each log map answers them, and a fault refuses them. How a call comes to the
 -- object of a path.
-use Rattle.std.proofs.Common.{◌≡◌, ℕ, Bool, true, false, List, sym, subst}
-use Rattle.lfs_model.specs.Call.{Answer, Call, Refuse, changes, cleans, commits, never_for_device, takes_no_memory}
-use Rattle.lfs_model.specs.Checkpoint.{CheckpointValue}
-use Rattle.lfs_model.specs.Device.{DeviceState, IsLawful}
+use Rattle.lfs_fs.proofs.Prelude.{◌≡◌, ℕ, Bool, true, false, List, sym, subst, Answer, Call, Refuse, changes, cleans, commits}
+use Rattle.lfs_fs.proofs.Prelude.{never_for_device, takes_no_memory, CheckpointValue, DeviceState, IsLawful, LogMap, Step, State, Tree, At}
+use Rattle.lfs_fs.proofs.Prelude.{Resolve, LogFault, Store, files_of, WalkFault, HasHeader, HasObject, Tells, TellsFault, TellsRefusal}
+use Rattle.lfs_fs.proofs.Prelude.{EntryFault, FailsWhere, FsError, Fs, error_of_entry, error_of_log, error_of_walk, ReachesObject}
+use Rattle.lfs_fs.proofs.Prelude.{refusal_of, Begins, seen, IsIn, Mounted, Serves, segments_of, no_header_none}
 use Rattle.lfs_model.specs.Refusal.{NoMemory}
-use Rattle.lfs_model.specs.Stands.{LogMap}
-use Rattle.lfs_model.specs.Step.{Step}
-use Rattle.lfs_model.specs.Tree.{State, Tree}
-use Rattle.lfs_model.specs.Walk.{At, Resolve}
-use Rattle.lfs_files.specs.declared.fault.LogFault.{LogFault}
 use Rattle.lfs_files.specs.declared.fault.LogFault.TheVariants as log
 use Rattle.lfs_files.specs.declared.header.Header.{Header}
 use Rattle.lfs_files.specs.Files as files
-use Rattle.lfs_store.specs.declared.store.Store.{Store}
-use Rattle.lfs_store.specs.Seen.{files_of}
-use Rattle.lfs_path.specs.declared.walk_fault.WalkFault.{WalkFault}
 use Rattle.lfs_path.specs.declared.walk_fault.WalkFault.TheVariants as walk
 use Rattle.lfs_path.specs.Reaching.{EndsResolve, ResolvesTo}
-use Rattle.lfs_path.specs.Seeing.{HasHeader, HasObject}
-use Rattle.lfs_path.specs.Telling.{Tells, TellsFault, TellsRefusal}
 use Rattle.lfs_path.specs.Trees.{HasTree}
-use Rattle.lfs_entries.specs.declared.fault.EntryFault.{EntryFault}
 use Rattle.lfs_entries.specs.declared.fault.EntryFault.TheVariants as fault
 use Rattle.lfs_entries.specs.Telling as telling
-use Rattle.lfs_entries.specs.Telling.{FailsWhere}
-use Rattle.lfs_fs.specs.declared.error.FsError.{FsError}
-use Rattle.lfs_fs.specs.declared.fs.Fs.{Fs}
-use Rattle.lfs_fs.specs.Faults.{error_of_entry, error_of_log, error_of_walk}
-use Rattle.lfs_fs.specs.Reading.{FindsObject, ReachesObject, RefusesPath}
-use Rattle.lfs_fs.specs.Refusals.{refusal_of}
-use Rattle.lfs_fs.specs.Seen.{Begins, seen}
-use Rattle.lfs_fs.specs.Volume.{IsIn, Mounted, Serves, segments_of}
+use Rattle.lfs_fs.specs.Reading.{FindsObject, RefusesPath}
 use Rattle.lfs_fs.proofs.calls.AnyDevice.{IsOrdinary}
 use Rattle.lfs_fs.proofs.calls.Files.{Explains, IsBegun, Rose, begun_after, fault_serves, only, rose_where, told, unanswered, was}
 use Rattle.lfs_fs.proofs.calls.Files.{with_store}
@@ -41,7 +24,7 @@ use Rattle.lfs_fs.proofs.paths.Later.{later_refused}
 use Rattle.lfs_fs.proofs.paths.Places.{begun_ready, begun_still}
 use Rattle.lfs_fs.proofs.paths.Walks.{tree_of_volume}
 use Rattle.lfs_fs.proofs.read.Ends.{step_serves}
-use Rattle.lfs_steps.proofs.volume.Nodes.{no_header_none, resolved_there}
+use Rattle.lfs_steps.proofs.volume.Nodes.{resolved_there}
 
 -- A call that changes nothing.
 pub record IsQuiet (call : Call) : Type 0 where

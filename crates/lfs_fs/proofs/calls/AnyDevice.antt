@@ -1,18 +1,13 @@
 -- What holds of a call over any device, by how it ends.
-use Rattle.std.proofs.Common.{◌≡◌, ◌≤◌, ◌+◌, ℕ, Bool, true, false, ◌||◌, List, length, refl, sym, ◌∙◌, ap, subst, inl, inr, arith}
-use Rattle.std.specs.Prelude.{IsTrue}
-use Rattle.lfs_model.specs.declared.Order.{Order}
-use Rattle.lfs_model.specs.Call.{Answer, Call, Open, Create, Close, Pread, Pwrite, Truncate, Mkdir, LinkTo, Symlink, Readlink, Unlink}
-use Rattle.lfs_model.specs.Call.{Rmdir, Rename, StatOf, LstatOf, Readdir, Fsync, Sync, Clean, Space, Version, Upgrade, Widen, ListTree}
-use Rattle.lfs_model.specs.Call.{Refuse, changes, cleans, commits, is_ok, may_write, takes_no_memory, never_for_device}
-use Rattle.lfs_model.specs.Device.{DeviceState}
-use Rattle.lfs_model.specs.Refusal.{Refusal, NoMemory, Halted, Stuck}
-use Rattle.lfs_store.specs.log.LogState.{LogState, Reads}
-use Rattle.lfs_store.specs.log.Saving.{commit_orders}
-use Rattle.lfs_store.specs.cleaner.Room.{room_orders}
+use Rattle.lfs_fs.proofs.Prelude.{◌≡◌, ◌≤◌, ◌+◌, ℕ, Bool, true, false, ◌||◌, List, length, refl, sym, ◌∙◌, ap, subst, inl, inr, arith}
+use Rattle.lfs_fs.proofs.Prelude.{IsTrue, Order, Answer, Call, Open, Create, Close, Pread, Pwrite, Truncate, Mkdir, LinkTo, Symlink}
+use Rattle.lfs_fs.proofs.Prelude.{Readlink, Unlink, Rmdir, Rename, Readdir, Fsync, Sync, Clean, Space, Version, Upgrade, Widen, ListTree}
+use Rattle.lfs_fs.proofs.Prelude.{Refuse, changes, cleans, commits, is_ok, may_write, takes_no_memory, never_for_device, DeviceState}
+use Rattle.lfs_fs.proofs.Prelude.{Refusal, Halted, Stuck, LogState, Reads, commit_orders, room_orders, TellsFew, Behaves, CommitsFew}
+use Rattle.lfs_fs.proofs.Prelude.{IsStill, Mounted, TellsAtMost, changes_handles, most_orders, segments_of}
+use Rattle.lfs_model.specs.Call.{StatOf, LstatOf}
+use Rattle.lfs_model.specs.Refusal.{NoMemory}
 use Rattle.lfs_store.specs.Accepting.{HasCleanForTwo}
-use Rattle.lfs_fs.specs.Accepting.{TellsFew}
-use Rattle.lfs_fs.specs.Volume.{Behaves, CommitsFew, IsStill, Mounted, TellsAtMost, changes_handles, most_orders, segments_of}
 
 -- ---- answers and calls
 

@@ -1,17 +1,10 @@
 -- How much the drafts of calls grow, and that memory takes all of it.
-use Rattle.std.proofs.Common.{◌≡◌, ◌<◌, ◌≤◌, ◌+◌, ◌*◌, ℕ, refl, arith}
-use Rattle.lfs_model.specs.Device.{DeviceState}
+use Rattle.lfs_fs.proofs.Prelude.{◌≡◌, ◌<◌, ◌≤◌, ◌+◌, ◌*◌, ℕ, refl, arith, DeviceState, StoreFault, Store, IsEmpty, asked_by, draft_of}
+use Rattle.lfs_fs.proofs.Prelude.{files_of, GrowsDirectory, FsError, error_of_store}
 use Rattle.lfs_files.specs.declared.fault.LogFault.TheVariants as log
-use Rattle.lfs_files.specs.declared.fault.StoreFault.{StoreFault}
 use Rattle.lfs_files.specs.declared.fault.StoreFault.TheVariants as store
-use Rattle.lfs_store.specs.declared.store.Store.{Store}
-use Rattle.lfs_store.specs.StoreState.{IsEmpty, asked_by, draft_of}
-use Rattle.lfs_store.specs.Seen.{files_of}
 use Rattle.lfs_store.proofs.Known.{grown_asks}
-use Rattle.lfs_path.specs.dirs.Growing.{GrowsDirectory}
-use Rattle.lfs_fs.specs.declared.error.FsError.{FsError}
 use Rattle.lfs_fs.specs.declared.error.FsError.TheVariants as error
-use Rattle.lfs_fs.specs.Faults.{error_of_store}
 
 -- ---- names in directories: a draft that was begun empty has room
 pub adds_fit : {D : Type 0} (state : D → DeviceState) (a b : Store D) (h k : ℕ) → 2 * h + 4 * k ≤ 452 → IsEmpty (draft_of a)

@@ -1,24 +1,10 @@
 -- The ends of calls that draft and save, from the records of the store to the call as a step of the model.
-use Rattle.std.proofs.Common.{◌≡◌, ◌≤◌, ◌<◌, ◌^◌, ℕ, Bool, true, false, ◌&&◌, refl, sym, ◌∙◌, subst, inr, arith}
-use Rattle.lfs_model.specs.Call.{Call, Answer, Refuse, commits}
-use Rattle.lfs_model.specs.Checkpoint.{CheckpointValue}
-use Rattle.lfs_model.specs.Crash.{StandsForOn}
-use Rattle.lfs_model.specs.Device.{DeviceState, IsLawful, Carries, LeavesOnly}
-use Rattle.lfs_model.specs.Encodes.{IsLogMap}
-use Rattle.lfs_model.specs.Refusal.{Refusal, Halted}
-use Rattle.lfs_model.specs.Run.{Point, StepsOr, acknowledges}
-use Rattle.lfs_model.specs.Stands.{LogMap}
-use Rattle.lfs_model.specs.Tree.{State, drop_nameless}
-use Rattle.lfs_model.specs.TreeOf.{LeavesOne, dropped}
-use Rattle.lfs_model.specs.Volume.{IsLogOf}
-use Rattle.lfs_store.specs.Accepting.{Accepts, Commits, Declines, HoldsNext}
-use Rattle.lfs_store.specs.StoreState.{Fits, with_draft}
-use Rattle.lfs_store.specs.log.LogState.{Holds}
-use Rattle.lfs_store.specs.Recounting.{AreTotals}
-use Rattle.lfs_store.specs.log.verify.declared.totals.BlockTotals.{BlockTotals}
-use Rattle.lfs_store.specs.declared.draft.Draft.{Draft}
-use Rattle.lfs_fs.specs.Volume.{Behaves, IsAt, IsIn, Mounted, Runs, Serves, segments_of}
-use Rattle.lfs_steps.proofs.volume.Nodes.{IsMapOf}
+use Rattle.lfs_fs.proofs.Prelude.{◌≡◌, ◌≤◌, ◌<◌, ◌^◌, ℕ, Bool, true, false, ◌&&◌, refl, sym, ◌∙◌, subst, inr, arith, Call, Answer, Refuse}
+use Rattle.lfs_fs.proofs.Prelude.{commits, CheckpointValue, StandsForOn, DeviceState, IsLawful, Carries, LeavesOnly, IsLogMap, Refusal}
+use Rattle.lfs_fs.proofs.Prelude.{Halted, Point, StepsOr, acknowledges, LogMap, State, drop_nameless, LeavesOne, dropped, IsLogOf, Accepts}
+use Rattle.lfs_fs.proofs.Prelude.{Commits, Declines, HoldsNext, with_draft, Holds, AreTotals, BlockTotals, Draft, Behaves, IsAt, IsIn}
+use Rattle.lfs_fs.proofs.Prelude.{Mounted, Runs, Serves, segments_of, IsMapOf}
+use Rattle.lfs_store.specs.StoreState.{Fits}
 use Rattle.lfs_fs.proofs.volume.Map.{map_of_volume, runs_over}
 use Rattle.lfs_steps.proofs.volume.Stops.{stands_dropped}
 use Rattle.lfs_fs.proofs.calls.Exits.{goes_on_at, map_dropped, point_of}

@@ -1,29 +1,13 @@
 -- The ends of a call: what each of them makes of a volume.
-use Rattle.std.proofs.Common.{◌≡◌, ◌⊎◌, ◌≤◌, ◌<◌, ℕ, Bool, true, false, ◌&&◌, List, [], ◌∷◌, refl, sym, ◌∙◌, subst}
-use Rattle.std.proofs.Common.{inl, inr, ⊎_elim, arith}
-use Rattle.std.specs.List.{Contains}
-use Rattle.lfs_model.specs.Call.{Call, Answer, Refuse, commits}
-use Rattle.lfs_model.specs.Checkpoint.{CheckpointValue}
-use Rattle.lfs_model.specs.Device.{DeviceState, IsLawful, AllLeft, Carries, LeavesOnly}
-use Rattle.lfs_model.specs.Refusal.{Refusal, Halted}
-use Rattle.lfs_model.specs.Run.{Point, StepsOr, acknowledges}
-use Rattle.lfs_model.specs.Stands.{LogMap}
-use Rattle.lfs_model.specs.Tree.{State, drop_nameless}
-use Rattle.lfs_model.specs.TreeOf.{IsTree, Left, LeavesOne, LeavesStates, Stands, dropped}
-use Rattle.lfs_model.specs.Encodes.{IsLogMap}
-use Rattle.lfs_model.proofs.Committed.{dropped_log}
-use Rattle.lfs_model.specs.Crash.{StandsForOn}
+use Rattle.lfs_fs.proofs.Prelude.{◌≡◌, ◌⊎◌, ◌≤◌, ◌<◌, ℕ, Bool, true, false, ◌&&◌, List, [], ◌∷◌, refl, sym, ◌∙◌, subst, inl, inr, ⊎_elim}
+use Rattle.lfs_fs.proofs.Prelude.{arith, Contains, Call, Answer, Refuse, commits, CheckpointValue, DeviceState, IsLawful, AllLeft, Carries}
+use Rattle.lfs_fs.proofs.Prelude.{LeavesOnly, Refusal, Halted, Point, StepsOr, acknowledges, LogMap, State, drop_nameless, IsTree, Left}
+use Rattle.lfs_fs.proofs.Prelude.{LeavesOne, LeavesStates, Stands, dropped, IsLogMap, dropped_log, StandsForOn, IsLogOf, carries_none}
+use Rattle.lfs_fs.proofs.Prelude.{started, goes_on, LogState, Reads, HasClean, AreTotals, BlockTotals, held_still, settled, Behaves}
+use Rattle.lfs_fs.proofs.Prelude.{IsStill, Mounted, segments_of, IsIn, Runs, IsAt, LeavesSome, ServesAt, Serves}
 use Rattle.lfs_steps.proofs.volume.Stops.{leaves_states}
-use Rattle.lfs_model.specs.Volume.{IsLogOf}
-use Rattle.lfs_model.proofs.Moments.{carries_none, started, goes_on}
 use Rattle.lfs_store.specs.memory.Present.{Looks}
-use Rattle.lfs_store.specs.log.LogState.{LogState, Reads}
 use Rattle.lfs_store.specs.log.Thresholds.{HasReserve}
-use Rattle.lfs_store.specs.Accepting.{HasClean}
-use Rattle.lfs_store.specs.Recounting.{AreTotals}
-use Rattle.lfs_store.specs.log.verify.declared.totals.BlockTotals.{BlockTotals}
-use Rattle.lfs_store.proofs.of_log.LogReads.{held_still, settled}
-use Rattle.lfs_fs.specs.Volume.{Behaves, IsStill, Mounted, segments_of, IsIn, Runs, IsAt, LeavesSome, ServesAt, Serves}
 use Rattle.lfs_fs.proofs.calls.AnyDevice.{IsOrdinary, halted_behaves, not_halted, still_behaves}
 
 not_acknowledged : (call : Call) (r : Refusal) → acknowledges call (Refuse r) ≡ true → ⊥

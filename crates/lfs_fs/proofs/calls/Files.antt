@@ -1,42 +1,21 @@
 -- Calls over files, as the model's steps: what is told of each log map,
 -- in each state that the volume may be in; and what becomes of a draft.
-use Rattle.std.proofs.Common.{◌≡◌, ◌<◌, ◌≤◌, ◌+◌, ◌*◌, ℕ, true, false, List, Option, Some, None, Result, refl, sym, ◌∙◌, subst}
-use Rattle.std.proofs.Common.{ap, inl, arith}
-use Rattle.lfs_model.specs.Call.{Answer, Call, Refuse, changes, cleans, is_ok, never_for_device, takes_no_memory}
-use Rattle.lfs_model.specs.Checkpoint.{CheckpointValue}
-use Rattle.lfs_model.specs.Device.{DeviceState, IsLawful}
+use Rattle.lfs_fs.proofs.Prelude.{◌≡◌, ◌<◌, ◌≤◌, ◌+◌, ◌*◌, ℕ, true, false, List, Option, Some, None, Result, refl, sym, ◌∙◌, subst, ap, inl}
+use Rattle.lfs_fs.proofs.Prelude.{arith, Answer, Call, Refuse, changes, cleans, is_ok, never_for_device, takes_no_memory, CheckpointValue}
+use Rattle.lfs_fs.proofs.Prelude.{DeviceState, IsLawful, Refusal, LogMap, Step, no_last, IsCounted, Handles, State, At, Parent, LogFault}
+use Rattle.lfs_fs.proofs.Prelude.{Store, asked_by, draft_of, drafted_of, volume_of, files_of, BlockTotals, empty_draft, Last}
+use Rattle.lfs_fs.proofs.Prelude.{GrowsDirectory, last_says, EntryFault, FsError, Fs, StagesDraft, TurnsDown, need_of, error_of_entry}
+use Rattle.lfs_fs.proofs.Prelude.{error_of_log, Reaches, refusal_of, IsReady, OnlyReads, answer_by, seen, Behaves, IsIn, IsStill, Mounted}
+use Rattle.lfs_fs.proofs.Prelude.{Serves, segments_of, IsReached, IsMapOf}
 use Rattle.lfs_model.specs.Refusal as refusals
-use Rattle.lfs_model.specs.Refusal.{Refusal}
-use Rattle.lfs_model.specs.Stands.{LogMap}
 use Rattle.lfs_model.specs.Sound.{Sound}
-use Rattle.lfs_model.specs.Step.{Step, no_last}
-use Rattle.lfs_model.specs.Totals.{IsCounted}
-use Rattle.lfs_model.specs.Tree.{Handles, State}
-use Rattle.lfs_model.specs.Walk.{At, Parent}
-use Rattle.lfs_files.specs.declared.fault.LogFault.{LogFault}
 use Rattle.lfs_files.specs.declared.fault.LogFault.TheVariants as log
 use Rattle.lfs_files.specs.Files as files
 use Rattle.lfs_files.specs.Files.{AreCounted}
-use Rattle.lfs_store.specs.declared.store.Store.{Store}
-use Rattle.lfs_store.specs.StoreState.{asked_by, draft_of, drafted_of, volume_of}
-use Rattle.lfs_store.specs.Seen.{files_of}
-use Rattle.lfs_store.specs.log.verify.declared.totals.BlockTotals.{BlockTotals}
-use Rattle.lfs_store.proofs.Known.{empty_apart, empty_draft}
-use Rattle.lfs_path.specs.declared.last.Last.{Last}
-use Rattle.lfs_path.specs.dirs.Growing.{GrowsDirectory}
-use Rattle.lfs_path.proofs.LastPieces.{last_says}
-use Rattle.lfs_entries.specs.declared.fault.EntryFault.{EntryFault}
+use Rattle.lfs_store.proofs.Known.{empty_apart}
 use Rattle.lfs_entries.specs.declared.fault.EntryFault.TheVariants as fault
 use Rattle.lfs_entries.specs.Telling as telling
-use Rattle.lfs_fs.specs.declared.error.FsError.{FsError}
-use Rattle.lfs_fs.specs.declared.fs.Fs.{Fs}
-use Rattle.lfs_fs.specs.Accepting.{StagesDraft, TurnsDown, need_of}
-use Rattle.lfs_fs.specs.Faults.{error_of_entry, error_of_log}
 use Rattle.lfs_fs.specs.Finishing.{EndsDraft, GivesUp}
-use Rattle.lfs_fs.specs.Naming.{Reaches}
-use Rattle.lfs_fs.specs.Refusals.{refusal_of}
-use Rattle.lfs_fs.specs.Seen.{IsReady, OnlyReads, answer_by, seen}
-use Rattle.lfs_fs.specs.Volume.{Behaves, IsIn, IsStill, Mounted, Serves, segments_of}
 use Rattle.lfs_fs.proofs.calls.AnyDevice.{IsBounded, IsOrdinary}
 use Rattle.lfs_fs.proofs.calls.DraftSizes.{adds_fit}
 use Rattle.lfs_fs.proofs.calls.Drafts.{not_acknowledged}
@@ -44,11 +23,9 @@ use Rattle.lfs_fs.proofs.calls.Exits.{served_still, still_in}
 use Rattle.lfs_fs.proofs.calls.Reads.{memory_serves}
 use Rattle.lfs_fs.proofs.calls.Steps.{refused_not_worn}
 use Rattle.lfs_fs.proofs.calls.StoreCalls.{still_drafted}
-use Rattle.lfs_steps.proofs.paths.Named.{IsReached}
 use Rattle.lfs_fs.proofs.paths.Places.{path_read, ready_after}
 use Rattle.lfs_fs.proofs.read.Ends.{failed_serves}
 use Rattle.lfs_fs.proofs.volume.Map.{headers_of_volume, map_of_volume}
-use Rattle.lfs_steps.proofs.volume.Nodes.{IsMapOf}
 use Rattle.lfs_fs.proofs.write.Ends.{AreDrafts, accepted_serves, draft_ends, draft_turned, still_more, still_none, with_table}
 
 -- a volume with another store

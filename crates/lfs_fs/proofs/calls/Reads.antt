@@ -1,11 +1,8 @@
 -- Calls that only read, a call that opens a file, and calls that a fault ends, as steps of the model.
-use Rattle.std.proofs.Common.{◌≡◌, ◌+◌, ◌*◌, ℕ, Bool, true, false, ◌&&◌, refl, inl, inr}
-use Rattle.lfs_model.specs.Call.{Answer, Call, Refuse, Room, Space, changes, cleans, commits, is_ok, takes_no_memory}
-use Rattle.lfs_model.specs.Device.{DeviceState, IsLawful}
-use Rattle.lfs_model.specs.Refusal.{NoMemory, Refusal}
-use Rattle.lfs_model.specs.Step.{Step}
-use Rattle.lfs_model.specs.Totals.{TotalsOfTree}
-use Rattle.lfs_fs.specs.Volume.{IsStill, Mounted, Serves, segments_of}
+use Rattle.lfs_fs.proofs.Prelude.{◌≡◌, ◌+◌, ◌*◌, ℕ, Bool, true, false, ◌&&◌, refl, inl, inr, Answer, Call, Refuse, Room, Space, changes}
+use Rattle.lfs_fs.proofs.Prelude.{cleans, commits, is_ok, takes_no_memory, DeviceState, IsLawful, Refusal, Step, TotalsOfTree, IsStill}
+use Rattle.lfs_fs.proofs.Prelude.{Mounted, Serves, segments_of}
+use Rattle.lfs_model.specs.Refusal.{NoMemory}
 use Rattle.lfs_fs.proofs.calls.AnyDevice.{IsOrdinary, memory_behaves}
 use Rattle.lfs_fs.proofs.calls.Steps.{never_worn, refused_not_worn, space_step}
 use Rattle.lfs_fs.proofs.calls.Drafts.{InEach, not_acknowledged}

@@ -1,32 +1,20 @@
 -- The model's steps of the calls, from what the log map says: headers, bytes read, and totals for room.
-use Rattle.std.proofs.Common.{Bool, ◌≡◌, ◌<◌, ◌≤◌, ◌+◌, ◌-◌, ◌*◌, ◌^◌, ℕ, true, false, List, length, take, drop, Some, sym}
-use Rattle.std.proofs.Common.{◌∙◌, ap, subst, inr, ⊎_elim, arith}
-use Rattle.std.specs.Prelude.{max, min}
+use Rattle.lfs_fs.proofs.Prelude.{Bool, ◌≡◌, ◌<◌, ◌≤◌, ◌+◌, ◌-◌, ◌*◌, ◌^◌, ℕ, true, false, List, length, Some, sym, ◌∙◌, ap, subst, inr}
+use Rattle.lfs_fs.proofs.Prelude.{⊎_elim, arith, max, min, nat_cmp, find, AreBytes, part, Answer, Call, Count, Data, Pread, Pwrite, Refuse}
+use Rattle.lfs_fs.proofs.Prelude.{Room, Space, Status, changes, cleans, is_ok, need, IsHeaderOf, NoSpace, Refusal, Worn, IsExcused, Point}
+use Rattle.lfs_fs.proofs.Prelude.{LogMap, Step, with_tree, State, object, At, Resolve, object_length, IsCounted, TotalsOfTree, resized}
+use Rattle.lfs_fs.proofs.Prelude.{stat_call, IsFileOf, IsMapOf, IsShaped, opened_file, stat_is, written}
+use Rattle.std.proofs.Common.{take, drop}
 use Rattle.std.proofs.lemmas.List.{drop_min, length-drop, take_min}
-use Rattle.std.specs.Ordering.{nat_cmp}
-use Rattle.std.specs.FinMap.{find}
-use Rattle.lfs_model.specs.Bytes.{AreBytes, part}
-use Rattle.lfs_model.specs.Call.{Answer, Call, Count, Data, Pread, Pwrite, Refuse, Room, Space, Stat, Status, changes, cleans}
-use Rattle.lfs_model.specs.Call.{is_ok}
+use Rattle.lfs_model.specs.Call.{Stat}
 use Rattle.lfs_model.specs.Entry as entry
-use Rattle.lfs_model.specs.Need.{need}
-use Rattle.lfs_model.specs.Objects.{IsHeaderOf}
-use Rattle.lfs_model.specs.Refusal.{NoSpace, Refusal, Worn}
-use Rattle.lfs_model.specs.Run.{IsExcused, IsPastLast, Point}
-use Rattle.lfs_model.specs.Stands.{LogMap}
-use Rattle.lfs_model.specs.Step.{Step, with_tree}
-use Rattle.lfs_model.specs.Tree.{State}
-use Rattle.lfs_model.specs.TreeOf.{object}
-use Rattle.lfs_model.specs.Walk.{At, Resolve}
+use Rattle.lfs_model.specs.Run.{IsPastLast}
 use Rattle.lfs_model.proofs.StepsAre.{step_unique}
-use Rattle.lfs_model.proofs.Standing.{object_length}
 use Rattle.lfs_files.specs.declared.header.Header.{Header}
 use Rattle.lfs_store.specs.memory.Present.{as_header}
-use Rattle.lfs_model.specs.Totals.{IsCounted, TotalsOfTree}
-use Rattle.lfs_store.specs.Writing.{WritesFile, resized}
-use Rattle.lfs_fs.specs.Reading.{stat_call}
-use Rattle.lfs_steps.proofs.volume.Nodes.{IsFileOf, IsMapOf, IsShaped, opened_file, room_counted, stat_is}
-use Rattle.lfs_steps.proofs.open_files.Steps.{read_done, write_done, write_no_space, written}
+use Rattle.lfs_store.specs.Writing.{WritesFile}
+use Rattle.lfs_steps.proofs.volume.Nodes.{room_counted}
+use Rattle.lfs_steps.proofs.open_files.Steps.{read_done, write_done, write_no_space}
 use Rattle.lfs_fs.proofs.paths.Steps.{space_done, stat_done}
 use Rattle.lfs_steps.proofs.write.Bytes.{written_map, written_need}
 

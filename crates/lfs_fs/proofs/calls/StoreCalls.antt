@@ -1,29 +1,14 @@
 -- Calls on files are calls on a store.
-use Rattle.std.proofs.Common.{◌≡◌, ◌<◌, ℕ, List, refl, sym, ap, subst}
-use Rattle.lfs_model.specs.Device.{DeviceState}
+use Rattle.lfs_fs.proofs.Prelude.{◌≡◌, ◌<◌, ℕ, List, refl, sym, ap, subst, DeviceState, LogMap, Tree, tree_in, At, End, Refused, Store}
+use Rattle.lfs_fs.proofs.Prelude.{BlockTotals, LogState, Reads, draft_of, drafted_of, volume_of, with_draft, files_of, reads_none}
+use Rattle.lfs_fs.proofs.Prelude.{WalkFault, EndsParent, IsParent, TellsRefusal, Tells, here, Fs, seen, IsStill, EachDrafted, EndsRefused}
+use Rattle.lfs_fs.proofs.Prelude.{WalksTo}
 use Rattle.lfs_model.specs.Refusal as model
-use Rattle.lfs_model.specs.Stands.{LogMap}
-use Rattle.lfs_model.specs.Tree.{Tree}
-use Rattle.lfs_model.specs.TreeOf.{tree_in}
-use Rattle.lfs_model.specs.Walk.{At, End, Refused}
 use Rattle.lfs_files.specs.Files as files
 use Rattle.lfs_files.specs.Files.{Counted}
-use Rattle.lfs_store.specs.declared.store.Store.{Store}
-use Rattle.lfs_store.specs.log.verify.declared.totals.BlockTotals.{BlockTotals}
-use Rattle.lfs_store.specs.log.LogState.{LogState, Reads}
-use Rattle.lfs_store.specs.StoreState.{draft_of, drafted_of, volume_of, with_draft}
-use Rattle.lfs_store.specs.Seen.{files_of}
-use Rattle.lfs_store.proofs.of_log.LogReads.{reads_none}
 use Rattle.lfs_store.proofs.Known.{reads_staged}
-use Rattle.lfs_path.specs.declared.walk_fault.WalkFault.{WalkFault}
 use Rattle.lfs_path.specs.declared.walk_fault.WalkFault.TheVariants as walk
-use Rattle.lfs_path.specs.Reaching.{EndsParent, IsParent}
-use Rattle.lfs_path.specs.Telling.{TellsRefusal, Tells}
-use Rattle.lfs_path.specs.Trees.{HasTree, here}
-use Rattle.lfs_fs.specs.declared.fs.Fs.{Fs}
-use Rattle.lfs_fs.specs.Seen.{seen}
-use Rattle.lfs_fs.specs.Volume.{IsStill}
-use Rattle.lfs_fs.specs.Drafted.{EachDrafted, EndsRefused, WalksTo}
+use Rattle.lfs_path.specs.Trees.{HasTree}
 
 -- two numbers as totals
 abbrev totals_of : Counted → BlockTotals

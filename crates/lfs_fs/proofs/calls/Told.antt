@@ -1,25 +1,11 @@
 -- The ends of a call that finishes a draft, by what is told of it.
-use Rattle.std.proofs.Common.{◌≡◌, ℕ, true, false, Result, Ok, Err, refl, ap}
-use Rattle.std.specs.Prelude.{IfErr, OnOk}
-use Rattle.lfs_model.specs.Call.{Answer, Call, Done, Refuse, changes, cleans, is_ok, never_for_device, takes_no_memory}
-use Rattle.lfs_model.specs.Device.{DeviceState, IsLawful}
-use Rattle.lfs_model.specs.Tree.{Handles}
+use Rattle.lfs_fs.proofs.Prelude.{◌≡◌, ℕ, true, false, Result, Ok, Err, refl, ap, IfErr, OnOk, Answer, Call, Done, Refuse, changes, cleans}
+use Rattle.lfs_fs.proofs.Prelude.{is_ok, never_for_device, takes_no_memory, DeviceState, IsLawful, Handles, FilesState, Draft, Store}
+use Rattle.lfs_fs.proofs.Prelude.{StagedLog, files_of, GrowsDirectory, EntryFault, FsError, Fs, error_of_entry, Finishes, refusal_of}
+use Rattle.lfs_fs.proofs.Prelude.{answer_by, seen, Behaves, Mounted, Serves, segments_of}
 use Rattle.lfs_files.specs.Files as files
-use Rattle.lfs_files.specs.Files.{FilesState}
-use Rattle.lfs_store.specs.declared.draft.Draft.{Draft}
-use Rattle.lfs_store.specs.declared.store.Store.{Store}
-use Rattle.lfs_store.specs.Seen.{StagedLog, files_of}
-use Rattle.lfs_path.specs.dirs.Growing.{GrowsDirectory}
-use Rattle.lfs_entries.specs.declared.fault.EntryFault.{EntryFault}
 use Rattle.lfs_entries.specs.declared.fault.EntryFault.TheVariants as fault
 use Rattle.lfs_entries.specs.Telling.{DraftsOnly, FailsAt}
-use Rattle.lfs_fs.specs.declared.error.FsError.{FsError}
-use Rattle.lfs_fs.specs.declared.fs.Fs.{Fs}
-use Rattle.lfs_fs.specs.Faults.{error_of_entry}
-use Rattle.lfs_fs.specs.Finishing.{Finishes}
-use Rattle.lfs_fs.specs.Refusals.{refusal_of}
-use Rattle.lfs_fs.specs.Seen.{answer_by, seen}
-use Rattle.lfs_fs.specs.Volume.{Behaves, Mounted, Serves, segments_of}
 use Rattle.lfs_fs.proofs.calls.AnyDevice.{IsBounded}
 use Rattle.lfs_fs.proofs.calls.Files.{EndsWith, Explains, InEach, IsBegun, Makes, Rose, finish_ends, finish_opens, finish_turned, gives_up}
 use Rattle.lfs_fs.proofs.calls.Files.{rose_where, still_ready, with_store}

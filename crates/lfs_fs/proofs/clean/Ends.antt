@@ -1,29 +1,16 @@
 -- The ends of a clean, as steps of the model.
-use Rattle.std.proofs.Common.{◌≡◌, ◌<◌, ◌≤◌, ◌+◌, ◌/◌, ◌^◌, false, ℕ, refl, sym, ◌∙◌, subst, inl, inr, arith}
-use Rattle.lfs_model.specs.Call.{Answer, Clean, Done, Refuse}
-use Rattle.lfs_model.specs.Checkpoint.{CheckpointValue, IsSegmentCount}
-use Rattle.lfs_model.specs.Device.{DeviceState, IsLawful}
-use Rattle.lfs_model.specs.Refusal.{Device, Halted, Stuck, Worn}
-use Rattle.lfs_model.specs.Run.{Point, StepsOr}
-use Rattle.lfs_model.specs.Stands.{LogMap}
-use Rattle.lfs_files.specs.declared.fault.LogFault.{LogFault}
+use Rattle.lfs_fs.proofs.Prelude.{◌≡◌, ◌<◌, ◌≤◌, ◌+◌, ◌/◌, ◌^◌, false, ℕ, refl, sym, ◌∙◌, subst, inl, inr, arith, Answer, Clean, Done}
+use Rattle.lfs_fs.proofs.Prelude.{Refuse, CheckpointValue, DeviceState, IsLawful, Device, Halted, Stuck, Worn, Point, StepsOr, LogMap}
+use Rattle.lfs_fs.proofs.Prelude.{LogFault, HaltsLater, room_orders, LogState, Store, HasClean, volume_of, MayNotMakeRoom, most_checkpoints}
+use Rattle.lfs_fs.proofs.Prelude.{few_checkpoints, FsError, Fs, error_of_log, refusal_of, seen, IsAt, IsIn, Mounted, Serves, TellsAtMost}
+use Rattle.lfs_fs.proofs.Prelude.{segments_of}
+use Rattle.lfs_model.specs.Checkpoint.{IsSegmentCount}
 use Rattle.lfs_files.specs.declared.fault.LogFault.TheVariants as log
-use Rattle.lfs_store.specs.cleaner.Room.{HaltsLater, IsRoomFault, once_orders, room_orders}
-use Rattle.lfs_store.specs.log.LogState.{LogState}
-use Rattle.lfs_store.specs.declared.store.Store.{Store}
-use Rattle.lfs_store.specs.Accepting.{HasClean}
+use Rattle.lfs_store.specs.cleaner.Room.{IsRoomFault, once_orders}
 use Rattle.lfs_store.proofs.of_cleaner.Onces.{once_within}
-use Rattle.lfs_store.specs.StoreState.{volume_of}
-use Rattle.lfs_store.specs.cleaner.Room.{FailsRoom, LacksRoom, MakesRoom, MayNotMakeRoom, most_checkpoints}
-use Rattle.lfs_store.proofs.Known.{few_checkpoints}
+use Rattle.lfs_store.specs.cleaner.Room.{FailsRoom, LacksRoom, MakesRoom}
 use Rattle.lfs_store.proofs.Acceptings.{room_holds}
-use Rattle.lfs_fs.specs.declared.error.FsError.{FsError}
 use Rattle.lfs_fs.specs.declared.error.FsError.TheVariants as error
-use Rattle.lfs_fs.specs.declared.fs.Fs.{Fs}
-use Rattle.lfs_fs.specs.Faults.{error_of_log}
-use Rattle.lfs_fs.specs.Refusals.{refusal_of}
-use Rattle.lfs_fs.specs.Seen.{seen}
-use Rattle.lfs_fs.specs.Volume.{IsAt, IsIn, Mounted, Serves, TellsAtMost, segments_of}
 use Rattle.lfs_fs.proofs.calls.AnyDevice.{clean_bounded, write_behaves}
 use Rattle.lfs_fs.proofs.calls.Steps.{not_worn}
 use Rattle.lfs_fs.proofs.calls.Drafts.{IsRest, counted_still, runs_on}

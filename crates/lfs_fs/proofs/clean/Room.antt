@@ -1,15 +1,7 @@
 -- Where a volume is in a state there is room that can be made: what the tree needs is within the volume, and what was saved is at rest.
-use Rattle.std.proofs.Common.{◌<◌, ◌^◌, arith}
-use Rattle.lfs_model.specs.Checkpoint.{CheckpointValue}
-use Rattle.lfs_model.specs.Device.{DeviceState, IsLawful}
-use Rattle.lfs_model.specs.Stands.{LogMap}
-use Rattle.lfs_model.specs.Tree.{State}
-use Rattle.lfs_model.proofs.Committed.{dropped_log}
-use Rattle.lfs_store.proofs.TreeTotals.{totals_of_tree}
+use Rattle.lfs_fs.proofs.Prelude.{◌<◌, ◌^◌, arith, CheckpointValue, DeviceState, IsLawful, LogMap, State, dropped_log, totals_of_tree}
+use Rattle.lfs_fs.proofs.Prelude.{segment_count, few_checkpoints, IsIn, Mounted, segments_of}
 use Rattle.lfs_store.specs.cleaner.Room.{MayMakeRoom}
-use Rattle.lfs_store.proofs.of_log.LogReads.{segment_count}
-use Rattle.lfs_store.proofs.Known.{few_checkpoints}
-use Rattle.lfs_fs.specs.Volume.{IsIn, Mounted, segments_of}
 use Rattle.lfs_steps.proofs.volume.Nodes.{need_counted}
 use Rattle.lfs_fs.proofs.volume.Map.{headers_of_volume, map_of_volume}
 

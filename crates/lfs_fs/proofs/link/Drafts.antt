@@ -1,32 +1,15 @@
 -- A further name that a call drafted, as a step of the model.
-use Rattle.std.proofs.Common.{◌≡◌, ◌≤◌, ◌*◌, ℕ, List, Result, refl, sym, ◌∙◌, ap, arith}
-use Rattle.lfs_model.specs.Call.{Done, LinkTo}
-use Rattle.lfs_model.specs.Device.{DeviceState, IsLawful}
-use Rattle.lfs_model.specs.Need.{need}
-use Rattle.lfs_model.specs.Step.{with_tree}
+use Rattle.lfs_fs.proofs.Prelude.{◌≡◌, ◌≤◌, ◌*◌, ℕ, List, Result, refl, sym, ◌∙◌, ap, arith, Done, LinkTo, DeviceState, IsLawful, need}
+use Rattle.lfs_fs.proofs.Prelude.{with_tree, FilesState, Draft, Store, StagedLog, files_of, totals_of_tree, drafted_of, Last, EntryFault}
+use Rattle.lfs_fs.proofs.Prelude.{FsError, Fs, need_of, Finishes, answer_by, seen, Mounted, Serves, segments_of, IsLink, need_shaped}
 use Rattle.lfs_model.proofs.Keeps.{link_keeps}
 use Rattle.lfs_files.specs.declared.header.Header.{Header}
 use Rattle.lfs_files.specs.Files as files
-use Rattle.lfs_files.specs.Files.{FilesState}
-use Rattle.lfs_store.specs.declared.draft.Draft.{Draft}
-use Rattle.lfs_store.specs.declared.store.Store.{Store}
-use Rattle.lfs_store.specs.Seen.{StagedLog, files_of}
-use Rattle.lfs_store.proofs.TreeTotals.{totals_of_tree}
-use Rattle.lfs_store.specs.StoreState.{drafted_of}
-use Rattle.lfs_path.specs.declared.last.Last.{Last}
-use Rattle.lfs_entries.specs.declared.fault.EntryFault.{EntryFault}
 use Rattle.lfs_entries.specs.NewNames.{CountsName, DraftsName, HasFurther}
-use Rattle.lfs_fs.specs.declared.error.FsError.{FsError}
-use Rattle.lfs_fs.specs.declared.fs.Fs.{Fs}
-use Rattle.lfs_fs.specs.Accepting.{need_of}
-use Rattle.lfs_fs.specs.Finishing.{Finishes}
-use Rattle.lfs_fs.specs.Seen.{answer_by, seen}
-use Rattle.lfs_fs.specs.Volume.{Mounted, Serves, segments_of}
 use Rattle.lfs_fs.proofs.calls.Files.{InEach, IsBegun, Makes, apart_now, counted_now, fits_now, has_now, with_store}
-use Rattle.lfs_steps.proofs.link.Maps.{IsLink, few_links, linked_map, linked_shape, linked_tree, takes}
+use Rattle.lfs_steps.proofs.link.Maps.{few_links, linked_map, linked_shape, linked_tree, takes}
 use Rattle.lfs_steps.proofs.link.Steps.{link_done, link_no_space, linked}
 use Rattle.lfs_fs.proofs.calls.Told.{DraftTold, told_ends}
-use Rattle.lfs_steps.proofs.volume.Nodes.{need_shaped}
 
 module _ {D : Type 0} (state : D → DeviceState) (lawful : (d : D) → IsLawful (state d)) (v : Mounted D) (f : Fs D)
     (begun : IsBegun state v f) (store : Store D) (redrafts : files.Redrafts (files_of state f.store) (files_of state store))

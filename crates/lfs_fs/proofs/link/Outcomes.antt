@@ -1,44 +1,21 @@
 -- The call link, where its first path names an object: the second path, the rule of a new entry, and what is drafted.
-use Rattle.std.proofs.Common.{◌≡◌, ◌<◌, ◌≤◌, ◌||◌, ℕ, Bool, false, List, Option, Some, None, Result, Ok, Err, refl, sym, ◌∙◌, ap, subst}
-use Rattle.std.proofs.Common.{⊎_elim, arith}
-use Rattle.lfs_model.specs.Bytes.{AreBytes}
-use Rattle.lfs_model.specs.Call.{LinkTo, Refuse}
-use Rattle.lfs_model.specs.Checkpoint.{CheckpointValue}
-use Rattle.lfs_model.specs.Device.{DeviceState, IsLawful}
+use Rattle.lfs_fs.proofs.Prelude.{◌≡◌, ◌<◌, ◌≤◌, ◌||◌, ℕ, Bool, false, List, Option, Some, None, Result, Ok, Err, refl, sym, ◌∙◌, ap, subst}
+use Rattle.lfs_fs.proofs.Prelude.{⊎_elim, arith, AreBytes, LinkTo, Refuse, CheckpointValue, DeviceState, IsLawful, LogMap, last_dots, State}
+use Rattle.lfs_fs.proofs.Prelude.{Tree, links, Store, files_of, Last, EndsParent, last_says, Entry, EntryFault, LooksAt, FsError, Fs}
+use Rattle.lfs_fs.proofs.Prelude.{error_of_entry, BeginsAt, FindsPlace, LacksPlace, Reaches, refusal_of, IsReady, OnlyReads, seen, IsIn}
+use Rattle.lfs_fs.proofs.Prelude.{Serves, segments_of, IsLink, Enters, ChecksNew, new_dots, dots_is, entry_is, kind_is, short_is, slash_is}
 use Rattle.lfs_model.specs.Refusal as refusals
-use Rattle.lfs_model.specs.Stands.{LogMap}
-use Rattle.lfs_model.specs.Step.{last_dots}
-use Rattle.lfs_model.specs.Tree.{State, Tree, links}
 use Rattle.lfs_files.specs.declared.header.Header.{Header}
 use Rattle.lfs_files.specs.Files as files
 use Rattle.lfs_files.specs.Headers.{as_header}
-use Rattle.lfs_store.specs.declared.store.Store.{Store}
-use Rattle.lfs_store.specs.Seen.{files_of}
-use Rattle.lfs_path.specs.declared.last.Last.{Last}
-use Rattle.lfs_path.specs.Reaching.{EndsParent}
-use Rattle.lfs_path.proofs.LastPieces.{last_says}
-use Rattle.lfs_entries.specs.declared.entry.Entry.{Entry}
-use Rattle.lfs_entries.specs.declared.fault.EntryFault.{EntryFault}
-use Rattle.lfs_entries.specs.Looking.{LooksAt}
 use Rattle.lfs_entries.specs.OldEntries.{HasEntry}
-use Rattle.lfs_fs.specs.declared.error.FsError.{FsError}
 use Rattle.lfs_fs.specs.declared.error.FsError.TheVariants as error
-use Rattle.lfs_fs.specs.declared.fs.Fs.{Fs}
-use Rattle.lfs_fs.specs.Faults.{error_of_entry}
-use Rattle.lfs_fs.specs.Naming.{BeginsAt, FindsPlace, LacksPlace, Reaches}
-use Rattle.lfs_fs.specs.Refusals.{refusal_of}
-use Rattle.lfs_fs.specs.Seen.{IsReady, OnlyReads, seen}
-use Rattle.lfs_fs.specs.Volume.{IsIn, Serves, segments_of}
 use Rattle.lfs_fs.proofs.calls.Files as calls
 use Rattle.lfs_fs.proofs.calls.Files.{IsBegun, begun_at, refused_after, was, with_store}
-use Rattle.lfs_steps.proofs.link.Maps.{IsLink}
 use Rattle.lfs_steps.proofs.link.Steps.{NamesObject, link_asks, link_many, second_refused}
-use Rattle.lfs_steps.proofs.new_entries.Maps.{Enters}
 use Rattle.lfs_fs.proofs.new_entries.Rule.{InEach, RuleTold, at, begun, enters, read, rule_refused, see, still}
-use Rattle.lfs_steps.proofs.new_entries.RuleSteps.{ChecksNew, new_dots}
 use Rattle.lfs_fs.proofs.old_entries.Explained.{plain_so}
 use Rattle.lfs_fs.proofs.paths.Later.{later_reaches, later_refused}
-use Rattle.lfs_steps.proofs.paths.Named.{dots_is, entry_is, kind_is, short_is, slash_is}
 use Rattle.lfs_fs.proofs.paths.Places.{ready_after}
 use Rattle.lfs_fs.proofs.read.Ends.{still_none}
 

@@ -1,22 +1,14 @@
 -- The rows of all directories, number by number, and the call that lists them.
-use Rattle.std.proofs.Common.{◌≡◌, ◌<◌, ◌++◌, ◌+◌, ◌-◌, ℕ, List, [], ◌∷◌, map, refl, sym, ◌∙◌, ap, subst, append_assoc, append-nil}
-use Rattle.lfs_model.specs.Call.{ListTree, Refuse, Rows, TreeRow as ModelRow}
-use Rattle.lfs_model.specs.Device.{DeviceState, IsLawful}
+use Rattle.lfs_fs.proofs.Prelude.{◌≡◌, ◌<◌, ◌++◌, ◌+◌, ◌-◌, ℕ, List, [], ◌∷◌, map, refl, sym, ◌∙◌, ap, subst, append-nil, ListTree, Refuse}
+use Rattle.lfs_fs.proofs.Prelude.{Rows, DeviceState, IsLawful, Step, rows_of, Store, files_of, TreeRow, FailsWhere, Fs, row_of, AreListable}
+use Rattle.lfs_fs.proofs.Prelude.{HasRows, Begins, seen, Mounted, Serves, segments_of, rows_at}
+use Rattle.std.proofs.Common.{append_assoc}
+use Rattle.lfs_model.specs.Call.{TreeRow as ModelRow}
 use Rattle.lfs_model.specs.Refusal.{NoMemory}
-use Rattle.lfs_model.specs.Step.{Step, rows_of}
-use Rattle.lfs_store.specs.declared.store.Store.{Store}
-use Rattle.lfs_store.specs.Seen.{files_of}
-use Rattle.lfs_entries.specs.declared.rows.TreeRow.{TreeRow}
 use Rattle.lfs_entries.specs.Telling as telling
-use Rattle.lfs_entries.specs.Telling.{FailsWhere}
-use Rattle.lfs_fs.specs.declared.fs.Fs.{Fs}
-use Rattle.lfs_fs.specs.Answers.{row_of}
-use Rattle.lfs_fs.specs.Reading.{AreListable, HasRows}
-use Rattle.lfs_fs.specs.Seen.{Begins, seen}
-use Rattle.lfs_fs.specs.Volume.{Mounted, Serves, segments_of}
 use Rattle.lfs_fs.proofs.calls.Answers.{Fails, In, IsQuiet, ReadsTo, answers, begun_by, fails_where, known, lacks_memory, now}
 use Rattle.lfs_fs.proofs.calls.Files.{IsBegun, with_store}
-use Rattle.lfs_steps.proofs.list.Rows.{all_rows, rows_at, rows_end, rows_from, rows_next}
+use Rattle.lfs_steps.proofs.list.Rows.{all_rows, rows_end, rows_from, rows_next}
 use Rattle.lfs_fs.proofs.paths.Steps.{tree_done}
 use Rattle.lfs_fs.proofs.read.Shown.{all_listable, shows_rows}
 use Rattle.lfs_fs.proofs.volume.Map.{headers_of_volume, map_of_volume}

@@ -1,22 +1,15 @@
 -- What a mount finds with the tables that a walk over the whole volume took in: the state that the device stands for.
-use Rattle.std.proofs.Common.{◌≡◌, true, [], refl, sym, subst}
+use Rattle.lfs_fs.proofs.Prelude.{◌≡◌, true, [], refl, sym, subst, Content, DeviceState, IsLawful, Only, LogMap, StandsLog, State, Stands}
+use Rattle.lfs_fs.proofs.Prelude.{tree_in, AreTotals, Holds, Mounts, Fs, FindsState, IsMountFault, MountsFs, seen}
 use Rattle.lfs_model.specs.Checkpoint.{layout_version}
-use Rattle.lfs_model.specs.Content.{Content}
-use Rattle.lfs_model.specs.Device.{DeviceState, IsLawful, Only}
-use Rattle.lfs_model.specs.Stands.{LogMap, StandsLog}
-use Rattle.lfs_model.specs.Tree.{State}
-use Rattle.lfs_model.specs.TreeOf.{Stands, tree_in}
 use Rattle.lfs_store.specs.log.verify.declared.fault.MountFault.{MountFault}
 use Rattle.lfs_store.specs.log.verify.declared.fault.MountFault.TheVariants.{NoMemory}
 use Rattle.lfs_store.specs.log.verify.declared.tables.Tables.{Tables}
 use Rattle.lfs_store.specs.log.verify.Loading.{HasTables}
 use Rattle.lfs_store.specs.log.verify.Take.{Looks}
-use Rattle.lfs_store.specs.Recounting.{AreTotals, MountsTotals}
-use Rattle.lfs_store.specs.log.LogState.{Holds, Mounts}
+use Rattle.lfs_store.specs.Recounting.{MountsTotals}
 use Rattle.lfs_tree.specs.Checking.{HasTree}
-use Rattle.lfs_fs.specs.declared.fs.Fs.{Fs}
-use Rattle.lfs_fs.specs.Mounting.{FindsState, IsMountFault, IsRefused, MountsFs}
-use Rattle.lfs_fs.specs.Seen.{seen}
+use Rattle.lfs_fs.specs.Mounting.{IsRefused}
 use Rattle.lfs_fs.proofs.mount.State.{found_at, found_running}
 use Rattle.lfs_fs.proofs.calls.Exits.{point_of}
 

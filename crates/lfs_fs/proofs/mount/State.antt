@@ -1,17 +1,10 @@
 -- The state that a mount finds.
-use Rattle.std.proofs.Common.{◌≡◌, ℕ, true, false, [], refl, sym, ◌∙◌, subst}
+use Rattle.lfs_fs.proofs.Prelude.{◌≡◌, ℕ, true, false, [], refl, sym, ◌∙◌, subst, DeviceState, Only, IsLogMap, StandsLog, State, IsTree}
+use Rattle.lfs_fs.proofs.Prelude.{Stands, IsLogOf, Holds, Mounts, AreTotals, IsAt, IsIn, Mounted, segments_of}
 use Rattle.std.specs.List.{AllByRecursion}
-use Rattle.lfs_model.specs.Device.{DeviceState, IsSector, Only}
-use Rattle.lfs_model.specs.Encodes.{IsLogMap}
-use Rattle.lfs_model.specs.Stands.{StandsLog}
-use Rattle.lfs_model.specs.Tree.{State}
-use Rattle.lfs_model.specs.TreeOf.{IsTree, Stands}
-use Rattle.lfs_model.specs.Volume.{IsLogOf}
+use Rattle.lfs_model.specs.Device.{IsSector}
 use Rattle.lfs_model.proofs.Committed.{mounted_log}
 use Rattle.lfs_model.proofs.Decodes.{are_sized, decoding}
-use Rattle.lfs_store.specs.log.LogState.{Holds, Mounts}
-use Rattle.lfs_store.specs.Recounting.{AreTotals}
-use Rattle.lfs_fs.specs.Volume.{IsAt, IsIn, Mounted, segments_of}
 use Rattle.lfs_fs.proofs.calls.Exits.{point_of}
 
 -- ---- a mount

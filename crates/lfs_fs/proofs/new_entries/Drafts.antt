@@ -1,42 +1,22 @@
 -- A new object that a call drafted with its name, as a step of the model.
-use Rattle.std.proofs.Common.{◌≡◌, ◌<◌, ◌≤◌, ◌*◌, ℕ, true, false, List, Result, Ok, Err, refl, sym, ◌∙◌, ap, arith}
-use Rattle.lfs_model.specs.declared.limits.TheConstants.{MOST_LINKS}
-use Rattle.lfs_model.specs.Call.{Answer, Done, Refuse, is_ok}
-use Rattle.lfs_model.specs.Device.{DeviceState, IsLawful}
-use Rattle.lfs_model.specs.Need.{need}
+use Rattle.lfs_fs.proofs.Prelude.{◌≡◌, ◌<◌, ◌≤◌, ◌*◌, ℕ, true, false, List, Result, Ok, Err, refl, sym, ◌∙◌, ap, arith, MOST_LINKS, Answer}
+use Rattle.lfs_fs.proofs.Prelude.{Done, Refuse, is_ok, DeviceState, IsLawful, need, Handles, State, FilesState, Draft, Store, StagedLog}
+use Rattle.lfs_fs.proofs.Prelude.{files_of, IsVacant, totals_of_tree, drafted_of, Last, EntryFault, makes_directory, FsError, Fs, need_of}
+use Rattle.lfs_fs.proofs.Prelude.{Finishes, BeginsAt, refusal_of, answer_by, seen, Behaves, Mounted, Serves, segments_of, IsNew, Asked}
+use Rattle.lfs_fs.proofs.Prelude.{NewCall, links_are, need_shaped}
 use Rattle.lfs_model.specs.Step.{with_new}
-use Rattle.lfs_model.specs.Tree.{Handles, State, least}
+use Rattle.lfs_model.specs.Tree.{least}
 use Rattle.lfs_model.proofs.KeepsAll.{call_keeps}
 use Rattle.lfs_files.specs.declared.header.Header.{Header}
 use Rattle.lfs_files.specs.Files as files
-use Rattle.lfs_files.specs.Files.{FilesState}
-use Rattle.lfs_store.specs.declared.draft.Draft.{Draft}
-use Rattle.lfs_store.specs.declared.store.Store.{Store}
-use Rattle.lfs_store.specs.Seen.{StagedLog, files_of}
-use Rattle.lfs_store.specs.log.LogState.{IsVacant}
-use Rattle.lfs_store.proofs.TreeTotals.{totals_of_tree}
-use Rattle.lfs_store.specs.StoreState.{drafted_of}
-use Rattle.lfs_path.specs.declared.last.Last.{Last}
-use Rattle.lfs_entries.specs.declared.fault.EntryFault.{EntryFault}
-use Rattle.lfs_entries.specs.NewObjects.{makes_directory}
 use Rattle.lfs_entries.specs.NewNames.{CountsEntry, DraftsEntry, HasEntry}
-use Rattle.lfs_fs.specs.declared.error.FsError.{FsError}
-use Rattle.lfs_fs.specs.declared.fs.Fs.{Fs}
-use Rattle.lfs_fs.specs.Accepting.{need_of}
-use Rattle.lfs_fs.specs.Finishing.{Finishes}
-use Rattle.lfs_fs.specs.Naming.{BeginsAt}
-use Rattle.lfs_fs.specs.Refusals.{refusal_of}
-use Rattle.lfs_fs.specs.Seen.{answer_by, seen}
-use Rattle.lfs_fs.specs.Volume.{Behaves, Mounted, Serves, segments_of}
 use Rattle.lfs_fs.proofs.calls.AnyDevice.{IsBounded}
 use Rattle.lfs_fs.proofs.calls.Files.{InEach, IsBegun, Makes, apart_now, counted_now, fits_now, has_now, with_store}
 use Rattle.lfs_fs.proofs.calls.Told.{DraftTold, told_ends, told_opens, told_turned, with_open}
 use Rattle.lfs_fs.proofs.new_entries.Outcomes.{may_make}
 use Rattle.lfs_fs.proofs.new_entries.Rule.{RuleTold, read}
-use Rattle.lfs_steps.proofs.new_entries.Maps.{IsNew, known_there, lacks, new_map, new_shape, new_tree, takes, top_least}
-use Rattle.lfs_steps.proofs.new_entries.Steps.{Asked, NewCall, new_done, new_no_space, new_node, with_entry}
-use Rattle.lfs_steps.proofs.paths.Named.{links_are}
-use Rattle.lfs_steps.proofs.volume.Nodes.{need_shaped}
+use Rattle.lfs_steps.proofs.new_entries.Maps.{known_there, lacks, new_map, new_shape, new_tree, takes, top_least}
+use Rattle.lfs_steps.proofs.new_entries.Steps.{new_done, new_no_space, new_node, with_entry}
 
 module _ {D : Type 0} (state : D → DeviceState) (lawful : (d : D) → IsLawful (state d)) {old f : Fs D} {path : List ℕ} {d : ℕ} {l : Last}
     (begins : BeginsAt state old f path d l) (of : NewCall (seen old).log.version (segments_of (seen old)) path d) (ruled : Store D)

@@ -1,14 +1,8 @@
 -- The ends of a call that makes an entry, from what its steps tell to the call as a step of the model.
-use Rattle.std.proofs.Common.{◌≡◌, ℕ, suc, List, [], ◌∷◌, slice_index_or, Fits, w8, Some, refl, ◌∙◌, ap, arith}
-use Rattle.lfs_model.specs.Call.{Refuse, Symlink}
-use Rattle.lfs_model.specs.Bytes.{AreBytes}
-use Rattle.lfs_model.specs.Device.{DeviceState, IsLawful}
-use Rattle.lfs_model.specs.PathText.{text_refusal}
-use Rattle.lfs_model.specs.Refusal.{Refusal}
-use Rattle.lfs_store.proofs.of_log.LogReads.{reads_more}
-use Rattle.lfs_fs.specs.declared.fs.Fs.{Fs}
-use Rattle.lfs_fs.specs.Seen.{Begins, seen}
-use Rattle.lfs_fs.specs.Volume.{IsStill, Mounted, Serves, segments_of}
+use Rattle.lfs_fs.proofs.Prelude.{◌≡◌, ℕ, suc, List, [], ◌∷◌, slice_index_or, Some, refl, ◌∙◌, ap, arith, Refuse, Symlink, AreBytes}
+use Rattle.lfs_fs.proofs.Prelude.{DeviceState, IsLawful, text_refusal, Refusal, reads_more, Fs, Begins, seen, IsStill, Mounted, Serves}
+use Rattle.lfs_fs.proofs.Prelude.{segments_of}
+use Rattle.std.proofs.Common.{Fits, w8}
 use Rattle.lfs_fs.proofs.paths.Looks.{only_none}
 use Rattle.lfs_fs.proofs.paths.Steps.{symlink_bad_text, text_ordinary}
 use Rattle.lfs_fs.proofs.calls.Reads.{refused_serves}

@@ -1,26 +1,18 @@
 -- What the rule of a new entry takes, and why it takes none, as the model sees it in one state.
-use Rattle.std.proofs.Common.{not, ◌&&◌, ◌≡◌, ℕ, Bool, false, List, length, Option, Some, None, ◌∙◌, ap, subst, ⊎_elim, arith}
-use Rattle.lfs_model.specs.Call.{Call}
-use Rattle.lfs_model.specs.Slot.{IsName}
-use Rattle.lfs_model.specs.Stands.{LogMap}
+use Rattle.lfs_fs.proofs.Prelude.{not, ◌&&◌, ◌≡◌, ℕ, Bool, false, List, length, Option, Some, None, ◌∙◌, ap, subst, ⊎_elim, arith, Call}
+use Rattle.lfs_fs.proofs.Prelude.{IsName, LogMap, State, FilesState, Last, is_dots, HasHeader, TellsFault, EntryFault, IsHolder, LooksUp}
+use Rattle.lfs_fs.proofs.Prelude.{RefusesEntry, TakesEntry, InEach, ChecksNew, new_dots, IsReached, dots_is, free_is, full_is, long_is}
+use Rattle.lfs_fs.proofs.Prelude.{piece_is, short_is, slash_is, there_is}
 use Rattle.lfs_model.specs.Step.{is_long}
 use Rattle.lfs_model.specs.PathText.{slash}
-use Rattle.lfs_model.specs.Tree.{State, name_len}
+use Rattle.lfs_model.specs.Tree.{name_len}
 use Rattle.lfs_files.specs.declared.header.Header.{Header}
-use Rattle.lfs_files.specs.Files.{FilesState}
-use Rattle.lfs_path.specs.declared.last.Last.{Last}
-use Rattle.lfs_path.specs.Pieces.{is_dots}
-use Rattle.lfs_path.specs.Seeing.{HasHeader}
-use Rattle.lfs_path.specs.Telling.{TellsFault}
-use Rattle.lfs_entries.specs.declared.fault.EntryFault.{EntryFault}
 use Rattle.lfs_entries.specs.declared.fault.EntryFault.TheVariants as fault
-use Rattle.lfs_entries.specs.Looking.{IsHolder, LooksUp}
-use Rattle.lfs_entries.specs.NewEntries.{Gives, RefusesEntry, TakesEntry}
-use Rattle.lfs_entries.specs.Telling.{InEach}
+use Rattle.lfs_entries.specs.NewEntries.{Gives}
 use Rattle.lfs_fs.proofs.calls.Files.{Explains}
-use Rattle.lfs_steps.proofs.new_entries.RuleSteps.{ChecksNew, IsTaken, new_dots, new_full, new_long, new_slash, new_there}
+use Rattle.lfs_steps.proofs.new_entries.RuleSteps.{IsTaken, new_full, new_long, new_slash, new_there}
 use Rattle.lfs_steps.proofs.paths.LastNames.{last_is_name}
-use Rattle.lfs_steps.proofs.paths.Named.{IsReached, dir, dots_is, free_is, full_is, long_is, piece_is, short_is, slash_is, there_is}
+use Rattle.lfs_steps.proofs.paths.Named.{dir}
 use Rattle.lfs_steps.proofs.volume.Directories.{limit_in_directory}
 
 module _ {S D : Type 0} (a b : FilesState S D) {N : ℕ} {m : LogMap} {s : State} {p : List ℕ} {d : ℕ} {l : Last}

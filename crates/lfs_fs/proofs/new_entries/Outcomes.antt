@@ -1,36 +1,18 @@
 -- The calls that make an object under the last piece of a path, exit by exit.
-use Rattle.std.proofs.Common.{◌≡◌, ◌<◌, ℕ, true, false, List, Ok, Err, sym, ◌∙◌, arith}
-use Rattle.lfs_model.specs.declared.limits.TheConstants.{MOST_LINKS}
-use Rattle.lfs_model.specs.Call.{Refuse}
-use Rattle.lfs_model.specs.Checkpoint.{CheckpointValue}
-use Rattle.lfs_model.specs.Device.{DeviceState, IsLawful}
+use Rattle.lfs_fs.proofs.Prelude.{◌≡◌, ◌<◌, ℕ, true, false, List, Ok, Err, sym, ◌∙◌, arith, MOST_LINKS, Refuse, CheckpointValue}
+use Rattle.lfs_fs.proofs.Prelude.{DeviceState, IsLawful, LogMap, Step, State, Store, Holds, IsVacant, volume_of, files_of, Last, EntryFault}
+use Rattle.lfs_fs.proofs.Prelude.{makes_directory, Fs, error_of_entry, BeginsAt, refusal_of, seen, IsIn, Serves, segments_of, Enters, IsNew}
+use Rattle.lfs_fs.proofs.Prelude.{Asked, NewCall, checks_new, links_are}
 use Rattle.lfs_model.specs.Refusal as refusals
-use Rattle.lfs_model.specs.Stands.{LogMap}
-use Rattle.lfs_model.specs.Step.{Step}
-use Rattle.lfs_model.specs.Tree.{State}
 use Rattle.lfs_files.specs.declared.header.Header.{Header}
 use Rattle.lfs_files.specs.Files as files
-use Rattle.lfs_store.specs.declared.store.Store.{Store}
-use Rattle.lfs_store.specs.log.LogState.{HasAll, Holds, IsVacant}
-use Rattle.lfs_store.specs.StoreState.{volume_of}
-use Rattle.lfs_store.specs.Seen.{files_of}
-use Rattle.lfs_path.specs.declared.last.Last.{Last}
-use Rattle.lfs_entries.specs.declared.fault.EntryFault.{EntryFault}
-use Rattle.lfs_entries.specs.NewObjects.{makes_directory}
-use Rattle.lfs_fs.specs.declared.fs.Fs.{Fs}
-use Rattle.lfs_fs.specs.Faults.{error_of_entry}
-use Rattle.lfs_fs.specs.Naming.{BeginsAt}
-use Rattle.lfs_fs.specs.Refusals.{refusal_of}
-use Rattle.lfs_fs.specs.Seen.{seen}
-use Rattle.lfs_fs.specs.Volume.{IsIn, Serves, segments_of}
+use Rattle.lfs_store.specs.log.LogState.{HasAll}
 use Rattle.lfs_fs.proofs.calls.AnyDevice.{IsOrdinary}
 use Rattle.lfs_fs.proofs.calls.Exits.{still_in}
 use Rattle.lfs_fs.proofs.calls.Files as calls
 use Rattle.lfs_fs.proofs.calls.Files.{refused_after, with_store}
-use Rattle.lfs_steps.proofs.new_entries.Maps.{Enters, IsNew}
 use Rattle.lfs_fs.proofs.new_entries.Rule.{InEach, RuleTold, at, begun, enters, read, rule_refused, still}
-use Rattle.lfs_steps.proofs.new_entries.Steps.{Asked, NewCall, checks_new, new_no_number, new_own}
-use Rattle.lfs_steps.proofs.paths.Named.{links_are}
+use Rattle.lfs_steps.proofs.new_entries.Steps.{new_no_number, new_own}
 use Rattle.lfs_steps.proofs.volume.Directories.{least_number, no_least}
 use Rattle.lfs_fs.proofs.volume.Map.{map_of_volume, version_of_volume}
 

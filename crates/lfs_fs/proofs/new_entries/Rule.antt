@@ -1,41 +1,20 @@
 -- The rule of a new entry, as a call asks it that came to the last piece of a path.
-use Rattle.std.proofs.Common.{◌≡◌, ◌||◌, ℕ, Bool, false, List, Some, None, Ok, Err, ap}
-use Rattle.std.specs.Prelude.{IfErr, IfOk, Result}
-use Rattle.lfs_model.specs.Call.{Call, Refuse, cleans, never_for_device, takes_no_memory}
-use Rattle.lfs_model.specs.Checkpoint.{CheckpointValue}
-use Rattle.lfs_model.specs.Device.{DeviceState, IsLawful}
+use Rattle.lfs_fs.proofs.Prelude.{◌≡◌, ◌||◌, ℕ, Bool, false, List, Some, None, Ok, Err, ap, IfErr, Result, Call, Refuse, cleans}
+use Rattle.lfs_fs.proofs.Prelude.{never_for_device, takes_no_memory, CheckpointValue, DeviceState, IsLawful, LogMap, last_dots, State, At}
+use Rattle.lfs_fs.proofs.Prelude.{Parent, FilesState, Store, volume_of, files_of, Last, EntryFault, IsHolder, LooksUp, RefusesEntry}
+use Rattle.lfs_fs.proofs.Prelude.{TakesEntry, FsError, Fs, error_of_entry, BeginsAt, BeginsNowhere, refusal_of, seen, IsIn, IsStill, Serves}
+use Rattle.lfs_fs.proofs.Prelude.{segments_of, Enters, ChecksNew, new_dots, IsReached, holder}
+use Rattle.std.specs.Prelude.{IfOk}
 use Rattle.lfs_model.specs.Refusal as refusals
-use Rattle.lfs_model.specs.Stands.{LogMap}
-use Rattle.lfs_model.specs.Step.{last_dots}
-use Rattle.lfs_model.specs.Tree.{State}
-use Rattle.lfs_model.specs.Walk.{At, Parent}
 use Rattle.lfs_files.specs.declared.header.Header.{Header}
 use Rattle.lfs_files.specs.Files as files
-use Rattle.lfs_files.specs.Files.{FilesState}
-use Rattle.lfs_store.specs.declared.store.Store.{Store}
-use Rattle.lfs_store.specs.StoreState.{volume_of}
-use Rattle.lfs_store.specs.Seen.{files_of}
-use Rattle.lfs_path.specs.declared.last.Last.{Last}
-use Rattle.lfs_entries.specs.declared.fault.EntryFault.{EntryFault}
-use Rattle.lfs_entries.specs.Looking.{IsHolder, LooksUp}
-use Rattle.lfs_entries.specs.NewEntries.{RefusesEntry, TakesEntry}
 use Rattle.lfs_entries.specs.Telling as telling
-use Rattle.lfs_fs.specs.declared.error.FsError.{FsError}
 use Rattle.lfs_fs.specs.declared.error.FsError.TheVariants as error
 use Rattle.lfs_entries.specs.Telling.{AsksOnly}
-use Rattle.lfs_fs.specs.declared.fs.Fs.{Fs}
-use Rattle.lfs_fs.specs.Faults.{error_of_entry}
-use Rattle.lfs_fs.specs.Naming.{BeginsAt, BeginsNowhere}
-use Rattle.lfs_fs.specs.Refusals.{refusal_of}
-use Rattle.lfs_fs.specs.Seen.{seen}
-use Rattle.lfs_fs.specs.Volume.{IsIn, IsStill, Serves, segments_of}
 use Rattle.lfs_fs.proofs.calls.Files as calls
 use Rattle.lfs_fs.proofs.calls.Files.{IsBegun, begun_after, begun_at, fault_serves, nameless, only, reached_in, rose_where, told}
 use Rattle.lfs_fs.proofs.calls.Files.{with_store}
 use Rattle.lfs_fs.proofs.new_entries.Explained.{is_taken, new_explained}
-use Rattle.lfs_steps.proofs.new_entries.Maps.{Enters}
-use Rattle.lfs_steps.proofs.new_entries.RuleSteps.{ChecksNew, new_dots}
-use Rattle.lfs_steps.proofs.paths.Named.{IsReached, holder}
 use Rattle.lfs_fs.proofs.volume.Map.{shape_of_volume}
 use Rattle.lfs_fs.proofs.paths.Places.{IsRefusedBy, nowhere_serves}
 

@@ -1,36 +1,18 @@
 -- A name that a call drafted away, as a step of the model.
-use Rattle.std.proofs.Common.{◌≡◌, ◌≢◌, ℕ, Bool, true, false, List, Result, Ok, Err, refl, sym, ◌∙◌, ap, subst, arith}
-use Rattle.std.specs.Prelude.{IfErr, IsErrOf, OnOk}
-use Rattle.lfs_model.specs.Call.{Call, Done, changes, cleans, never_for_device, takes_no_memory}
-use Rattle.lfs_model.specs.Device.{DeviceState, IsLawful}
-use Rattle.lfs_model.specs.Tree.{opened}
+use Rattle.lfs_fs.proofs.Prelude.{◌≡◌, ◌≢◌, ℕ, Bool, true, false, List, Result, Ok, Err, refl, sym, ◌∙◌, ap, subst, arith, IfErr, IsErrOf}
+use Rattle.lfs_fs.proofs.Prelude.{OnOk, Call, Done, changes, cleans, never_for_device, takes_no_memory, DeviceState, IsLawful, opened}
+use Rattle.lfs_fs.proofs.Prelude.{FilesState, Draft, Store, StagedLog, files_of, totals_of_tree, drafted_of, Last, Entry, EntryFault}
+use Rattle.lfs_fs.proofs.Prelude.{is_directory, CountsDrop, DraftsDrop, HasOld, FailsWhere, FsError, Fs, Finishes, answer_by, seen, Mounted}
+use Rattle.lfs_fs.proofs.Prelude.{Serves, segments_of, MayGo, gone, room_shaped}
 use Rattle.lfs_files.specs.declared.fault.LogFault.TheVariants as log
 use Rattle.lfs_files.specs.Files as files
-use Rattle.lfs_files.specs.Files.{FilesState}
-use Rattle.lfs_store.specs.declared.draft.Draft.{Draft}
-use Rattle.lfs_store.specs.declared.store.Store.{Store}
-use Rattle.lfs_store.specs.Seen.{StagedLog, files_of}
-use Rattle.lfs_store.proofs.TreeTotals.{totals_of_tree}
-use Rattle.lfs_store.specs.StoreState.{drafted_of}
-use Rattle.lfs_path.specs.declared.last.Last.{Last}
-use Rattle.lfs_entries.specs.declared.entry.Entry.{Entry}
-use Rattle.lfs_entries.specs.declared.fault.EntryFault.{EntryFault}
 use Rattle.lfs_entries.specs.declared.fault.EntryFault.TheVariants as fault
-use Rattle.lfs_entries.specs.Entries.{is_directory}
-use Rattle.lfs_entries.specs.OldNames.{CountsDrop, DraftsDrop, HasDropped, HasOld}
-use Rattle.lfs_entries.specs.Telling.{FailsWhere}
-use Rattle.lfs_fs.specs.declared.error.FsError.{FsError}
-use Rattle.lfs_fs.specs.declared.fs.Fs.{Fs}
-use Rattle.lfs_fs.specs.Finishing.{Finishes}
-use Rattle.lfs_fs.specs.Seen.{answer_by, seen}
-use Rattle.lfs_fs.specs.Volume.{Mounted, Serves, segments_of}
+use Rattle.lfs_entries.specs.OldNames.{HasDropped}
 use Rattle.lfs_fs.proofs.calls.Files as calls
 use Rattle.lfs_fs.proofs.calls.Files.{Explains, IsBegun, Makes, apart_now, counted_now, finish_ends, fits_now, gives_up, has_now}
 use Rattle.lfs_fs.proofs.calls.Files.{rose_where}
 use Rattle.lfs_fs.proofs.calls.Files.{still_ready, with_store}
-use Rattle.lfs_steps.proofs.old_entries.Dropping.{MayGo, gone_map, gone_shape, has_old, takes_drop}
-use Rattle.lfs_steps.proofs.old_entries.Steps.{gone}
-use Rattle.lfs_steps.proofs.volume.Nodes.{room_shaped}
+use Rattle.lfs_steps.proofs.old_entries.Dropping.{gone_map, gone_shape, has_old, takes_drop}
 
 module _ {D : Type 0} (state : D → DeviceState) (lawful : (d : D) → IsLawful (state d)) (v : Mounted D) (f : Fs D)
     (begun : IsBegun state v f) (store : Store D) (redrafts : files.Redrafts (files_of state f.store) (files_of state store))

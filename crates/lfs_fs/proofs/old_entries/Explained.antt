@@ -1,23 +1,11 @@
 -- Why the rule of an old entry takes none, as the model sees it in one state.
-use Rattle.std.proofs.Common.{◌≡◌, ◌∙◌, ◌≢◌, ℕ, List, false, Some, None, refl, ap, ⊎_elim}
-use Rattle.lfs_model.specs.declared.Kind.{Kind}
+use Rattle.lfs_fs.proofs.Prelude.{◌≡◌, ◌∙◌, ◌≢◌, ℕ, List, false, Some, None, refl, ap, ⊎_elim, Kind, Call, LogMap, State, FilesState, Last}
+use Rattle.lfs_fs.proofs.Prelude.{HasHeader, TellsFault, EntryFault, is_directory, IsHolder, LooksAt, LooksUp, RefusesOld, InEach, old_dots}
+use Rattle.lfs_fs.proofs.Prelude.{IsReached, dots_is, gives_is, long_is, short_is, slash_is, there_is}
 use Rattle.lfs_model.specs.declared.Kind.TheVariants as kind
-use Rattle.lfs_model.specs.Call.{Call}
-use Rattle.lfs_model.specs.Stands.{LogMap}
-use Rattle.lfs_model.specs.Tree.{State}
-use Rattle.lfs_files.specs.Files.{FilesState}
-use Rattle.lfs_path.specs.declared.last.Last.{Last}
-use Rattle.lfs_path.specs.Seeing.{HasHeader}
-use Rattle.lfs_path.specs.Telling.{TellsFault}
-use Rattle.lfs_entries.specs.declared.fault.EntryFault.{EntryFault}
 use Rattle.lfs_entries.specs.declared.fault.EntryFault.TheVariants as fault
-use Rattle.lfs_entries.specs.Entries.{is_directory}
-use Rattle.lfs_entries.specs.Looking.{IsHolder, LooksAt, LooksUp}
-use Rattle.lfs_entries.specs.OldEntries.{RefusesOld}
-use Rattle.lfs_entries.specs.Telling.{InEach}
 use Rattle.lfs_fs.proofs.calls.Files.{Explains}
-use Rattle.lfs_steps.proofs.old_entries.Steps.{ChecksOld, old_directory, old_dots, old_long, old_missing, old_slash}
-use Rattle.lfs_steps.proofs.paths.Named.{IsReached, dots_is, gives_is, long_is, short_is, slash_is, there_is}
+use Rattle.lfs_steps.proofs.old_entries.Steps.{ChecksOld, old_directory, old_long, old_missing, old_slash}
 
 pub plain_so : (k : Kind) → k ≢ kind.Directory → is_directory k ≡ false
 plain_so kind.File other = refl

@@ -1,28 +1,14 @@
 -- The refusals of a call that takes an old entry: a path without a piece, and those of the rule.
-use Rattle.std.proofs.Common.{◌≡◌, ◌||◌, ℕ, Bool, true, false, List, Some, None, ap}
-use Rattle.lfs_model.specs.Call.{Call, Refuse, takes_no_memory}
-use Rattle.lfs_model.specs.Device.{DeviceState, IsLawful}
+use Rattle.lfs_fs.proofs.Prelude.{◌≡◌, ◌||◌, ℕ, Bool, true, false, List, Some, None, ap, Call, Refuse, takes_no_memory, DeviceState}
+use Rattle.lfs_fs.proofs.Prelude.{IsLawful, last_dots, Store, files_of, Last, EntryFault, IsHolder, RefusesOld, Fs, error_of_entry, Reaches}
+use Rattle.lfs_fs.proofs.Prelude.{refusal_of, IsReady, seen, Mounted, Serves, segments_of, old_dots, holder}
 use Rattle.lfs_model.specs.Refusal as refusals
-use Rattle.lfs_model.specs.Step.{last_dots}
 use Rattle.lfs_files.specs.declared.fault.LogFault.TheVariants as log
 use Rattle.lfs_files.specs.Files as files
-use Rattle.lfs_store.specs.declared.store.Store.{Store}
-use Rattle.lfs_store.specs.Seen.{files_of}
-use Rattle.lfs_path.specs.declared.last.Last.{Last}
-use Rattle.lfs_entries.specs.declared.fault.EntryFault.{EntryFault}
 use Rattle.lfs_entries.specs.declared.fault.EntryFault.TheVariants as fault
-use Rattle.lfs_entries.specs.Looking.{IsHolder}
-use Rattle.lfs_entries.specs.OldEntries.{RefusesOld}
-use Rattle.lfs_fs.specs.declared.fs.Fs.{Fs}
-use Rattle.lfs_fs.specs.Faults.{error_of_entry}
-use Rattle.lfs_fs.specs.Naming.{Reaches}
-use Rattle.lfs_fs.specs.Refusals.{refusal_of}
-use Rattle.lfs_fs.specs.Seen.{IsReady, seen}
-use Rattle.lfs_fs.specs.Volume.{Mounted, Serves, segments_of}
 use Rattle.lfs_fs.proofs.calls.Files.{IsBegun, Rose, begun_at, fault_serves, nameless, only, reached_in, rose_where, told, with_store}
 use Rattle.lfs_fs.proofs.old_entries.Explained.{old_explained}
-use Rattle.lfs_steps.proofs.old_entries.Steps.{OldCall, old_dots}
-use Rattle.lfs_steps.proofs.paths.Named.{holder}
+use Rattle.lfs_steps.proofs.old_entries.Steps.{OldCall}
 
 module _ {D : Type 0} (state : D → DeviceState) (lawful : (d : D) → IsLawful (state d)) (v : Mounted D) (f : Fs D) (path : List ℕ) (d : ℕ)
     (call : Call) (of : OldCall (segments_of v) path d call) (memory : takes_no_memory call ≡ false) where

@@ -1,19 +1,13 @@
 -- A handle that is closed, in a volume's log map: the file stays, or goes with its last handle.
-use Rattle.std.proofs.Common.{◌≡◌, ◌≢◌, ◌&&◌, ℕ, false, Option, Some, None, sym, ◌∙◌, ap, arith, []}
-use Rattle.std.specs.Prelude.{◌==◌, unwrap_or}
-use Rattle.std.specs.Ordering.{nat_cmp}
-use Rattle.std.specs.FinMap.{find}
-use Rattle.lfs_model.specs.Call.{Done}
+use Rattle.lfs_fs.proofs.Prelude.{◌≡◌, ◌≢◌, ◌&&◌, ℕ, false, Option, Some, None, sym, ◌∙◌, ap, arith, [], ◌==◌, unwrap_or, nat_cmp, find}
+use Rattle.lfs_fs.proofs.Prelude.{Done, LogMap, File, Node, State, Tree, is_dir, links, names, node, opened, without, names_of}
+use Rattle.lfs_fs.proofs.Prelude.{without_file, close_goes, close_stays, closed, rest, IsFileOf, IsMapOf, opened_file, IsShaped, map_by}
 use Rattle.lfs_model.specs.Cutting.{IsWithoutFile}
 use Rattle.lfs_model.specs.Entry.{Header}
-use Rattle.lfs_model.specs.Stands.{LogMap}
-use Rattle.lfs_model.specs.Tree.{File, Node, State, Tree, is_dir, links, links_at, names, node, opened, without, names_of}
+use Rattle.lfs_model.specs.Tree.{links_at}
 use Rattle.lfs_model.proofs.Keeps.{close_keeps}
-use Rattle.lfs_store.specs.memory.Removing.{without_file}
 use Rattle.lfs_store.proofs.of_memory.Removed.{is_without}
-use Rattle.lfs_steps.proofs.open_files.CloseSteps.{close_goes, close_stays, closed, rest}
-use Rattle.lfs_steps.proofs.volume.Nodes.{IsFileOf, IsMapOf, opened_file, IsShaped}
-use Rattle.lfs_steps.proofs.volume.KeptMaps.{map_by, gone_kept, gone_tree, shifts_gone}
+use Rattle.lfs_steps.proofs.volume.KeptMaps.{gone_kept, gone_tree, shifts_gone}
 use Rattle.lfs_steps.proofs.volume.MovedNames.{nothing_at, links_left}
 
 module _ (N : ℕ) (m : LogMap) (s : State) (is : IsMapOf N m s) (h n : ℕ) (opens : find nat_cmp h s.handles ≡ Some n) where

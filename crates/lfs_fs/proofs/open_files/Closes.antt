@@ -1,56 +1,33 @@
 -- The ends of a close, and of a sync through a handle, as steps of the model.
-use Rattle.std.proofs.Common.{◌≡◌, ◌≤◌, ◌<◌, ◌+◌, ◌/◌, ◌^◌, ◌==◌, ◌&&◌, ℕ, true, false, Some, refl, sym, ◌∙◌, ap, subst}
-use Rattle.std.proofs.Common.{inl, inr, ⊎_elim, arith}
-use Rattle.std.proofs.lemmas.Bool.{eq-eqb}
-use Rattle.std.specs.Ordering.{nat_cmp}
-use Rattle.std.specs.FinMap.{find}
-use Rattle.lfs_model.specs.Call.{Answer, Call, Close, Done, Fsync, Refuse, Sync, is_ok}
-use Rattle.lfs_model.specs.Checkpoint.{CheckpointValue}
-use Rattle.lfs_model.specs.Device.{DeviceState, IsLawful}
-use Rattle.lfs_model.specs.Encodes.{IsLogMap}
+use Rattle.lfs_fs.proofs.Prelude.{◌≡◌, ◌≤◌, ◌<◌, ◌+◌, ◌/◌, ◌^◌, ◌==◌, ◌&&◌, ℕ, true, false, Some, refl, sym, ◌∙◌, ap, subst, inl, inr}
+use Rattle.lfs_fs.proofs.Prelude.{⊎_elim, arith, eq-eqb, nat_cmp, find, Answer, Call, Close, Done, Fsync, Refuse, Sync, is_ok}
+use Rattle.lfs_fs.proofs.Prelude.{CheckpointValue, DeviceState, IsLawful, IsLogMap, Refusal, NoEntry, NotDir, IsDir, Inval, NameTooLong}
+use Rattle.lfs_fs.proofs.Prelude.{Busy, BadHandle, TooManyOpen, FileTooBig, NoSpace, Device, Halted, Stuck, Worn, IsExcused, Point, StepsOr}
+use Rattle.lfs_fs.proofs.Prelude.{acknowledges, LogMap, Step, Handles, State, names, opened, without, IsTree, LogFault, Store, BlockTotals}
+use Rattle.lfs_fs.proofs.Prelude.{without_file, Holds, Reads, HasClean, AreTotals, commit_orders, volume_of, files_of, HasHeader, HasObject}
+use Rattle.lfs_fs.proofs.Prelude.{Tells, TellsFault, held_still, reads_none, FsError, Fs, error_of_log, refusal_of, GivesNone, seen}
+use Rattle.lfs_fs.proofs.Prelude.{Behaves, IsAt, IsIn, IsStill, Mounted, Serves, ServesAt, changes_handles, most_orders, segments_of}
+use Rattle.lfs_fs.proofs.Prelude.{close_goes, close_stays, closed, rest, IsMapOf, opened_file}
 use Rattle.lfs_model.specs.Entry.{Header}
 use Rattle.lfs_model.specs.Memory.{is_nameless, is_unlinked}
-use Rattle.lfs_model.specs.Refusal.{Refusal, NoEntry, NotDir, IsDir, Exist, NotEmpty, Inval, NameTooLong, Loop, Perm, Busy, BadHandle}
-use Rattle.lfs_model.specs.Refusal.{TooManyOpen, TooManyLinks, FileTooBig, NoSpace, NoNumber, DirFull, NoMemory, Device, Halted, Stuck}
-use Rattle.lfs_model.specs.Refusal.{Worn}
-use Rattle.lfs_model.specs.Run.{IsExcused, Point, StepsOr, acknowledges}
-use Rattle.lfs_model.specs.Stands.{LogMap}
-use Rattle.lfs_model.specs.Step.{Step}
-use Rattle.lfs_model.specs.Tree.{Handles, State, names, opened, without}
-use Rattle.lfs_model.specs.TreeOf.{IsTree}
-use Rattle.lfs_files.specs.declared.fault.LogFault.{LogFault}
+use Rattle.lfs_model.specs.Refusal.{Exist, NotEmpty, Loop, Perm}
+use Rattle.lfs_model.specs.Refusal.{TooManyLinks, NoNumber, DirFull, NoMemory}
 use Rattle.lfs_files.specs.declared.fault.LogFault.TheVariants as log
 use Rattle.lfs_files.specs.declared.header.Header as headers
-use Rattle.lfs_store.specs.declared.store.Store.{Store}
-use Rattle.lfs_store.specs.log.verify.declared.totals.BlockTotals.{BlockTotals}
 use Rattle.lfs_store.specs.memory.Present.{as_header}
-use Rattle.lfs_store.specs.memory.Removing.{without_file}
-use Rattle.lfs_store.specs.log.LogState.{Alters, Holds, IsKept, IsReadFault, IsRemoved, Reads}
-use Rattle.lfs_store.specs.Accepting.{HasClean}
-use Rattle.lfs_store.specs.Recounting.{AreTotals, CountsGone}
-use Rattle.lfs_store.specs.log.Saving.{commit_orders}
+use Rattle.lfs_store.specs.log.LogState.{Alters, IsKept, IsReadFault, IsRemoved}
+use Rattle.lfs_store.specs.Recounting.{CountsGone}
 use Rattle.lfs_store.proofs.Recounted.{kept_more, removed_more}
-use Rattle.lfs_store.specs.StoreState.{volume_of}
-use Rattle.lfs_store.specs.Seen.{files_of}
-use Rattle.lfs_path.specs.Seeing.{HasHeader, HasObject}
-use Rattle.lfs_path.specs.Telling.{Tells, TellsFault}
-use Rattle.lfs_store.proofs.of_log.LogReads.{fault_more, held_still, reads_none}
-use Rattle.lfs_fs.specs.declared.error.FsError.{FsError}
-use Rattle.lfs_fs.specs.declared.fs.Fs.{Fs}
-use Rattle.lfs_fs.specs.Faults.{error_of_log}
-use Rattle.lfs_fs.specs.Refusals.{refusal_of}
-use Rattle.lfs_fs.specs.Seen.{GivesNone, seen}
-use Rattle.lfs_fs.specs.Volume.{Behaves, IsAt, IsIn, IsStill, Mounted, Serves, ServesAt, changes_handles, most_orders, segments_of}
+use Rattle.lfs_store.proofs.of_log.LogReads.{fault_more}
 use Rattle.lfs_fs.proofs.calls.Answers.{In, ReadsTo, known, log_fails}
 use Rattle.lfs_fs.proofs.calls.Files.{IsBegun, only, with_store}
 use Rattle.lfs_fs.proofs.calls.AnyDevice.{IsOrdinary, not_halted, not_memory, not_stuck, ok_refuses_none, tells_none}
 use Rattle.lfs_fs.proofs.calls.Steps.{never_worn}
 use Rattle.lfs_fs.proofs.open_files.ClosedMaps.{closed_map, gone_map, names_by}
-use Rattle.lfs_steps.proofs.open_files.CloseSteps.{close_bad_handle, close_goes, close_stays, closed, fsync_bad_handle, fsync_done}
+use Rattle.lfs_steps.proofs.open_files.CloseSteps.{close_bad_handle, fsync_bad_handle, fsync_done}
 use Rattle.lfs_steps.proofs.open_files.CloseSteps.{named_stays}
-use Rattle.lfs_steps.proofs.open_files.CloseSteps.{open_stays, rest}
+use Rattle.lfs_steps.proofs.open_files.CloseSteps.{open_stays}
 use Rattle.lfs_fs.proofs.calls.Drafts.{runs_on}
-use Rattle.lfs_steps.proofs.volume.Nodes.{IsMapOf, opened_file}
 use Rattle.lfs_fs.proofs.volume.Map.{map_of_volume, shape_of_volume}
 use Rattle.lfs_fs.proofs.calls.Exits.{point_of}
 use Rattle.lfs_fs.proofs.open_files.TableEnds.{quiet, table_serves}

@@ -1,19 +1,14 @@
 -- A table of files in which a place is freed, and whether another place has the same file.
-use Rattle.std.proofs.Common.{◌≡◌, ◌≢◌, refl, sym, ap, subst, ◌∙◌, ℕ, ◌<◌, ◌≤◌, Bool, true, false, Some, None, length, get_or, cond}
-use Rattle.std.proofs.Common.{eqb, arith, ⊎_elim}
-use Rattle.std.specs.Prelude.{◌==◌, if◌then◌else◌, not, slice_set}
-use Rattle.std.specs.List.{refill}
-use Rattle.std.proofs.lemmas.Bool.{cases_eq, cases_lt, eq-eqb}
-use Rattle.std.proofs.lemmas.Bool.Decides.{nat_tests}
+use Rattle.lfs_fs.proofs.Prelude.{◌≡◌, ◌≢◌, refl, sym, ap, subst, ◌∙◌, ℕ, ◌<◌, ◌≤◌, Bool, true, false, Some, None, length, get_or, cond}
+use Rattle.lfs_fs.proofs.Prelude.{eqb, arith, ⊎_elim, ◌==◌, if◌then◌else◌, not, slice_set, refill, cases_eq, cases_lt, eq-eqb, nat_tests}
+use Rattle.lfs_fs.proofs.Prelude.{length-set, nat_cmp, find, Handles, opened, without, cmp_same, cmp_other, HasNumber, handles_of}
+use Rattle.lfs_fs.proofs.Prelude.{number_in}
 use Rattle.std.proofs.lemmas.Cmp.{nat_cmp_total}
-use Rattle.std.proofs.lemmas.List.{get_or-set_other, get_or-set_same, length-set}
-use Rattle.std.specs.Ordering.{nat_cmp, eq_by_cmp}
-use Rattle.std.specs.FinMap.{find, nat_cmp-IsAntisymmetric}
+use Rattle.std.proofs.lemmas.List.{get_or-set_other, get_or-set_same}
+use Rattle.std.specs.Ordering.{eq_by_cmp}
+use Rattle.std.specs.FinMap.{nat_cmp-IsAntisymmetric}
 use Rattle.std.specs.FinMap.Entries.{is_sorted-where_key, same_entries}
-use Rattle.lfs_model.specs.Tree.{Handles, opened, without}
 use Rattle.lfs_model.proofs.Sums.{find_without, total_zero, weight-le-total}
-use Rattle.lfs_model.proofs.Trees.{cmp_same, cmp_other}
-use Rattle.lfs_fs.specs.Handles.{HasNumber, handles_of, number_in}
 use Rattle.lfs_fs.proofs.open_files.Tables.{Places, find_handle, find_past, in_order, within_table, written_back}
 
 module _ (h : ℕ) (fs : Places) where

@@ -1,21 +1,9 @@
 -- The ends of the call that opens a file.
-use Rattle.std.proofs.Common.{◌≡◌, ◌≢◌, ◌<◌, ◌≤◌, ℕ, true, false, List, inl, refl, sym, ◌∙◌, ap, subst}
-use Rattle.std.specs.Ordering.{nat_cmp}
-use Rattle.std.specs.FinMap.{put}
+use Rattle.lfs_fs.proofs.Prelude.{◌≡◌, ◌≢◌, ◌<◌, ◌≤◌, ℕ, true, false, List, inl, refl, sym, ◌∙◌, ap, subst, nat_cmp, put, Handle, Open}
+use Rattle.lfs_fs.proofs.Prelude.{Refuse, CheckpointValue, DeviceState, IsLawful, IsDir, TooManyOpen, LogMap, Step, Handles, State, is_dir}
+use Rattle.lfs_fs.proofs.Prelude.{least_handle, node, At, Resolve, Reads, Fs, seen, IsIn, Mounted, Serves, segments_of}
 use Rattle.lfs_model.specs.declared.Kind.TheVariants as kind
-use Rattle.lfs_model.specs.Call.{Handle, Open, Refuse}
-use Rattle.lfs_model.specs.Checkpoint.{CheckpointValue}
-use Rattle.lfs_model.specs.Device.{DeviceState, IsLawful}
-use Rattle.lfs_model.specs.Refusal.{IsDir, TooManyOpen}
-use Rattle.lfs_model.specs.Stands.{LogMap}
-use Rattle.lfs_model.specs.Step.{Step}
-use Rattle.lfs_model.specs.Tree.{Handles, State, is_dir, least_handle, node}
-use Rattle.lfs_model.specs.Walk.{At, Resolve}
 use Rattle.lfs_files.specs.declared.header.Header.{Header}
-use Rattle.lfs_store.specs.log.LogState.{Reads}
-use Rattle.lfs_fs.specs.declared.fs.Fs.{Fs}
-use Rattle.lfs_fs.specs.Seen.{seen}
-use Rattle.lfs_fs.specs.Volume.{IsIn, Mounted, Serves, segments_of}
 use Rattle.lfs_fs.proofs.calls.Answers.{In, IsLooked, IsQuiet, answers}
 use Rattle.lfs_fs.proofs.calls.Files.{was}
 use Rattle.lfs_fs.proofs.calls.Steps.{never_worn}

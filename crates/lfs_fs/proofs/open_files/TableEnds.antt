@@ -1,22 +1,11 @@
 -- Calls that change the table of open files alone, as steps of the model.
-use Rattle.std.proofs.Common.{◌≡◌, ℕ, true, false, refl, sym, ◌∙◌, subst, inl, arith}
-use Rattle.lfs_model.specs.Call.{Answer, Call, is_ok}
-use Rattle.lfs_model.specs.Checkpoint.{CheckpointValue}
-use Rattle.lfs_model.specs.Crash.{StandsForOn}
-use Rattle.lfs_model.specs.Device.{AllLeft, DeviceState, IsLawful, LeavesOnly}
-use Rattle.lfs_model.specs.Refusal.{Halted}
-use Rattle.lfs_model.specs.Run.{Point, StepsOr, acknowledges}
-use Rattle.lfs_model.specs.Stands.{LogMap}
-use Rattle.lfs_model.specs.Tree.{State}
-use Rattle.lfs_model.specs.TreeOf.{dropped}
-use Rattle.lfs_model.proofs.Moments.{goes_on, started}
+use Rattle.lfs_fs.proofs.Prelude.{◌≡◌, ℕ, true, false, refl, sym, ◌∙◌, subst, inl, arith, Answer, Call, is_ok, CheckpointValue, StandsForOn}
+use Rattle.lfs_fs.proofs.Prelude.{AllLeft, DeviceState, IsLawful, LeavesOnly, Halted, Point, StepsOr, acknowledges, LogMap, State, dropped}
+use Rattle.lfs_fs.proofs.Prelude.{goes_on, started, Reads, acknowledged, IsStill, IsAt, IsIn, Mounted, Serves, changes_handles, segments_of}
+use Rattle.lfs_fs.proofs.Prelude.{IsMapOf}
 use Rattle.lfs_store.specs.memory.Present.{Looks}
-use Rattle.lfs_store.specs.log.LogState.{Reads}
-use Rattle.lfs_store.proofs.of_log.LogReads.{acknowledged}
-use Rattle.lfs_fs.specs.Volume.{IsStill, IsAt, IsIn, Mounted, Serves, changes_handles, segments_of}
 use Rattle.lfs_fs.proofs.calls.AnyDevice.{ok_refuses_none, opens_behaves}
 use Rattle.lfs_fs.proofs.calls.Drafts.{runs_on}
-use Rattle.lfs_steps.proofs.volume.Nodes.{IsMapOf}
 use Rattle.lfs_fs.proofs.calls.Exits.{point_of, still_in}
 
 module _ {D : Type 0} (state : D → DeviceState) (old new : Mounted D) (lawful : IsLawful (state old.log.device))

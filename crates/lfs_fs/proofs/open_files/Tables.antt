@@ -1,20 +1,14 @@
 -- A table of files and the handles that it stands for.
-use Rattle.std.proofs.Common.{◌≡◌, ◌≢◌, refl, sym, ap, subst, ◌∙◌, ℕ, zero, suc, ◌+◌, ◌<◌, ◌≤◌, Bool, true, false, List, [], ◌∷◌, Some}
-use Rattle.std.proofs.Common.{None, Option, length, get_or, eqb, arith, inl, inr, replicate, append-nil}
-use Rattle.std.specs.Prelude.{T, slice_set}
-use Rattle.std.specs.List.{refill}
-use Rattle.std.proofs.lemmas.List.{length-set, drop_all, get_or_read_under, take_all}
-use Rattle.std.specs.Ordering.{nat_cmp}
+use Rattle.lfs_fs.proofs.Prelude.{◌≡◌, ◌≢◌, refl, sym, ap, subst, ◌∙◌, ℕ, zero, suc, ◌+◌, ◌<◌, ◌≤◌, Bool, true, false, List, [], ◌∷◌, Some}
+use Rattle.lfs_fs.proofs.Prelude.{None, Option, length, get_or, eqb, arith, inl, inr, replicate, append-nil, T, slice_set, refill}
+use Rattle.lfs_fs.proofs.Prelude.{length-set, take_all, nat_cmp, cases_lt, nat_tests, find, put, is_sorted, FileNumber, Handles}
+use Rattle.lfs_fs.proofs.Prelude.{least_handle, cmp_same, cmp_other, number_in}
+use Rattle.std.proofs.lemmas.List.{drop_all, get_or_read_under}
 use Rattle.std.specs.declared.cmp.Ordering.TheVariants.{Less, Equal, Greater}
 use Rattle.std.specs.Cmp.{nat_cmp_is}
-use Rattle.std.proofs.lemmas.Bool.{cases_lt}
-use Rattle.std.proofs.lemmas.Bool.Decides.{nat_tests}
-use Rattle.std.specs.FinMap.{find, put, is_sorted}
 use Rattle.std.specs.FinMap.Entries.{below_all}
-use Rattle.lfs_model.specs.declared.number.FileNumber.{FileNumber}
-use Rattle.lfs_model.specs.Tree.{Handles, least_from, least_handle}
-use Rattle.lfs_model.proofs.Trees.{cmp_same, cmp_other}
-use Rattle.lfs_fs.specs.Handles.{handles_from, handles_of, number_in}
+use Rattle.lfs_model.specs.Tree.{least_from}
+use Rattle.lfs_fs.specs.Handles.{handles_from, handles_of}
 
 abbrev pub Places : Type 0
 Places = List (Option FileNumber)

@@ -1,10 +1,5 @@
 -- A volume whose layers below were only read.
-use Rattle.std.proofs.Common.{◌≡◌}
-use Rattle.lfs_model.specs.Device.{DeviceState}
-use Rattle.lfs_store.specs.log.LogState.{Reads}
-use Rattle.lfs_store.specs.StoreState.{draft_of, drafted_of}
-use Rattle.lfs_fs.specs.declared.fs.Fs.{Fs}
-use Rattle.lfs_fs.specs.Seen.{OnlyReads, seen}
+use Rattle.lfs_fs.proofs.Prelude.{◌≡◌, DeviceState, Reads, draft_of, drafted_of, Fs, OnlyReads, seen}
 
 module _ {D : Type 0} (state : D → DeviceState) where
   pub store_reads : (old new : Fs D) → Reads state (seen old).log (seen new).log → draft_of new.store ≡ draft_of old.store

@@ -1,35 +1,13 @@
 -- A path that a call walks after it has read.
-use Rattle.std.proofs.Common.{◌≡◌, ◌<◌, ℕ, true, false, List, Option, sym, ◌∙◌, subst, arith}
-use Rattle.lfs_model.specs.Bytes.{AreBytes}
-use Rattle.lfs_model.specs.Call.{Call, Refuse, cleans, takes_no_memory, never_for_device}
-use Rattle.lfs_model.specs.Checkpoint.{CheckpointValue}
-use Rattle.lfs_model.specs.Device.{DeviceState, IsLawful}
+use Rattle.lfs_fs.proofs.Prelude.{◌≡◌, ◌<◌, ℕ, true, false, List, Option, sym, ◌∙◌, subst, arith, AreBytes, Call, Refuse, cleans}
+use Rattle.lfs_fs.proofs.Prelude.{takes_no_memory, never_for_device, CheckpointValue, DeviceState, IsLawful, Refusal, LogMap, Step, State}
+use Rattle.lfs_fs.proofs.Prelude.{Tree, tree_in, At, End, Refused, Draft, LogState, Reads, IsEmpty, draft_of, drafted_of, held_still, Last}
+use Rattle.lfs_fs.proofs.Prelude.{WalkFault, HasLast, EndsParent, EachDrafted, EndsRefused, WalksTo, FsError, Fs, error_of_walk, Reaches}
+use Rattle.lfs_fs.proofs.Prelude.{refusal_of, OnlyReads, seen, IsIn, IsStill, Mounted, Serves, segments_of}
 use Rattle.lfs_model.specs.Refusal as model
-use Rattle.lfs_model.specs.Refusal.{Refusal}
-use Rattle.lfs_model.specs.Stands.{LogMap}
-use Rattle.lfs_model.specs.Step.{Step}
-use Rattle.lfs_model.specs.Tree.{State, Tree}
-use Rattle.lfs_model.specs.TreeOf.{tree_in}
-use Rattle.lfs_model.specs.Walk.{At, End, Refused}
 use Rattle.lfs_files.specs.declared.fault.LogFault.TheVariants as log
-use Rattle.lfs_store.specs.declared.draft.Draft.{Draft}
-use Rattle.lfs_store.specs.log.LogState.{LogState, Reads}
-use Rattle.lfs_store.specs.StoreState.{IsEmpty, draft_of, drafted_of}
-use Rattle.lfs_store.proofs.of_log.LogReads.{held_still}
-use Rattle.lfs_path.specs.declared.last.Last.{Last}
-use Rattle.lfs_path.specs.declared.walk_fault.WalkFault.{WalkFault}
 use Rattle.lfs_path.specs.declared.walk_fault.WalkFault.TheVariants as walk
-use Rattle.lfs_path.specs.Lasts.{HasLast}
-use Rattle.lfs_path.specs.Reaching.{EndsParent}
 use Rattle.lfs_path.specs.Trees.{HasTree}
-use Rattle.lfs_fs.specs.Drafted.{EachDrafted, EndsRefused, WalksTo}
-use Rattle.lfs_fs.specs.declared.error.FsError.{FsError}
-use Rattle.lfs_fs.specs.declared.fs.Fs.{Fs}
-use Rattle.lfs_fs.specs.Faults.{error_of_walk}
-use Rattle.lfs_fs.specs.Naming.{Reaches}
-use Rattle.lfs_fs.specs.Refusals.{refusal_of}
-use Rattle.lfs_fs.specs.Seen.{OnlyReads, seen}
-use Rattle.lfs_fs.specs.Volume.{IsIn, IsStill, Mounted, Serves, segments_of}
 use Rattle.lfs_fs.proofs.new_entries.Ends.{still_more}
 use Rattle.lfs_fs.proofs.calls.Exits.{still_in}
 use Rattle.lfs_fs.proofs.paths.Walks.{walk_ends, walked}

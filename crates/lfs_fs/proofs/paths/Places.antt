@@ -1,27 +1,11 @@
 -- How a call comes to the last piece of a path, and what it serves where it doesn't.
-use Rattle.std.proofs.Common.{◌≡◌, ℕ, false, List, Option, Some, None, refl, sym, ◌∙◌, subst, inl, inr, ⊎_elim}
-use Rattle.lfs_model.specs.Bytes.{AreBytes}
-use Rattle.lfs_model.specs.Call.{Call, Refuse, cleans, takes_no_memory, never_for_device}
-use Rattle.lfs_model.specs.Checkpoint.{CheckpointValue}
-use Rattle.lfs_model.specs.Device.{DeviceState, IsLawful}
-use Rattle.lfs_model.specs.Refusal.{Refusal}
-use Rattle.lfs_model.specs.Stands.{LogMap}
-use Rattle.lfs_model.specs.Step.{Step}
-use Rattle.lfs_model.specs.Tree.{State}
-use Rattle.lfs_model.specs.Walk.{Refused}
+use Rattle.lfs_fs.proofs.Prelude.{◌≡◌, ℕ, false, List, Option, Some, None, refl, sym, ◌∙◌, subst, inl, inr, ⊎_elim, AreBytes, Call, Refuse}
+use Rattle.lfs_fs.proofs.Prelude.{cleans, takes_no_memory, never_for_device, CheckpointValue, DeviceState, IsLawful, Refusal, LogMap, Step}
+use Rattle.lfs_fs.proofs.Prelude.{State, Refused, Draft, Store, IsEmpty, files_of, Last, EndsParent, FsError, Fs, BeginsAt, BeginsNowhere}
+use Rattle.lfs_fs.proofs.Prelude.{FindsPlace, LacksPlace, Reaches, refusal_of, Begins, IsReady, OnlyReads, seen, IsIn, IsStill, Mounted}
+use Rattle.lfs_fs.proofs.Prelude.{Serves, segments_of}
 use Rattle.lfs_files.specs.Files as files
-use Rattle.lfs_store.specs.declared.draft.Draft.{Draft}
-use Rattle.lfs_store.specs.declared.store.Store.{Store}
-use Rattle.lfs_store.specs.StoreState.{IsEmpty}
-use Rattle.lfs_store.specs.Seen.{files_of}
-use Rattle.lfs_path.specs.declared.last.Last.{Last}
-use Rattle.lfs_path.specs.Reaching.{EndsParent}
-use Rattle.lfs_fs.specs.declared.error.FsError.{FsError}
-use Rattle.lfs_fs.specs.declared.fs.Fs.{Fs}
-use Rattle.lfs_fs.specs.Naming.{BeginsAt, BeginsNowhere, BeginsOnly, FindsPlace, LacksPlace, Reaches}
-use Rattle.lfs_fs.specs.Refusals.{refusal_of}
-use Rattle.lfs_fs.specs.Seen.{Begins, IsReady, OnlyReads, seen}
-use Rattle.lfs_fs.specs.Volume.{IsIn, IsStill, Mounted, Serves, segments_of}
+use Rattle.lfs_fs.specs.Naming.{BeginsOnly}
 use Rattle.lfs_fs.proofs.paths.Later.{later_reaches, later_refused}
 use Rattle.lfs_fs.proofs.paths.Looks.{only_none}
 use Rattle.lfs_fs.proofs.paths.Ends.{store_reads}

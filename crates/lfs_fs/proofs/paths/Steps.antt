@@ -1,25 +1,18 @@
 -- The calls of paths, and those without arguments, exit by exit.
-use Rattle.std.proofs.Common.{◌≡◌, ◌<◌, ◌≤◌, ℕ, Bool, true, false, not, List, [], ◌∷◌, length, map, Option, Some, None, refl, ◌∙◌, ap}
-use Rattle.std.proofs.Common.{subst, nat_le, nat_lt}
-use Rattle.std.specs.Prelude.{if◌then◌else◌, option_map, unwrap_or}
+use Rattle.lfs_fs.proofs.Prelude.{◌≡◌, ◌<◌, ◌≤◌, ℕ, Bool, true, false, not, List, [], ◌∷◌, length, map, Option, Some, None, refl, ◌∙◌, ap}
+use Rattle.lfs_fs.proofs.Prelude.{subst, nat_lt, if◌then◌else◌, unwrap_or, nat_cmp, put, Open, Create, Mkdir, Symlink, Readlink, Readdir}
+use Rattle.lfs_fs.proofs.Prelude.{Clean, Sync, Space, Version, ListTree, Answer, Refuse, Handle, Status, Text, Entries, Done, FormatVersion}
+use Rattle.lfs_fs.proofs.Prelude.{Rows, changes, cleans, commits, takes_no_memory, never_for_device, Refusal, Inval, IsDir, NameTooLong}
+use Rattle.lfs_fs.proofs.Prelude.{NoEntry, NotDir, TooManyOpen, text_refusal, NamesGive, Step, head_of, is_link, stat_of, rows_of, the_node}
+use Rattle.lfs_fs.proofs.Prelude.{State, names_in, node, is_dir, least_handle, At, Refused, Resolve, Parent, step_ends, Some-injective}
+use Rattle.lfs_fs.proofs.Prelude.{stat_call, at_most, not_at_most}
+use Rattle.std.proofs.Common.{nat_le}
+use Rattle.std.specs.Prelude.{option_map}
 use Rattle.std.specs.List.{list_any}
-use Rattle.std.specs.Ordering.{nat_cmp}
-use Rattle.std.specs.FinMap.{put}
-use Rattle.lfs_model.specs.Call.{Open, Create, Mkdir, Symlink, Readlink, Readdir, Clean, Sync, Space, Version, ListTree, Answer, Refuse}
-use Rattle.lfs_model.specs.Call.{Handle, Status, Text, Entries, Done, FormatVersion, Rows, changes, cleans, commits, takes_no_memory}
-use Rattle.lfs_model.specs.Call.{never_for_device}
-use Rattle.lfs_model.specs.Refusal.{Refusal, Inval, IsDir, NameTooLong, NoEntry, NotDir, TooManyOpen}
-use Rattle.lfs_model.specs.PathText.{text_refusal}
-use Rattle.lfs_model.specs.Sound.{NamesGive}
-use Rattle.lfs_model.specs.Step.{Step, checked, entry_of, head_of, is_link, lists, makes_link, opens, no_handle, reached, reads_link}
-use Rattle.lfs_model.specs.Step.{stat_of, room, rows_of, text_check, the_node, when}
-use Rattle.lfs_model.specs.Tree.{State, names_in, node, is_dir, least_handle}
-use Rattle.lfs_model.specs.Walk.{At, Refused, Resolve, Parent}
-use Rattle.lfs_model.proofs.StepsAre.{step_ends}
-use Rattle.lfs_model.proofs.Walks.{Some-injective}
-use Rattle.lfs_fs.specs.Reading.{stat_call}
+use Rattle.lfs_model.specs.Step.{checked, entry_of, lists, makes_link, opens, no_handle, reached, reads_link}
+use Rattle.lfs_model.specs.Step.{room, text_check, when}
 use Rattle.lfs_fs.proofs.calls.AnyDevice.{IsOrdinary}
-use Rattle.lfs_steps.proofs.calls.Checks.{refuses, passes, at_most, not_at_most}
+use Rattle.lfs_steps.proofs.calls.Checks.{refuses, passes}
 
 -- ---- calls without arguments
 pub sync_done : (N : ℕ) (s : State) → Step N s Sync Done s

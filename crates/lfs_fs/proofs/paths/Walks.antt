@@ -1,27 +1,13 @@
 -- Walks of a path over a volume's tree, and the ends of calls that they end.
-use Rattle.std.proofs.Common.{◌≡◌, true, false, refl, sym, ◌∙◌, ap, subst, inl, inr, arith}
-use Rattle.lfs_model.specs.Call.{Call, Refuse, cleans, takes_no_memory, never_for_device}
-use Rattle.lfs_model.specs.Checkpoint.{CheckpointValue}
-use Rattle.lfs_model.specs.Device.{DeviceState, IsLawful}
+use Rattle.lfs_fs.proofs.Prelude.{◌≡◌, true, false, refl, sym, ◌∙◌, ap, subst, inl, inr, arith, Call, Refuse, cleans, takes_no_memory}
+use Rattle.lfs_fs.proofs.Prelude.{never_for_device, CheckpointValue, DeviceState, IsLawful, Refusal, Device, LogMap, Step, State, Tree}
+use Rattle.lfs_fs.proofs.Prelude.{tree_in, End, Refused, IsEmpty, with_draft, Draft, empty_draft, WalkFault, EndsRefused, WalksTo}
+use Rattle.lfs_fs.proofs.Prelude.{error_of_walk, refusal_of, IsIn, IsStill, Mounted, Serves, segments_of}
 use Rattle.lfs_model.specs.Refusal as refusals
-use Rattle.lfs_model.specs.Refusal.{Refusal, Device}
-use Rattle.lfs_model.specs.Stands.{LogMap}
-use Rattle.lfs_model.specs.Step.{Step}
-use Rattle.lfs_model.specs.Tree.{State, Tree}
-use Rattle.lfs_model.specs.TreeOf.{tree_in}
-use Rattle.lfs_model.specs.Walk.{End, Refused}
 use Rattle.lfs_files.specs.declared.fault.LogFault.TheVariants as log
-use Rattle.lfs_store.specs.StoreState.{IsEmpty, with_draft}
-use Rattle.lfs_store.specs.declared.draft.Draft.{Draft}
-use Rattle.lfs_store.proofs.Known.{empty_draft}
-use Rattle.lfs_path.specs.declared.walk_fault.WalkFault.{WalkFault}
 use Rattle.lfs_path.specs.declared.walk_fault.WalkFault.TheVariants as walk
 use Rattle.lfs_path.specs.Trees.{HasTree}
 use Rattle.lfs_path.proofs.TreeLaws.{tree_maps}
-use Rattle.lfs_fs.specs.Drafted.{EndsRefused, WalksTo}
-use Rattle.lfs_fs.specs.Faults.{error_of_walk}
-use Rattle.lfs_fs.specs.Refusals.{refusal_of}
-use Rattle.lfs_fs.specs.Volume.{IsIn, IsStill, Mounted, Serves, segments_of}
 use Rattle.lfs_fs.proofs.calls.AnyDevice.{IsOrdinary}
 use Rattle.lfs_fs.proofs.calls.Steps.{refused_not_worn}
 use Rattle.lfs_fs.proofs.calls.Drafts.{not_acknowledged}

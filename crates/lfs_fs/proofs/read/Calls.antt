@@ -1,33 +1,17 @@
 -- The calls that read, over files that were read: what each answers is a step of the model.
-use Rattle.std.proofs.Common.{◌≡◌, ◌≢◌, ◌<◌, ◌≤◌, ℕ, Bool, true, false, List, map, None, Some, refl, sym, ◌∙◌, ap, subst}
-use Rattle.std.specs.Ordering.{nat_cmp}
-use Rattle.std.specs.FinMap.{find}
+use Rattle.lfs_fs.proofs.Prelude.{◌≡◌, ◌≢◌, ◌<◌, ◌≤◌, ℕ, Bool, true, false, List, map, None, Some, refl, sym, ◌∙◌, ap, subst, nat_cmp, find}
+use Rattle.lfs_fs.proofs.Prelude.{Data, Entries, Pread, Readdir, Readlink, Refuse, Status, Text, DeviceState, IsLawful, BadHandle, Inval}
+use Rattle.lfs_fs.proofs.Prelude.{NotDir, Step, Store, files_of, names_at, HasObject, EntryFault, ListedEntry, AreTold, IsListable}
+use Rattle.lfs_fs.proofs.Prelude.{IsListed, FailsWhere, FsError, Fs, ReachesObject, stat_call, refusal_of, Begins, GivesNone, seen, Mounted}
+use Rattle.lfs_fs.proofs.Prelude.{Serves, segments_of, opened_file}
 use Rattle.lfs_model.specs.declared.Kind.TheVariants as kind
 use Rattle.lfs_model.specs.Call as call
-use Rattle.lfs_model.specs.Call.{Data, Entries, Pread, Readdir, Readlink, Refuse, Status, Text}
-use Rattle.lfs_model.specs.Device.{DeviceState, IsLawful}
-use Rattle.lfs_model.specs.Refusal.{BadHandle, Inval, NotDir}
-use Rattle.lfs_model.specs.Step.{Step}
 use Rattle.lfs_files.specs.declared.header.Header.{Header}
 use Rattle.lfs_files.specs.Headers.{as_header}
-use Rattle.lfs_store.specs.declared.store.Store.{Store}
-use Rattle.lfs_store.specs.Seen.{files_of}
-use Rattle.lfs_path.specs.dirs.Directory.{names_at}
-use Rattle.lfs_path.specs.Seeing.{HasObject}
-use Rattle.lfs_entries.specs.declared.fault.EntryFault.{EntryFault}
 use Rattle.lfs_entries.specs.declared.fault.EntryFault.TheVariants as fault
-use Rattle.lfs_entries.specs.declared.rows.ListedEntry.{ListedEntry}
 use Rattle.lfs_entries.specs.Reading.{ReadsObject, ReadsText, RefusesText}
-use Rattle.lfs_entries.specs.Rows.{AreTold, IsListable, IsListed}
 use Rattle.lfs_entries.specs.Telling as telling
-use Rattle.lfs_entries.specs.Telling.{FailsWhere}
-use Rattle.lfs_fs.specs.declared.error.FsError.{FsError}
-use Rattle.lfs_fs.specs.declared.fs.Fs.{Fs}
 use Rattle.lfs_fs.specs.Answers.{entry_of}
-use Rattle.lfs_fs.specs.Reading.{ReachesObject, stat_call}
-use Rattle.lfs_fs.specs.Refusals.{refusal_of}
-use Rattle.lfs_fs.specs.Seen.{Begins, GivesNone, seen}
-use Rattle.lfs_fs.specs.Volume.{Mounted, Serves, segments_of}
 use Rattle.lfs_fs.proofs.calls.Answers.{Fails, In, IsLooked, IsQuiet, IsWhy, ReadsTo, answers, begun_by, begun_with, fails, fails_where}
 use Rattle.lfs_fs.proofs.calls.Answers.{known, now, object_there, rises}
 use Rattle.lfs_fs.proofs.calls.Files.{IsBegun, with_store}
@@ -37,7 +21,6 @@ use Rattle.lfs_fs.proofs.paths.Steps.{readdir_done, readdir_no_directory, readli
 use Rattle.lfs_fs.proofs.paths.Steps.{stat_commits, stat_may_fail, stat_memory}
 use Rattle.lfs_fs.proofs.read.Shown.{all_listable, directory, link, listing_is, other_directory, other_link, text_is, told_by}
 use Rattle.lfs_fs.proofs.volume.Map.{headers_of_volume, map_of_volume}
-use Rattle.lfs_steps.proofs.volume.Nodes.{opened_file}
 
 -- ---- calls that change nothing
 

@@ -1,25 +1,11 @@
 -- What a call that begins makes of its end, and ends after which nothing has changed.
-use Rattle.std.proofs.Common.{◌≡◌, ◌<◌, ◌+◌, ◌*◌, ℕ, Bool, true, false, ◌&&◌}
-use Rattle.std.proofs.Common.{refl, sym, ◌∙◌, ap, subst, inl, inr, arith}
-use Rattle.lfs_model.specs.Call.{Answer, Call, FormatVersion, Refuse, Room, Space, Version, changes, cleans, commits, is_ok}
-use Rattle.lfs_model.specs.Call.{never_for_device}
-use Rattle.lfs_model.specs.Checkpoint.{CheckpointValue}
-use Rattle.lfs_model.specs.Device.{DeviceState, IsLawful}
-use Rattle.lfs_model.specs.Refusal.{Device, Halted}
-use Rattle.lfs_model.specs.Stands.{LogMap}
-use Rattle.lfs_model.specs.Step.{Step}
-use Rattle.lfs_model.specs.Tree.{State}
-use Rattle.lfs_store.proofs.TreeTotals.{totals_of_tree}
-use Rattle.lfs_store.specs.StoreState.{drafted_of}
-use Rattle.lfs_store.proofs.of_log.LogReads.{reads_none}
-use Rattle.lfs_fs.specs.declared.error.FsError.{FsError}
+use Rattle.lfs_fs.proofs.Prelude.{◌≡◌, ◌<◌, ◌+◌, ◌*◌, ℕ, Bool, true, false, ◌&&◌, refl, sym, ◌∙◌, ap, subst, inl, inr, arith, Answer, Call}
+use Rattle.lfs_fs.proofs.Prelude.{FormatVersion, Refuse, Room, Space, Version, changes, cleans, commits, is_ok, never_for_device}
+use Rattle.lfs_fs.proofs.Prelude.{CheckpointValue, DeviceState, IsLawful, Device, Halted, LogMap, Step, State, totals_of_tree, drafted_of}
+use Rattle.lfs_fs.proofs.Prelude.{reads_none, FsError, Fs, refusal_of, Begins, seen, IsIn, IsStill, Mounted, Serves, segments_of}
 use Rattle.lfs_fs.specs.declared.error.FsError.TheVariants as error
-use Rattle.lfs_fs.specs.declared.fs.Fs.{Fs}
 use Rattle.lfs_fs.specs.declared.rows.Space as space
 use Rattle.lfs_fs.specs.Answers.{room_of}
-use Rattle.lfs_fs.specs.Refusals.{refusal_of}
-use Rattle.lfs_fs.specs.Seen.{Begins, seen}
-use Rattle.lfs_fs.specs.Volume.{IsIn, IsStill, Mounted, Serves, segments_of}
 use Rattle.lfs_fs.proofs.calls.AnyDevice.{IsOrdinary}
 use Rattle.lfs_fs.proofs.calls.Steps.{never_worn}
 use Rattle.lfs_fs.proofs.calls.Drafts.{not_acknowledged}

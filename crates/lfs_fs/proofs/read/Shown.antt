@@ -1,38 +1,29 @@
 -- What is read of a log map, and listed of it, is what the model says of its state.
-use Rattle.std.proofs.Common.{◌≡◌, ◌≢◌, ◌+◌, ◌-◌, ℕ, true, false, List, [], ◌∷◌, map, Option, Some, None, refl, sym, ◌∙◌}
-use Rattle.std.proofs.Common.{ap, subst, take_all}
-use Rattle.std.specs.Prelude.{T, min, unwrap_or}
+use Rattle.lfs_fs.proofs.Prelude.{◌≡◌, ◌≢◌, ◌+◌, ◌-◌, ℕ, true, false, List, [], ◌∷◌, map, Option, Some, None, refl, sym, ◌∙◌, ap, subst}
+use Rattle.lfs_fs.proofs.Prelude.{take_all, T, min, unwrap_or, find, is_sorted, Kind, part, IsHeaderOf, LogMap, head_of, is_link, stat_of}
+use Rattle.lfs_fs.proofs.Prelude.{the_node, Dir, File, Names, Node, State, is_dir, names_in, names_of, node, node_by, object, object_length}
+use Rattle.lfs_fs.proofs.Prelude.{names_at, HasHeader, HasObject, ListedEntry, TreeRow, is_directory, AreTold, IsListable, IsListed, row_of}
+use Rattle.lfs_fs.proofs.Prelude.{AreListable, HasRows, rows_at, IsMapOf, no_header_none, node_by_header, stat_is}
 use Rattle.std.specs.Cmp.Lexicographic.{nat_list_cmp_total}
-use Rattle.std.specs.FinMap.{find, is_sorted}
 use Rattle.std.specs.FinMap.Entries.{below_all}
-use Rattle.lfs_model.specs.declared.Kind.{Kind}
 use Rattle.lfs_model.specs.declared.Kind.TheVariants as kind
-use Rattle.lfs_model.specs.Bytes.{part}
 use Rattle.lfs_model.specs.Call as call
 use Rattle.lfs_model.specs.Entry as entry
-use Rattle.lfs_model.specs.Objects.{IsHeaderOf}
 use Rattle.lfs_model.specs.Sound.{IsWithinLimits}
-use Rattle.lfs_model.specs.Stands.{LogMap}
-use Rattle.lfs_model.specs.Step.{entry_of as entry_at, head_of, is_link, stat_of, the_node}
-use Rattle.lfs_model.specs.Tree.{Dir, File, Link, Names, Node, State, byte_cmp, is_dir, names_in, names_of, node}
-use Rattle.lfs_model.specs.TreeOf.{node_by, object}
-use Rattle.lfs_model.proofs.Standing.{object_length}
+use Rattle.lfs_model.specs.Step.{entry_of as entry_at}
+use Rattle.lfs_model.specs.Tree.{Link, byte_cmp}
 use Rattle.lfs_model.proofs.Sums.{T_right, find_after, find_first}
 use Rattle.lfs_files.specs.declared.header.Header.{Header}
 use Rattle.lfs_files.specs.Headers.{HeaderAnswer, as_header}
-use Rattle.lfs_path.specs.dirs.Directory.{names_at, slots_at}
-use Rattle.lfs_path.specs.Seeing.{HasHeader, HasObject}
+use Rattle.lfs_path.specs.dirs.Directory.{slots_at}
 use Rattle.lfs_path.proofs.of_dirs.SlotNames.{sorted_names}
-use Rattle.lfs_entries.specs.declared.rows.ListedEntry.{ListedEntry}
-use Rattle.lfs_entries.specs.declared.rows.TreeRow.{TreeRow}
-use Rattle.lfs_entries.specs.Entries.{is_directory}
 use Rattle.lfs_entries.specs.Reading.{ShowsHead, bytes_of}
-use Rattle.lfs_entries.specs.Rows.{AreThere, AreTold, IsListable, IsListed, IsRow}
-use Rattle.lfs_fs.specs.Answers.{entry_of, row_of}
-use Rattle.lfs_fs.specs.Reading.{AreListable, HasRows, RowsBy, RowsOf}
+use Rattle.lfs_entries.specs.Rows.{AreThere, IsRow}
+use Rattle.lfs_fs.specs.Answers.{entry_of}
+use Rattle.lfs_fs.specs.Reading.{RowsBy, RowsOf}
 use Rattle.lfs_fs.proofs.calls.Steps.{part_clipped}
-use Rattle.lfs_steps.proofs.list.Rows.{row_at, rows_at}
-use Rattle.lfs_steps.proofs.volume.Nodes.{IsMapOf, no_header_none, node_by_header, stat_is, the_node_by_header}
+use Rattle.lfs_steps.proofs.list.Rows.{row_at}
+use Rattle.lfs_steps.proofs.volume.Nodes.{the_node_by_header}
 use Rattle.lfs_steps.proofs.volume.Directories.{directory_formed, names_in_directory}
 
 -- ---- lists

@@ -1,25 +1,14 @@
 -- What a rename drafted, as one change of the log map: that of the state after the call.
-use Rattle.std.proofs.Common.{◌≡◌, ◌≢◌, ℕ, Bool, true, false, List, Option, Some, None, refl, sym, ◌∙◌, ap, cond, subst, inl, inr, ⊎_elim}
-use Rattle.std.proofs.Common.{eqb, arith}
-use Rattle.std.proofs.lemmas.Bool.{cases_eq, eq-eqb}
-use Rattle.std.proofs.lemmas.Bool.Decides.{eqb_tells, nat_tests}
+use Rattle.lfs_fs.proofs.Prelude.{◌≡◌, ◌≢◌, ℕ, Bool, true, false, List, Option, Some, None, refl, sym, ◌∙◌, ap, cond, subst, inl, inr}
+use Rattle.lfs_fs.proofs.Prelude.{⊎_elim, eqb, arith, cases_eq, eq-eqb, nat_tests, IsDirectory, LogMap, name, State, FilesState, Last}
+use Rattle.lfs_fs.proofs.Prelude.{Object, Source, Target, IsOpen, IsShut, piece_is, IsRename}
+use Rattle.std.proofs.lemmas.Bool.Decides.{eqb_tells}
 use Rattle.lfs_model.specs.Entry as entry
-use Rattle.lfs_model.specs.Objects.{IsDirectory}
-use Rattle.lfs_model.specs.Stands.{LogMap}
-use Rattle.lfs_model.specs.Step.{name}
-use Rattle.lfs_model.specs.Tree.{State}
-use Rattle.lfs_files.specs.Files.{FilesState}
 use Rattle.lfs_files.specs.Headers.{as_header}
-use Rattle.lfs_path.specs.declared.last.Last.{Last}
 use Rattle.lfs_path.specs.dirs.Taking.{TakesName}
-use Rattle.lfs_entries.specs.declared.entry.Object.{Object}
-use Rattle.lfs_entries.specs.declared.moving.Source.{Source}
-use Rattle.lfs_entries.specs.declared.moving.Target.{Target}
 use Rattle.lfs_entries.specs.Moving.{AreRelinked, HasMoved, LostFound, NamedFound, fewer_links, first_holder, more_links, second_holder}
 use Rattle.lfs_entries.specs.OldNames.{Untied}
-use Rattle.lfs_fs.specs.Renaming.{IsOpen, IsShut}
-use Rattle.lfs_steps.proofs.paths.Named.{piece_is}
-use Rattle.lfs_steps.proofs.rename.Maps.{IsMoved, IsRename, free_moved, over_moved}
+use Rattle.lfs_steps.proofs.rename.Maps.{IsMoved, free_moved, over_moved}
 use Rattle.lfs_steps.proofs.volume.LostLinks.{loses_name}
 use Rattle.lfs_steps.proofs.volume.LostNames.{LosesName}
 use Rattle.lfs_steps.proofs.volume.MovedMaps.{DraftsMove}

@@ -1,44 +1,18 @@
 -- What a rename serves where both paths were walked, exit by exit.
-use Rattle.std.proofs.Common.{◌≡◌, ◌<◌, ◌≤◌, ◌^◌, ◌*◌, ◌||◌, ℕ, Bool, true, false, List, Option, Some, None, Result, Ok, Err, refl, sym}
-use Rattle.std.proofs.Common.{◌∙◌, ap, subst, inl, inr, arith}
-use Rattle.std.specs.Prelude.{IfErr, IsErrOf, OnErr, OnOk}
-use Rattle.lfs_model.specs.Call.{Done, Refuse, Rename}
-use Rattle.lfs_model.specs.Device.{DeviceState, IsLawful}
-use Rattle.lfs_model.specs.Need.{need}
+use Rattle.lfs_fs.proofs.Prelude.{◌≡◌, ◌<◌, ◌≤◌, ◌^◌, ◌*◌, ◌||◌, ℕ, Bool, true, false, List, Option, Some, None, Result, Ok, Err, refl, sym}
+use Rattle.lfs_fs.proofs.Prelude.{◌∙◌, ap, subst, inl, inr, arith, IfErr, IsErrOf, OnErr, OnOk, Done, Refuse, Rename, DeviceState, IsLawful}
+use Rattle.lfs_fs.proofs.Prelude.{need, Refusal, Step, last_dots, no_last, Handles, State, Store, totals_of_tree, volume_of, files_of, Last}
+use Rattle.lfs_fs.proofs.Prelude.{HasLast, is_dots, here, last_says, EntryFault, Source, Target, ChecksRename, HasBothNames, RefusesRename}
+use Rattle.lfs_fs.proofs.Prelude.{FailsWhere, FsError, Fs, need_of, error_of_entry, Finishes, Reaches, refusal_of, IsOpen, IsShut}
+use Rattle.lfs_fs.proofs.Prelude.{ReachesBoth, IsReady, answer_by, seen, IsStill, Mounted, Serves, segments_of, IsRename, StopsAt}
+use Rattle.lfs_fs.proofs.Prelude.{conditions, rename_stops, need_shaped}
 use Rattle.lfs_model.specs.Refusal as refusals
-use Rattle.lfs_model.specs.Refusal.{Refusal}
-use Rattle.lfs_model.specs.Step.{Step, last_dots, no_last}
-use Rattle.lfs_model.specs.Tree.{Handles, State}
 use Rattle.lfs_files.specs.declared.fault.LogFault.TheVariants as log
 use Rattle.lfs_files.specs.Files as files
-use Rattle.lfs_store.specs.declared.store.Store.{Store}
-use Rattle.lfs_store.proofs.TreeTotals.{totals_of_tree}
-use Rattle.lfs_store.specs.StoreState.{volume_of}
-use Rattle.lfs_store.specs.Seen.{files_of}
-use Rattle.lfs_path.specs.declared.last.Last.{Last}
-use Rattle.lfs_path.specs.Lasts.{HasLast}
 use Rattle.lfs_path.specs.Laws.{SaysLast}
-use Rattle.lfs_path.specs.Pieces.{is_dots}
-use Rattle.lfs_path.specs.Trees.{here}
-use Rattle.lfs_path.proofs.LastPieces.{last_says}
-use Rattle.lfs_entries.specs.declared.fault.EntryFault.{EntryFault}
 use Rattle.lfs_entries.specs.declared.fault.EntryFault.TheVariants as fault
-use Rattle.lfs_entries.specs.declared.moving.Source.{Source}
-use Rattle.lfs_entries.specs.declared.moving.Target.{Target}
 use Rattle.lfs_entries.specs.Moving.{CountsMove, DraftsMove, HasNames}
-use Rattle.lfs_entries.specs.Renaming.{ChecksRename, HasBothNames, RefusesRename}
-use Rattle.lfs_entries.specs.Telling.{FailsWhere}
-use Rattle.lfs_fs.specs.declared.error.FsError.{FsError}
 use Rattle.lfs_fs.specs.declared.error.FsError.TheVariants as error
-use Rattle.lfs_fs.specs.declared.fs.Fs.{Fs}
-use Rattle.lfs_fs.specs.Accepting.{need_of}
-use Rattle.lfs_fs.specs.Faults.{error_of_entry}
-use Rattle.lfs_fs.specs.Finishing.{Finishes}
-use Rattle.lfs_fs.specs.Naming.{Reaches}
-use Rattle.lfs_fs.specs.Refusals.{refusal_of}
-use Rattle.lfs_fs.specs.Renaming.{IsOpen, IsShut, ReachesBoth}
-use Rattle.lfs_fs.specs.Seen.{IsReady, answer_by, seen}
-use Rattle.lfs_fs.specs.Volume.{IsStill, Mounted, Serves, segments_of}
 use Rattle.lfs_fs.proofs.calls.AnyDevice.{IsOrdinary}
 use Rattle.lfs_fs.proofs.calls.Exits.{point_of, served_still}
 use Rattle.lfs_fs.proofs.calls.Drafts.{not_acknowledged}
@@ -51,10 +25,9 @@ use Rattle.lfs_fs.proofs.calls.Steps.{not_worn, worn}
 use Rattle.lfs_fs.proofs.paths.Looks.{only_none}
 use Rattle.lfs_fs.proofs.rename.Drafts.{moved_map}
 use Rattle.lfs_steps.proofs.rename.Fits.{has_move, has_names, takes_move}
-use Rattle.lfs_steps.proofs.rename.Maps.{IsRename, renamed, tree_after}
+use Rattle.lfs_steps.proofs.rename.Maps.{renamed, tree_after}
 use Rattle.lfs_fs.proofs.rename.Refusals.{AreReached, passes, rename_explained, renames, same_step}
-use Rattle.lfs_steps.proofs.rename.Steps.{StopsAt, conditions, rename_done, rename_lacks, rename_stops}
-use Rattle.lfs_steps.proofs.volume.Nodes.{need_shaped}
+use Rattle.lfs_steps.proofs.rename.Steps.{rename_done, rename_lacks}
 
 module _ {D : Type 0} (state : D → DeviceState) (lawful : (d : D) → IsLawful (state d)) (v : Mounted D) (f : Fs D) (a : List ℕ) (da : ℕ)
     (from : Option Last) (b chain : List ℕ) (to : Option Last) (reached : ReachesBoth state v f a da from b chain to)

@@ -1,36 +1,13 @@
 -- The two paths of a rename: how the second is walked where the first was, and what ends the walk
 -- of one.
-use Rattle.std.proofs.Common.{◌≡◌, ℕ, true, false, List, Option, refl, sym, ◌∙◌, subst}
-use Rattle.lfs_model.specs.Bytes.{AreBytes}
-use Rattle.lfs_model.specs.Call.{Refuse, Rename}
-use Rattle.lfs_model.specs.Device.{DeviceState, IsLawful}
-use Rattle.lfs_model.specs.Refusal.{Refusal}
-use Rattle.lfs_model.specs.Sound.{NamesGive}
-use Rattle.lfs_model.specs.Step.{Step}
-use Rattle.lfs_model.specs.Tree.{State, Tree}
-use Rattle.lfs_model.specs.Walk.{Parent, Refused}
-use Rattle.lfs_model.proofs.StepsAre.{step_ends}
+use Rattle.lfs_fs.proofs.Prelude.{◌≡◌, ℕ, true, false, List, Option, refl, sym, ◌∙◌, subst, AreBytes, Refuse, Rename, DeviceState, IsLawful}
+use Rattle.lfs_fs.proofs.Prelude.{Refusal, NamesGive, Step, State, Tree, Parent, Refused, step_ends, Draft, Store, IsEmpty, files_of, Last}
+use Rattle.lfs_fs.proofs.Prelude.{WalkFault, HasLast, EndsParent, IsParent, Tells, TellsRefusal, IsChain, here, FsError, Fs, error_of_walk}
+use Rattle.lfs_fs.proofs.Prelude.{Reaches, refusal_of, ReachesBoth, IsReady, OnlyReads, seen, Mounted, Serves, segments_of}
 use Rattle.lfs_files.specs.declared.fault.LogFault.TheVariants as log
 use Rattle.lfs_files.specs.Files as files
-use Rattle.lfs_store.specs.declared.draft.Draft.{Draft}
-use Rattle.lfs_store.specs.declared.store.Store.{Store}
-use Rattle.lfs_store.specs.StoreState.{IsEmpty}
-use Rattle.lfs_store.specs.Seen.{files_of}
-use Rattle.lfs_path.specs.declared.last.Last.{Last}
-use Rattle.lfs_path.specs.declared.walk_fault.WalkFault.{WalkFault}
 use Rattle.lfs_path.specs.declared.walk_fault.WalkFault.TheVariants as walk
-use Rattle.lfs_path.specs.Lasts.{HasLast}
-use Rattle.lfs_path.specs.Reaching.{EndsParent, IsParent}
-use Rattle.lfs_path.specs.Telling.{Tells, TellsRefusal}
-use Rattle.lfs_path.specs.Trees.{HasTree, IsChain, here}
-use Rattle.lfs_fs.specs.declared.error.FsError.{FsError}
-use Rattle.lfs_fs.specs.declared.fs.Fs.{Fs}
-use Rattle.lfs_fs.specs.Faults.{error_of_walk}
-use Rattle.lfs_fs.specs.Naming.{Reaches}
-use Rattle.lfs_fs.specs.Refusals.{refusal_of}
-use Rattle.lfs_fs.specs.Renaming.{ReachesBoth}
-use Rattle.lfs_fs.specs.Seen.{IsReady, OnlyReads, seen}
-use Rattle.lfs_fs.specs.Volume.{Mounted, Serves, segments_of}
+use Rattle.lfs_path.specs.Trees.{HasTree}
 use Rattle.lfs_fs.proofs.calls.Files.{IsBegun, begun_at, has_now, still_after, with_store}
 use Rattle.lfs_fs.proofs.calls.StoreCalls.{ends_parent, ends_refused}
 use Rattle.lfs_fs.proofs.paths.Later.{later_reaches, later_refused}

@@ -1,46 +1,27 @@
 -- What a rename's rule says of one state: why the model refuses the call there, or that nothing but the need of space may.
-use Rattle.std.proofs.Common.{◌≡◌, ◌≢◌, ◌||◌, ◌&&◌, not, ℕ, Bool, true, false, List, length, Option, Some, None, eqb}
-use Rattle.std.proofs.Common.{refl, sym, ◌∙◌, ap, subst, inl, inr, arith}
-use Rattle.std.specs.Prelude.{◌==◌}
-use Rattle.std.proofs.lemmas.Bool.{eq-eqb, eqb-true}
-use Rattle.std.proofs.lemmas.Bool.Decides.{nat_tests}
-use Rattle.lfs_model.specs.Call.{Answer, Done, Refuse, Rename}
-use Rattle.lfs_model.specs.Slot.{IsName}
+use Rattle.lfs_fs.proofs.Prelude.{◌≡◌, ◌≢◌, ◌||◌, ◌&&◌, not, ℕ, Bool, true, false, List, length, Option, Some, None, eqb, refl, sym, ◌∙◌}
+use Rattle.lfs_fs.proofs.Prelude.{ap, subst, inl, inr, arith, ◌==◌, eq-eqb, nat_tests, Answer, Done, Refuse, Rename, IsName, LogMap, Step}
+use Rattle.lfs_fs.proofs.Prelude.{name, State, is_dir, links, names, node, FilesState, Last, is_dots, HasHeader, TellsFault, IsChain, here}
+use Rattle.lfs_fs.proofs.Prelude.{Object, EntryFault, Source, Target, is_directory, IsHolder, LooksAt, LooksUp, ChecksRename, HasBothNames}
+use Rattle.lfs_fs.proofs.Prelude.{RefusesRename, InEach, at_most, not_at_most, IsReached, dots_is, entry_is, free_is, full_is, gives_is}
+use Rattle.lfs_fs.proofs.Prelude.{has_piece, holder, kind_is, last_dots_is, links_are, long_is, piece_is, short_is, slash_is, target_is}
+use Rattle.lfs_fs.proofs.Prelude.{there_is, IsRename, StopsAt, conditions, rename_stops, shape_of}
+use Rattle.std.proofs.lemmas.Bool.{eqb-true}
 use Rattle.lfs_model.specs.Refusal as refusals
-use Rattle.lfs_model.specs.Stands.{LogMap}
-use Rattle.lfs_model.specs.Step.{Step, is_there, is_within, name}
-use Rattle.lfs_model.specs.Tree.{State, is_dir, links, names, node}
+use Rattle.lfs_model.specs.Step.{is_there, is_within}
 use Rattle.lfs_model.proofs.Shrinking.{named_counts}
-use Rattle.lfs_files.specs.Files.{FilesState}
 use Rattle.lfs_files.specs.Headers.{as_header}
-use Rattle.lfs_path.specs.declared.last.Last.{Last}
-use Rattle.lfs_path.specs.Pieces.{is_dots}
-use Rattle.lfs_path.specs.Seeing.{HasHeader}
-use Rattle.lfs_path.specs.Telling.{TellsFault}
-use Rattle.lfs_path.specs.Trees.{IsChain, here}
-use Rattle.lfs_entries.specs.declared.entry.Object.{Object}
-use Rattle.lfs_entries.specs.declared.fault.EntryFault.{EntryFault}
 use Rattle.lfs_entries.specs.declared.fault.EntryFault.TheVariants as fault
-use Rattle.lfs_entries.specs.declared.moving.Source.{Source}
-use Rattle.lfs_entries.specs.declared.moving.Target.{Target}
-use Rattle.lfs_entries.specs.Entries.{is_directory}
-use Rattle.lfs_entries.specs.Looking.{IsHolder, LooksAt, LooksUp}
-use Rattle.lfs_entries.specs.Renaming.{ChecksRename, FindsSource, FindsTarget, GivesName, HasBothNames, IsAbove, IsNotAbove}
-use Rattle.lfs_entries.specs.Renaming.{RefusesNext, RefusesRename, RefusesSource, of_first, of_second, of_target, of_within}
+use Rattle.lfs_entries.specs.Renaming.{FindsSource, FindsTarget, GivesName, IsAbove, IsNotAbove}
+use Rattle.lfs_entries.specs.Renaming.{RefusesNext, RefusesSource, of_first, of_second, of_target, of_within}
 use Rattle.lfs_entries.specs.Replacing.{FitsFound, RefusesFound, RefusesReplaced, RefusesRoom}
-use Rattle.lfs_entries.specs.Telling.{InEach}
-use Rattle.lfs_steps.proofs.calls.Checks.{at_most, not_at_most}
 use Rattle.lfs_fs.proofs.calls.Files.{Explains}
 use Rattle.lfs_steps.proofs.paths.ChainTrees.{above_within, apart_not_within}
 use Rattle.lfs_steps.proofs.paths.LastNames.{piece_is_name}
-use Rattle.lfs_steps.proofs.paths.Named.{IsReached, dots_is, entry_is, free_is, full_is, gives_is, has_piece, holder, kind_is, last_dots_is}
-use Rattle.lfs_steps.proofs.paths.Named.{links_are, long_is, piece_is, short_is, slash_is, target_is, there_is}
-use Rattle.lfs_steps.proofs.rename.Maps.{IsRename}
-use Rattle.lfs_steps.proofs.rename.Steps.{AreNamed, MayBeNamed, NamesSource, NamesTarget, PassesAll, StopsAt, before_space, conditions}
-use Rattle.lfs_steps.proofs.rename.Steps.{passes_new, passes_replaced, rename_stops, stops_done, stops_empty, stops_full, stops_is_dir}
+use Rattle.lfs_steps.proofs.rename.Steps.{AreNamed, MayBeNamed, NamesSource, NamesTarget, PassesAll, before_space}
+use Rattle.lfs_steps.proofs.rename.Steps.{passes_new, passes_replaced, stops_done, stops_empty, stops_full, stops_is_dir}
 use Rattle.lfs_steps.proofs.rename.Steps.{stops_links, stops_next, stops_not_dir, stops_slash, stops_source, stops_within, stops_within_new}
 use Rattle.lfs_steps.proofs.rename.Views.{has_entries, no_entries}
-use Rattle.lfs_steps.proofs.volume.Nodes.{shape_of}
 
 other_way : (x y : ℕ) (b : Bool) → eqb x y ≡ b → eqb y x ≡ b
 other_way x y true is = eq-eqb y x (sym (eqb-true x y is))

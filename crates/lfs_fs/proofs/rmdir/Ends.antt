@@ -1,58 +1,32 @@
 -- The call rmdir as a step of the model: what the rule of an empty directory takes, why it takes none, and the name that goes.
-use Rattle.std.proofs.Common.{◌≡◌, ◌<◌, ◌*◌, ℕ, Bool, true, false, List, [], length, Option, Some, None, Result, refl, sym, ◌∙◌, ap}
-use Rattle.std.proofs.Common.{nat_lt, arith}
-use Rattle.std.specs.Prelude.{IfErr, IsErrOf, OnOk, unwrap_or}
-use Rattle.lfs_model.specs.declared.Kind.{Kind}
+use Rattle.lfs_fs.proofs.Prelude.{◌≡◌, ◌<◌, ◌*◌, ℕ, Bool, true, false, List, [], length, Option, Some, None, Result, refl, sym, ◌∙◌, ap}
+use Rattle.lfs_fs.proofs.Prelude.{nat_lt, arith, IfErr, IsErrOf, OnOk, unwrap_or, Kind, Done, Refuse, Rmdir, DeviceState, IsLawful, LogMap}
+use Rattle.lfs_fs.proofs.Prelude.{Step, Dir, File, Names, Node, State, is_dir, names_in, names_of, node, slot_len, node_by, FilesState}
+use Rattle.lfs_fs.proofs.Prelude.{Store, files_of, Last, HasHeader, TellsFault, Entry, EntryFault, is_directory, IsHolder, LooksAt, LooksUp}
+use Rattle.lfs_fs.proofs.Prelude.{CountsDrop, DraftsDrop, HasOld, FailsWhere, InEach, FsError, Fs, error_of_entry, Finishes, Reaches}
+use Rattle.lfs_fs.proofs.Prelude.{refusal_of, IsReady, answer_by, seen, Mounted, Serves, segments_of, MayGo, gone, IsReached, gives_is}
+use Rattle.lfs_fs.proofs.Prelude.{has_piece, holder, kind_is, last_dots_is, long_is, short_is, target_is, there_is, IsShaped}
+use Rattle.lfs_fs.proofs.Prelude.{node_by_header}
 use Rattle.lfs_model.specs.declared.Kind.TheVariants as kind
-use Rattle.lfs_model.specs.Call.{Done, Refuse, Rmdir}
-use Rattle.lfs_model.specs.Device.{DeviceState, IsLawful}
-use Rattle.lfs_model.specs.Stands.{LogMap}
-use Rattle.lfs_model.specs.Step.{Step, target}
-use Rattle.lfs_model.specs.Tree.{Dir, File, Names, Node, State, is_dir, names_in, names_of, node, slot_len}
-use Rattle.lfs_model.specs.TreeOf.{node_by}
+use Rattle.lfs_model.specs.Step.{target}
 use Rattle.lfs_model.proofs.KeepsNames.{rmdir_keeps}
 use Rattle.lfs_files.specs.declared.fault.LogFault.TheVariants as log
 use Rattle.lfs_files.specs.declared.header.Header.{Header}
 use Rattle.lfs_files.specs.Files as files
-use Rattle.lfs_files.specs.Files.{FilesState}
 use Rattle.lfs_files.specs.Headers.{as_header}
-use Rattle.lfs_store.specs.declared.store.Store.{Store}
-use Rattle.lfs_store.specs.Seen.{files_of}
-use Rattle.lfs_path.specs.declared.last.Last.{Last}
-use Rattle.lfs_path.specs.Seeing.{HasHeader}
-use Rattle.lfs_path.specs.Telling.{TellsFault}
 use Rattle.lfs_path.proofs.of_dirs.SlotsKept.{empty_directory}
-use Rattle.lfs_entries.specs.declared.entry.Entry.{Entry}
-use Rattle.lfs_entries.specs.declared.fault.EntryFault.{EntryFault}
 use Rattle.lfs_entries.specs.declared.fault.EntryFault.TheVariants as fault
-use Rattle.lfs_entries.specs.Entries.{is_directory}
-use Rattle.lfs_entries.specs.Looking.{IsHolder, LooksAt, LooksUp}
 use Rattle.lfs_entries.specs.OldEntries.{HasEmpty, RefusesEmpty}
-use Rattle.lfs_entries.specs.OldNames.{CountsDrop, DraftsDrop, HasOld}
-use Rattle.lfs_entries.specs.Telling.{FailsWhere, InEach}
-use Rattle.lfs_fs.specs.declared.error.FsError.{FsError}
-use Rattle.lfs_fs.specs.declared.fs.Fs.{Fs}
-use Rattle.lfs_fs.specs.Faults.{error_of_entry}
-use Rattle.lfs_fs.specs.Finishing.{Finishes}
-use Rattle.lfs_fs.specs.Naming.{Reaches}
-use Rattle.lfs_fs.specs.Refusals.{refusal_of}
-use Rattle.lfs_fs.specs.Seen.{IsReady, answer_by, seen}
-use Rattle.lfs_fs.specs.Volume.{Mounted, Serves, segments_of}
 use Rattle.lfs_steps.proofs.calls.Checks.{below, not_below}
 use Rattle.lfs_fs.proofs.calls.Files as calls
 use Rattle.lfs_fs.proofs.calls.Files.{Explains, IsBegun, Rose, begun_after, begun_at, fault_serves, only, reached_in, rose_where, told}
 use Rattle.lfs_fs.proofs.calls.Files.{with_store}
-use Rattle.lfs_steps.proofs.old_entries.Dropping.{MayGo}
 use Rattle.lfs_fs.proofs.old_entries.Drops.{drop_ends}
 use Rattle.lfs_fs.proofs.old_entries.Explained.{plain_so}
-use Rattle.lfs_steps.proofs.old_entries.Steps.{gone}
-use Rattle.lfs_steps.proofs.paths.Named.{IsReached, gives_is, has_piece, holder, kind_is, last_dots_is, long_is, range_n, short_is}
-use Rattle.lfs_steps.proofs.paths.Named.{target_is}
-use Rattle.lfs_steps.proofs.paths.Named.{there_is}
+use Rattle.lfs_steps.proofs.paths.Named.{range_n}
 use Rattle.lfs_steps.proofs.rmdir.Steps.{rmdir_done, rmdir_dots, rmdir_full, rmdir_long, rmdir_missing, rmdir_plain}
 use Rattle.lfs_steps.proofs.volume.Directories.{size_of_directory}
 use Rattle.lfs_fs.proofs.volume.Map.{shape_of_volume}
-use Rattle.lfs_steps.proofs.volume.Nodes.{IsShaped, node_by_header}
 use Rattle.lfs_steps.proofs.volume.Slots.{no_slots, some_names}
 
 module _ {N : ℕ} {m : LogMap} {s : State} {p : List ℕ} {d : ℕ} {l : Last} (g : IsReached N m s p d l) (e : Entry)

@@ -1,13 +1,9 @@
 -- A sync that is done, and drafts that were to be staged and weren't, as steps of the model.
-use Rattle.std.proofs.Common.{◌≡◌, ◌≤◌, ◌^◌, ◌<◌, ◌+◌, ◌/◌, ℕ, Bool, true, false, refl, sym, subst, inl, inr, cond, arith}
-use Rattle.lfs_model.specs.Call.{Call, Done, Refuse, Sync, changes, takes_no_memory, never_for_device}
-use Rattle.lfs_model.specs.Device.{DeviceState, IsLawful}
-use Rattle.lfs_model.specs.Refusal.{Device, NoMemory}
-use Rattle.lfs_store.specs.log.Saving.{commit_orders}
-use Rattle.lfs_store.specs.Accepting.{Commits, Declines, IsAcceptFault}
+use Rattle.lfs_fs.proofs.Prelude.{◌≡◌, ◌≤◌, ◌^◌, ◌<◌, ◌+◌, ◌/◌, ℕ, Bool, true, false, refl, sym, subst, inl, inr, cond, arith, Call, Done}
+use Rattle.lfs_fs.proofs.Prelude.{Refuse, Sync, changes, takes_no_memory, never_for_device, DeviceState, IsLawful, Device, commit_orders}
+use Rattle.lfs_fs.proofs.Prelude.{Commits, Declines, IsAcceptFault, Draft, CommitsFew, Mounted, Serves, TellsAtMost, segments_of}
+use Rattle.lfs_model.specs.Refusal.{NoMemory}
 use Rattle.lfs_store.specs.StoreState.{Fits}
-use Rattle.lfs_store.specs.declared.draft.Draft.{Draft}
-use Rattle.lfs_fs.specs.Volume.{CommitsFew, Mounted, Serves, TellsAtMost, segments_of}
 use Rattle.lfs_fs.proofs.calls.AnyDevice.{IsBounded, change_writes, not_both, sync_bounded, write_behaves}
 use Rattle.lfs_fs.proofs.calls.Steps.{never_worn}
 use Rattle.lfs_fs.proofs.calls.Drafts.{InEach, IsRest, commits_by, declines_by}

@@ -1,21 +1,10 @@
 -- The ends of a sync, as steps of the model.
-use Rattle.std.proofs.Common.{◌≡◌, true, false, refl, sym, subst, arith}
-use Rattle.lfs_model.specs.Call.{Done, Refuse, Sync}
-use Rattle.lfs_model.specs.Device.{DeviceState, IsLawful}
-use Rattle.lfs_files.specs.declared.fault.LogFault.{LogFault}
+use Rattle.lfs_fs.proofs.Prelude.{◌≡◌, true, false, refl, sym, subst, arith, Done, Refuse, Sync, DeviceState, IsLawful, LogFault, IsFull}
+use Rattle.lfs_fs.proofs.Prelude.{Store, commit_orders, Commits, volume_of, FsError, Fs, error_of_log, refusal_of, seen, Mounted, Serves}
+use Rattle.lfs_fs.proofs.Prelude.{TellsAtMost}
 use Rattle.lfs_files.specs.declared.fault.LogFault.TheVariants as log
-use Rattle.lfs_store.specs.log.LogState.{Halts, IsFull}
-use Rattle.lfs_store.specs.declared.store.Store.{Store}
-use Rattle.lfs_store.specs.log.Saving.{commit_orders}
-use Rattle.lfs_store.specs.Accepting.{Commits}
+use Rattle.lfs_store.specs.log.LogState.{Halts}
 use Rattle.lfs_store.proofs.of_cleaner.Rooms.{halts_at_once}
-use Rattle.lfs_store.specs.StoreState.{volume_of}
-use Rattle.lfs_fs.specs.declared.error.FsError.{FsError}
-use Rattle.lfs_fs.specs.declared.fs.Fs.{Fs}
-use Rattle.lfs_fs.specs.Faults.{error_of_log}
-use Rattle.lfs_fs.specs.Refusals.{refusal_of}
-use Rattle.lfs_fs.specs.Seen.{seen}
-use Rattle.lfs_fs.specs.Volume.{Mounted, Serves, TellsAtMost}
 use Rattle.lfs_fs.proofs.calls.AnyDevice.{sync_bounded}
 use Rattle.lfs_fs.proofs.save.Declined.{sync_serves}
 use Rattle.lfs_fs.proofs.save.Room.{full_serves}

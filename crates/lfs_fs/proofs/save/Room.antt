@@ -1,14 +1,6 @@
 -- A sync never finds too few clean segments, and never lacks a number.
-use Rattle.std.proofs.Common.{◌≡◌, ◌<◌, ◌≤◌, ◌+◌, ◌-◌, ◌*◌, ◌^◌, false, refl, ⊎_elim, arith}
-use Rattle.lfs_model.specs.Call.{Refuse, Sync}
-use Rattle.lfs_model.specs.Device.{DeviceState, IsLawful}
-use Rattle.lfs_model.specs.Refusal.{Device}
-use Rattle.lfs_model.specs.Tree.{State}
-use Rattle.lfs_model.proofs.Moments.{carries_none}
-use Rattle.lfs_store.specs.log.LogState.{IsFull}
-use Rattle.lfs_fs.specs.Volume.{Mounted, Runs, Serves}
-use Rattle.lfs_store.specs.log.Saving.{commit_orders}
-use Rattle.lfs_store.proofs.of_log.LogReads.{segment_count}
+use Rattle.lfs_fs.proofs.Prelude.{◌≡◌, ◌<◌, ◌≤◌, ◌+◌, ◌-◌, ◌*◌, ◌^◌, false, refl, ⊎_elim, arith, Refuse, Sync, DeviceState, IsLawful}
+use Rattle.lfs_fs.proofs.Prelude.{Device, State, carries_none, IsFull, Mounted, Runs, Serves, commit_orders, segment_count}
 use Rattle.lfs_fs.proofs.calls.AnyDevice.{sync_bounded, tells_none, write_behaves}
 
 module _ {D : Type 0} (state : D → DeviceState) (v : Mounted D) (lawful : IsLawful (state v.log.device)) (was : v.log.halted ≡ false)

@@ -1,17 +1,11 @@
 -- One line of a script on a volume at a point: a step of a run, and what a stop in it leaves.
-use Rattle.std.proofs.Common.{◌≡◌, ◌⊎◌, ℕ, true, false, List, [], ◌∷◌, refl, sym, ◌∙◌, ap, subst, inl, inr, arith}
-use Rattle.lfs_model.specs.Call.{Answer, Refuse}
-use Rattle.lfs_model.specs.Device.{DeviceState, IsLawful, Carries}
-use Rattle.lfs_model.specs.Refusal.{NoMemory, Halted}
-use Rattle.lfs_model.specs.Run.{Answers, LineAnswers, Point, acknowledges}
-use Rattle.lfs_model.specs.Script.{Line, call_of}
-use Rattle.lfs_model.specs.Tree.{State, drop_nameless}
-use Rattle.lfs_model.specs.TreeOf.{LeavesOne, LeavesStates, Left, Stands}
-use Rattle.lfs_model.proofs.Moments.{carries_none, started}
-use Rattle.lfs_fs.specs.Scripts.{ServesLine}
-use Rattle.lfs_fs.specs.Volume.{IsAt, LeavesSome, Mounted, Serves, segments_of}
+use Rattle.lfs_fs.proofs.Prelude.{◌≡◌, ◌⊎◌, ℕ, true, false, List, [], ◌∷◌, refl, sym, ◌∙◌, ap, subst, inl, inr, arith, Answer, Refuse}
+use Rattle.lfs_fs.proofs.Prelude.{DeviceState, IsLawful, Carries, Halted, LineAnswers, Point, acknowledges, Line, call_of, State}
+use Rattle.lfs_fs.proofs.Prelude.{drop_nameless, LeavesOne, LeavesStates, Left, Stands, carries_none, started, ServesLine, IsAt, LeavesSome}
+use Rattle.lfs_fs.proofs.Prelude.{Mounted, Serves, segments_of, Contains}
+use Rattle.lfs_model.specs.Refusal.{NoMemory}
+use Rattle.lfs_model.specs.Run.{Answers}
 use Rattle.lfs_fs.proofs.calls.Drafts.{not_acknowledged}
-use Rattle.std.specs.List.{Contains}
 
 module _ {D : Type 0} (state : D → DeviceState) where
   -- a line of a run on a volume of N segments

@@ -1,41 +1,20 @@
 -- The call unlink as a step of the model: what the rule of an old entry takes, and the name that goes.
-use Rattle.std.proofs.Common.{◌≡◌, ◌≢◌, ℕ, Bool, true, false, List, Some, Result, refl, sym, ◌∙◌}
-use Rattle.std.specs.Prelude.{IfErr, IsErrOf, OnOk}
-use Rattle.lfs_model.specs.Call.{Done, Unlink}
-use Rattle.lfs_model.specs.Device.{DeviceState, IsLawful}
-use Rattle.lfs_model.specs.Stands.{LogMap}
-use Rattle.lfs_model.specs.Step.{Step}
-use Rattle.lfs_model.specs.Tree.{State, is_dir, node, opened}
+use Rattle.lfs_fs.proofs.Prelude.{◌≡◌, ◌≢◌, ℕ, Bool, true, false, List, Some, Result, refl, sym, ◌∙◌, IfErr, IsErrOf, OnOk, Done, Unlink}
+use Rattle.lfs_fs.proofs.Prelude.{DeviceState, IsLawful, LogMap, Step, State, is_dir, node, opened, FilesState, Store, files_of, Last}
+use Rattle.lfs_fs.proofs.Prelude.{Entry, EntryFault, LooksAt, CountsDrop, DraftsDrop, HasOld, FailsWhere, FsError, Fs, Finishes, Reaches}
+use Rattle.lfs_fs.proofs.Prelude.{IsReady, answer_by, seen, Mounted, Serves, segments_of, MayGo, gone, IsReached, dots_is, gives_is}
+use Rattle.lfs_fs.proofs.Prelude.{kind_is, short_is, slash_is, there_is, IsShaped}
 use Rattle.lfs_model.proofs.Keeps.{unlink_keeps}
 use Rattle.lfs_files.specs.declared.fault.LogFault.TheVariants as log
 use Rattle.lfs_files.specs.Files as files
-use Rattle.lfs_files.specs.Files.{FilesState}
-use Rattle.lfs_store.specs.declared.store.Store.{Store}
-use Rattle.lfs_store.specs.Seen.{files_of}
-use Rattle.lfs_path.specs.declared.last.Last.{Last}
-use Rattle.lfs_entries.specs.declared.entry.Entry.{Entry}
-use Rattle.lfs_entries.specs.declared.fault.EntryFault.{EntryFault}
 use Rattle.lfs_entries.specs.declared.fault.EntryFault.TheVariants as fault
-use Rattle.lfs_entries.specs.Looking.{LooksAt}
 use Rattle.lfs_entries.specs.OldEntries.{HasEntry}
-use Rattle.lfs_entries.specs.OldNames.{CountsDrop, DraftsDrop, HasOld}
-use Rattle.lfs_entries.specs.Telling.{FailsWhere}
-use Rattle.lfs_fs.specs.declared.error.FsError.{FsError}
-use Rattle.lfs_fs.specs.declared.fs.Fs.{Fs}
-use Rattle.lfs_fs.specs.Finishing.{Finishes}
-use Rattle.lfs_fs.specs.Naming.{Reaches}
-use Rattle.lfs_fs.specs.Seen.{IsReady, answer_by, seen}
-use Rattle.lfs_fs.specs.Volume.{Mounted, Serves, segments_of}
 use Rattle.lfs_fs.proofs.calls.Files.{InEach, IsBegun, begun_after, begun_at, reached_in, told, with_store}
-use Rattle.lfs_steps.proofs.old_entries.Dropping.{MayGo}
 use Rattle.lfs_fs.proofs.old_entries.Drops.{drop_ends}
 use Rattle.lfs_fs.proofs.old_entries.Explained.{plain_so}
-use Rattle.lfs_steps.proofs.old_entries.Steps.{gone}
-use Rattle.lfs_steps.proofs.paths.Named.{IsReached, dots_is, gives_is, kind_is, short_is, slash_is, there_is}
 use Rattle.lfs_steps.proofs.rename.Views.{none_in}
 use Rattle.lfs_steps.proofs.unlink.Steps.{unlink_done}
 use Rattle.lfs_fs.proofs.volume.Map.{shape_of_volume}
-use Rattle.lfs_steps.proofs.volume.Nodes.{IsShaped}
 
 module _ {S D : Type 0} {a b : FilesState S D} {N : ℕ} {m : LogMap} {s : State} {p : List ℕ} {d : ℕ} {l : Last} {e : Entry}
     (has : HasEntry a b d l.name.now l.slash e) (g : IsReached N m s p d l) (shaped : IsShaped m)

@@ -1,21 +1,11 @@
 -- What a mounted volume's log map is, how a volume that runs on is put together again after a call, and what an open leaves.
-use Rattle.std.proofs.Common.{◌≡◌, ◌⊎◌, ◌≤◌, ◌<◌, ◌+◌, ◌/◌, ◌^◌, ℕ, true, false, List, Some, sym, ◌∙◌, subst, ⊎_elim}
-use Rattle.lfs_model.specs.Call.{Handle}
-use Rattle.lfs_model.specs.Checkpoint.{CheckpointValue}
-use Rattle.lfs_model.specs.Device.{DeviceState}
+use Rattle.lfs_fs.proofs.Prelude.{◌≡◌, ◌⊎◌, ◌≤◌, ◌<◌, ◌+◌, ◌/◌, ◌^◌, ℕ, true, false, List, Some, sym, ◌∙◌, subst, ⊎_elim, Handle}
+use Rattle.lfs_fs.proofs.Prelude.{CheckpointValue, DeviceState, IsHeaderOf, LogMap, State, is_dir, least_handle, node, IsTree, dropped, At}
+use Rattle.lfs_fs.proofs.Prelude.{Resolve, HasClean, HoldsNext, AreTotals, IsIn, Mounted, Runs, segments_of, IsMapOf, IsShaped, shape_of}
 use Rattle.lfs_model.specs.Entry.{Header}
-use Rattle.lfs_model.specs.Objects.{IsHeaderOf}
-use Rattle.lfs_model.specs.Stands.{LogMap}
-use Rattle.lfs_model.specs.Tree.{State, is_dir, least_handle, node}
-use Rattle.lfs_model.specs.TreeOf.{IsTree, dropped}
-use Rattle.lfs_model.specs.Walk.{At, Resolve}
 use Rattle.lfs_model.proofs.Committed.{dropped_tree}
 use Rattle.lfs_model.proofs.Keeps.{open_keeps}
-use Rattle.lfs_store.specs.Accepting.{HasClean, HoldsNext}
-use Rattle.lfs_store.specs.Recounting.{AreTotals}
 use Rattle.lfs_store.proofs.of_log.LogReads.{map_headers, map_long}
-use Rattle.lfs_fs.specs.Volume.{IsIn, Mounted, Runs, segments_of}
-use Rattle.lfs_steps.proofs.volume.Nodes.{IsMapOf, IsShaped, shape_of}
 use Rattle.lfs_fs.proofs.paths.Steps.{open_file, with_handle}
 
 -- ---- the log map of a volume

@@ -1,36 +1,18 @@
 -- The exits of widen behind its walk, from what is drafted to the call as a step of the model.
-use Rattle.std.proofs.Common.{◌≡◌, ◌≢◌, ◌<◌, ◌≤◌, ◌^◌, ℕ, zero, suc, true, List, length, refl, sym, ◌∙◌, ap, subst, arith, eq-eqb}
-use Rattle.std.specs.Prelude.{Result, Ok, Err, OnOk, OnErr, IfErr, IsErrOf}
-use Rattle.std.proofs.lemmas.Bool.{ne_eqb}
-use Rattle.lfs_model.specs.declared.Kind.{Kind}
+use Rattle.lfs_fs.proofs.Prelude.{◌≡◌, ◌≢◌, ◌<◌, ◌≤◌, ◌^◌, ℕ, zero, suc, true, List, length, refl, sym, ◌∙◌, ap, subst, arith, eq-eqb}
+use Rattle.lfs_fs.proofs.Prelude.{Result, Ok, Err, OnOk, OnErr, IfErr, IsErrOf, ne_eqb, Kind, Done, Refuse, Widen, DeviceState, IsLawful}
+use Rattle.lfs_fs.proofs.Prelude.{IsForm, Inval, NotDir, widened, with_tree, form_of, node, FilesState, Draft, Store, StagedLog, files_of}
+use Rattle.lfs_fs.proofs.Prelude.{asked_by, draft_of, drafted_of, WidensNames, EntryFault, FailsWhere, MayWiden, FsError, Fs, Finishes}
+use Rattle.lfs_fs.proofs.Prelude.{IsReady, answer_by, seen, Mounted, Serves, segments_of, IsMapOf}
 use Rattle.lfs_model.specs.declared.Kind.TheVariants as kind
-use Rattle.lfs_model.specs.Call.{Done, Refuse, Widen}
-use Rattle.lfs_model.specs.Device.{DeviceState, IsLawful}
-use Rattle.lfs_model.specs.Inode.{IsForm}
-use Rattle.lfs_model.specs.Refusal.{Inval, NotDir}
-use Rattle.lfs_model.specs.Step.{widened, with_tree}
-use Rattle.lfs_model.specs.Tree.{form_of, node}
 use Rattle.lfs_files.specs.declared.fault.LogFault.TheVariants as log
 use Rattle.lfs_files.specs.declared.header.Header.{Header}
 use Rattle.lfs_files.specs.Files as files
-use Rattle.lfs_files.specs.Files.{FilesState}
 use Rattle.lfs_files.specs.Headers.{as_header}
-use Rattle.lfs_store.specs.declared.draft.Draft.{Draft}
-use Rattle.lfs_store.specs.declared.store.Store.{Store}
-use Rattle.lfs_store.specs.Seen.{StagedLog, files_of}
-use Rattle.lfs_store.specs.StoreState.{asked_by, draft_of, drafted_of}
-use Rattle.lfs_path.specs.dirs.Widening.{CountsWidened, HasWidened, Widens, WidensNames}
-use Rattle.lfs_entries.specs.declared.fault.EntryFault.{EntryFault}
+use Rattle.lfs_path.specs.dirs.Widening.{CountsWidened, HasWidened, Widens}
 use Rattle.lfs_entries.specs.declared.fault.EntryFault.TheVariants as fault
-use Rattle.lfs_entries.specs.Telling.{FailsWhere}
-use Rattle.lfs_entries.specs.Widening.{MayWiden}
-use Rattle.lfs_fs.specs.declared.error.FsError.{FsError}
 use Rattle.lfs_fs.specs.declared.error.FsError.TheVariants as error
-use Rattle.lfs_fs.specs.declared.fs.Fs.{Fs}
-use Rattle.lfs_fs.specs.Finishing.{Finishes}
-use Rattle.lfs_fs.specs.Seen.{IsReady, answer_by, seen}
 use Rattle.lfs_fs.specs.Upgrading.{ReachesNarrow}
-use Rattle.lfs_fs.specs.Volume.{Mounted, Serves, segments_of}
 use Rattle.lfs_fs.proofs.calls.Answers.{IsLooked, begun_with}
 use Rattle.lfs_fs.proofs.calls.Files.{InEach, IsBegun, Makes, apart_now, counted_now, finish_ends, fits_now, gives_up_where, has_now}
 use Rattle.lfs_fs.proofs.calls.Files.{refused_after, still_ready, was, with_store}
@@ -39,7 +21,6 @@ use Rattle.lfs_fs.proofs.volume.Map.{headers_of_volume, map_of_volume, version_o
 use Rattle.lfs_fs.proofs.widen.Maps.{after, done, form_here, kept, known, lacks, may_widen, wide_fits}
 use Rattle.lfs_fs.proofs.widen.Upgrades.{nothing_ends}
 use Rattle.lfs_fs.proofs.write.Ends.{still_none}
-use Rattle.lfs_steps.proofs.volume.Nodes.{IsMapOf}
 use Rattle.lfs_steps.proofs.widen.Steps.{widen_no_directory, widen_nothing, widen_old_volume}
 
 -- the number of the checkpoint, as it was before reads

@@ -1,37 +1,24 @@
 -- A directory of a log map, as a call that widens it finds it, and the log map with it widened: it is that of the tree then.
-use Rattle.std.proofs.Common.{◌≡◌, ◌≤◌, ◌<◌, ◌+◌, ◌*◌, ◌==◌, ⊎_elim, ℕ, true, false, List, Some, sym, ◌∙◌, ap, subst, arith}
-use Rattle.std.proofs.lemmas.Bool.{cases_eq, ne_eqb}
-use Rattle.lfs_model.specs.declared.Kind.{Kind}
+use Rattle.lfs_fs.proofs.Prelude.{◌≡◌, ◌≤◌, ◌<◌, ◌+◌, ◌*◌, ◌==◌, ⊎_elim, ℕ, true, false, List, Some, sym, ◌∙◌, ap, subst, arith, cases_eq}
+use Rattle.lfs_fs.proofs.Prelude.{ne_eqb, Kind, Done, Refuse, Widen, IsLogMap, IsForm, need, IsDirectory, IsHeaderOf, NoSpace, LogMap, Step}
+use Rattle.lfs_fs.proofs.Prelude.{widened, with_tree, IsCounted, State, Tree, form_of, is_dir, links, names_in, node, slot_len, tree_in, At}
+use Rattle.lfs_fs.proofs.Prelude.{Resolve, totals_of_tree, WidensNames, HasHeader, MayWiden, map_by, IsMapOf, IsShaped, need_shaped}
+use Rattle.lfs_fs.proofs.Prelude.{shape_of}
 use Rattle.lfs_model.specs.declared.Kind.TheVariants as kind
-use Rattle.lfs_model.specs.Call.{Done, Refuse, Widen}
-use Rattle.lfs_model.specs.Encodes.{IsLogMap}
 use Rattle.lfs_model.specs.Entry as entry
-use Rattle.lfs_model.specs.Inode.{IsForm, IsSize}
-use Rattle.lfs_model.specs.Need.{need}
-use Rattle.lfs_model.specs.Objects.{IsDirectory, IsHeaderOf, IsObject}
-use Rattle.lfs_model.specs.Refusal.{NoSpace}
-use Rattle.lfs_model.specs.Stands.{LogMap}
-use Rattle.lfs_model.specs.Step.{Step, widened, with_tree}
-use Rattle.lfs_model.specs.Totals.{IsCounted}
-use Rattle.lfs_model.specs.Tree.{State, Tree, form_of, is_dir, links, names_in, node, slot_len}
-use Rattle.lfs_model.specs.TreeOf.{tree_in}
-use Rattle.lfs_model.specs.Walk.{At, Resolve}
+use Rattle.lfs_model.specs.Inode.{IsSize}
+use Rattle.lfs_model.specs.Objects.{IsObject}
 use Rattle.lfs_model.proofs.Makes.{dir_at}
 use Rattle.lfs_model.proofs.ObjectMaps.{object_fits, object_kept}
 use Rattle.lfs_model.proofs.Widening.{same_links, widen_keeps}
 use Rattle.lfs_files.specs.declared.header.Header.{Header}
 use Rattle.lfs_files.specs.Headers.{FitsHeader, as_header}
-use Rattle.lfs_store.proofs.TreeTotals.{totals_of_tree}
 use Rattle.lfs_path.specs.dirs.Directory.{slot_count}
-use Rattle.lfs_path.specs.dirs.Widening.{WidensFile, WidensNames, wide}
-use Rattle.lfs_path.specs.Seeing.{HasHeader}
+use Rattle.lfs_path.specs.dirs.Widening.{WidensFile, wide}
 use Rattle.lfs_path.proofs.of_dirs.InTrees.{directory_widened}
 use Rattle.lfs_path.proofs.of_dirs.Widenings.{few_slots}
-use Rattle.lfs_entries.specs.Widening.{MayWiden}
 use Rattle.lfs_steps.proofs.volume.Directories.{directory_node}
 use Rattle.lfs_steps.proofs.volume.FileBytes.{shape_kept}
-use Rattle.lfs_steps.proofs.volume.KeptMaps.{map_by}
-use Rattle.lfs_steps.proofs.volume.Nodes.{IsMapOf, IsShaped, need_shaped, shape_of}
 use Rattle.lfs_steps.proofs.widen.Steps.{widen_done, widen_no_space}
 use Rattle.lfs_fs.proofs.read.Shown.{directory}
 

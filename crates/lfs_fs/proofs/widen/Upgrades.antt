@@ -1,36 +1,20 @@
 -- The exits of upgrade, and of changes that find nothing to do, as steps of the model.
-use Rattle.std.proofs.Common.{◌≡◌, ◌<◌, ◌≤◌, ◌+◌, ◌*◌, ◌^◌, ⊎_elim, inl, inr, ℕ, true, false, Some, refl, sym, ◌∙◌, ap}
-use Rattle.std.proofs.Common.{subst, arith}
-use Rattle.std.specs.Prelude.{Result, Ok, Err, OnOk, OnErr, IfErr}
-use Rattle.lfs_model.specs.Call.{Call, Done, Refuse, Upgrade, changes}
-use Rattle.lfs_model.specs.Checkpoint.{CheckpointValue}
-use Rattle.lfs_model.specs.Device.{DeviceState, IsLawful}
+use Rattle.lfs_fs.proofs.Prelude.{◌≡◌, ◌<◌, ◌≤◌, ◌+◌, ◌*◌, ◌^◌, ⊎_elim, inl, inr, ℕ, true, false, Some, refl, sym, ◌∙◌, ap, subst, arith}
+use Rattle.lfs_fs.proofs.Prelude.{Result, Ok, Err, OnOk, OnErr, IfErr, Call, Done, Refuse, Upgrade, changes, CheckpointValue, DeviceState}
+use Rattle.lfs_fs.proofs.Prelude.{IsLawful, Worn, acknowledges, LogMap, Step, State, Tree, links, BlockTotals, Store, AreTotals}
+use Rattle.lfs_fs.proofs.Prelude.{totals_of_tree, draft_of, drafted_of, volume_of, with_draft, FsError, Fs, StagesDraft, TurnsDown}
+use Rattle.lfs_fs.proofs.Prelude.{refusal_of, Begins, answer_by, seen, IsIn, IsStill, Mounted, Serves, segments_of, IsMapOf, room_shaped}
+use Rattle.lfs_fs.proofs.Prelude.{shape_of}
 use Rattle.lfs_model.specs.Entry.{Header}
 use Rattle.lfs_model.specs.Raising.{raised}
-use Rattle.lfs_model.specs.Refusal.{Worn}
-use Rattle.lfs_model.specs.Run.{acknowledges}
-use Rattle.lfs_model.specs.Stands.{LogMap}
-use Rattle.lfs_model.specs.Step.{Step}
-use Rattle.lfs_model.specs.Tree.{State, Tree, links}
 use Rattle.lfs_model.specs.TreeOf.{AreFormed, object, slots}
 use Rattle.lfs_model.proofs.Raising.{raised_kept, raised_tree}
 use Rattle.lfs_model.proofs.Widening.{upgrade_keeps}
-use Rattle.lfs_store.specs.log.verify.declared.totals.BlockTotals.{BlockTotals}
-use Rattle.lfs_store.specs.declared.store.Store.{Store}
 use Rattle.lfs_store.specs.Making.{DraftsUpgrade}
-use Rattle.lfs_store.specs.Recounting.{AreTotals, CountsUpgraded}
-use Rattle.lfs_store.proofs.TreeTotals.{totals_of_tree}
-use Rattle.lfs_store.specs.StoreState.{draft_of, drafted_of, volume_of, with_draft}
-use Rattle.lfs_fs.specs.declared.error.FsError.{FsError}
+use Rattle.lfs_store.specs.Recounting.{CountsUpgraded}
 use Rattle.lfs_fs.specs.declared.error.FsError.TheVariants as error
-use Rattle.lfs_fs.specs.declared.fs.Fs.{Fs}
-use Rattle.lfs_fs.specs.Accepting.{StagesDraft, TurnsDown}
-use Rattle.lfs_fs.specs.Refusals.{refusal_of}
-use Rattle.lfs_fs.specs.Seen.{Begins, answer_by, seen}
-use Rattle.lfs_fs.specs.Volume.{IsIn, IsStill, Mounted, Serves, segments_of}
 use Rattle.lfs_fs.proofs.calls.Steps.{not_worn, worn}
 use Rattle.lfs_fs.proofs.calls.Drafts.{not_acknowledged}
-use Rattle.lfs_steps.proofs.volume.Nodes.{IsMapOf, room_shaped, shape_of}
 use Rattle.lfs_fs.proofs.volume.Map.{headers_of_volume, map_of_volume, version_of_volume}
 use Rattle.lfs_fs.proofs.read.Ends.{begun_running}
 use Rattle.lfs_fs.proofs.calls.Exits.{point_of, served_still}

@@ -1,45 +1,25 @@
 -- A write to an open file and a cut of it, from what is drafted to the call as a step of the model.
-use Rattle.std.proofs.Common.{◌≡◌, ◌<◌, ◌≤◌, ◌+◌, ℕ, true, false, List, length, Some, Ok, Err, refl, sym, ◌∙◌, ap, arith}
-use Rattle.std.specs.Prelude.{Result, OnOk, IfErr, IsErrOf, max}
-use Rattle.std.specs.Ordering.{nat_cmp}
-use Rattle.std.specs.FinMap.{find}
+use Rattle.lfs_fs.proofs.Prelude.{◌≡◌, ◌<◌, ◌≤◌, ◌+◌, ℕ, true, false, List, length, Some, Ok, Err, refl, sym, ◌∙◌, ap, arith, Result, OnOk}
+use Rattle.lfs_fs.proofs.Prelude.{IfErr, IsErrOf, max, nat_cmp, find, AreBytes, Answer, Call, Count, Done, Pwrite, Truncate, cleans}
+use Rattle.lfs_fs.proofs.Prelude.{never_for_device, takes_no_memory, CheckpointValue, DeviceState, IsLawful, IsHeaderOf, LogMap, with_tree}
+use Rattle.lfs_fs.proofs.Prelude.{State, FilesState, resized, HasHeader, HasObject, Draft, Store, StagedLog, files_of, IsEmpty, draft_of}
+use Rattle.lfs_fs.proofs.Prelude.{drafted_of, totals_of_tree, EntryFault, FailsWhere, FsError, Fs, Finishes, answer_by, seen, IsIn, Mounted}
+use Rattle.lfs_fs.proofs.Prelude.{Serves, segments_of, written, IsMapOf, IsShaped, opened_file, room_shaped}
 use Rattle.lfs_model.specs.declared.Kind.TheVariants as kind
-use Rattle.lfs_model.specs.Bytes.{AreBytes}
-use Rattle.lfs_model.specs.Call.{Answer, Call, Count, Done, Pwrite, Truncate, cleans, never_for_device, takes_no_memory}
-use Rattle.lfs_model.specs.Checkpoint.{CheckpointValue}
-use Rattle.lfs_model.specs.Device.{DeviceState, IsLawful}
 use Rattle.lfs_model.specs.Entry as entry
-use Rattle.lfs_model.specs.Objects.{IsHeaderOf}
-use Rattle.lfs_model.specs.Stands.{LogMap}
-use Rattle.lfs_model.specs.Step.{with_tree}
-use Rattle.lfs_model.specs.Tree.{State}
 use Rattle.lfs_files.specs.declared.fault.LogFault.TheVariants as log
 use Rattle.lfs_files.specs.declared.header.Header.{Header}
 use Rattle.lfs_files.specs.Files as files
-use Rattle.lfs_files.specs.Files.{Counts, FilesState, HasSized, HasWritten, IsLoneWrite}
-use Rattle.lfs_files.specs.Headers.{as_header, resized}
-use Rattle.lfs_path.specs.Seeing.{HasHeader, HasObject}
-use Rattle.lfs_store.specs.declared.draft.Draft.{Draft}
-use Rattle.lfs_store.specs.declared.store.Store.{Store}
-use Rattle.lfs_store.specs.Seen.{StagedLog, files_of}
-use Rattle.lfs_store.specs.StoreState.{IsEmpty, draft_of, drafted_of}
-use Rattle.lfs_store.proofs.TreeTotals.{totals_of_tree}
-use Rattle.lfs_entries.specs.declared.fault.EntryFault.{EntryFault}
+use Rattle.lfs_files.specs.Files.{Counts, HasSized, HasWritten, IsLoneWrite}
+use Rattle.lfs_files.specs.Headers.{as_header}
 use Rattle.lfs_entries.specs.declared.fault.EntryFault.TheVariants as fault
 use Rattle.lfs_entries.specs.Bytes.{DraftsBytes, DraftsLength}
-use Rattle.lfs_entries.specs.Telling.{FailsWhere}
-use Rattle.lfs_fs.specs.declared.error.FsError.{FsError}
-use Rattle.lfs_fs.specs.declared.fs.Fs.{Fs}
-use Rattle.lfs_fs.specs.Finishing.{Finishes}
-use Rattle.lfs_fs.specs.Seen.{answer_by, seen}
-use Rattle.lfs_fs.specs.Volume.{IsIn, Mounted, Serves, segments_of}
 use Rattle.lfs_fs.proofs.calls.Files.{InEach, IsBegun, Makes, apart_now, counted_now, finish_ends, fits_now, gives_up_where, has_now}
 use Rattle.lfs_fs.proofs.calls.Files.{still_ready, told, with_store}
 use Rattle.lfs_fs.proofs.calls.Steps.{pwrite_ends}
 use Rattle.lfs_fs.proofs.volume.Map.{headers_of_volume, map_of_volume, shape_of_volume}
-use Rattle.lfs_steps.proofs.open_files.Steps.{cut_all_done, shortened, written}
+use Rattle.lfs_steps.proofs.open_files.Steps.{cut_all_done, shortened}
 use Rattle.lfs_steps.proofs.volume.Headers.{file_fits}
-use Rattle.lfs_steps.proofs.volume.Nodes.{IsMapOf, IsShaped, opened_file, room_shaped}
 use Rattle.lfs_steps.proofs.write.Bytes.{written_log}
 use Rattle.lfs_steps.proofs.write.Lengths.{shortened_map, shortened_shape}
 

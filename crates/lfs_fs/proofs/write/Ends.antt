@@ -1,47 +1,27 @@
 -- Calls that draft a change, from what they read to what becomes of the draft, as steps of the model.
-use Rattle.std.proofs.Common.{◌≡◌, ◌<◌, ◌≤◌, ◌+◌, ◌/◌, ◌^◌, ℕ, Bool, true, false, length, Ok, Err, refl, sym, ◌∙◌, ap, subst}
-use Rattle.std.proofs.Common.{inl, inr, ⊎_elim, arith, List, ◌*◌, ◌&&◌}
-use Rattle.std.specs.Prelude.{IsTrue, Result, OnOk, IfErr}
-use Rattle.lfs_model.specs.Call.{Call, Answer, Refuse, changes, is_ok, may_write, takes_no_memory, cleans, never_for_device}
-use Rattle.lfs_model.specs.Checkpoint.{CheckpointValue}
-use Rattle.lfs_model.specs.Crash.{StandsForOn}
-use Rattle.lfs_model.specs.Device.{AllLeft, Carries, DeviceState, IsLawful, LeavesOnly}
+use Rattle.lfs_fs.proofs.Prelude.{◌≡◌, ◌<◌, ◌≤◌, ◌+◌, ◌/◌, ◌^◌, ℕ, Bool, true, false, length, Ok, Err, refl, sym, ◌∙◌, ap, subst, inl, inr}
+use Rattle.lfs_fs.proofs.Prelude.{⊎_elim, arith, List, ◌*◌, ◌&&◌, IsTrue, Result, OnOk, IfErr, Call, Answer, Refuse, changes, is_ok}
+use Rattle.lfs_fs.proofs.Prelude.{may_write, takes_no_memory, cleans, never_for_device, CheckpointValue, StandsForOn, AllLeft, Carries}
+use Rattle.lfs_fs.proofs.Prelude.{DeviceState, IsLawful, LeavesOnly, LogMap, Handles, State, dropped, carries_then, goes_on, joined}
+use Rattle.lfs_fs.proofs.Prelude.{started, HaltsLater, MayNotMakeRoom, most_checkpoints, room_orders, Holds, LogState, Reads, StoreFault}
+use Rattle.lfs_fs.proofs.Prelude.{BlockTotals, Order, commit_orders, Accepts, Declines, IsAcceptFault, FsError, Fs, StagesDraft, TellsFew}
+use Rattle.lfs_fs.proofs.Prelude.{TurnsDown, need_of, error_of_store, refusal_of, answer_by, seen, Behaves, CommitsFew, IsIn, IsStill}
+use Rattle.lfs_fs.proofs.Prelude.{Mounted, Serves, TellsAtMost, segments_of, IsMapOf, Step, acknowledges, draft_of, drafted_of, with_draft}
+use Rattle.lfs_fs.proofs.Prelude.{AreTotals, Draft, acknowledged, held_still, reads_more, reads_none, few_checkpoints}
 use Rattle.lfs_model.specs.Refusal as refusal
-use Rattle.lfs_model.specs.Stands.{LogMap}
-use Rattle.lfs_model.specs.Tree.{Handles, State}
-use Rattle.lfs_model.specs.TreeOf.{dropped}
-use Rattle.lfs_model.proofs.Moments.{carries_then, goes_on, joined, started}
 use Rattle.lfs_files.specs.declared.fault.LogFault.TheVariants as log
-use Rattle.lfs_store.specs.cleaner.Room.{HaltsLater, MayNotMakeRoom, most_checkpoints, room_orders}
-use Rattle.lfs_store.specs.log.LogState.{Holds, LeavesSaved, LogState, Reads}
-use Rattle.lfs_files.specs.declared.fault.StoreFault.{StoreFault}
+use Rattle.lfs_store.specs.log.LogState.{LeavesSaved}
 use Rattle.lfs_files.specs.declared.fault.StoreFault.TheVariants as store
-use Rattle.lfs_store.specs.log.verify.declared.totals.BlockTotals.{BlockTotals}
-use Rattle.lfs_model.specs.declared.Order.{Order}
-use Rattle.lfs_store.specs.log.Saving.{commit_orders}
-use Rattle.lfs_store.specs.Accepting.{Accepts, Declines, IsAcceptFault, SavesFew}
-use Rattle.lfs_fs.specs.declared.error.FsError.{FsError}
+use Rattle.lfs_store.specs.Accepting.{SavesFew}
 use Rattle.lfs_fs.specs.declared.error.FsError.TheVariants as error
-use Rattle.lfs_fs.specs.declared.fs.Fs.{Fs}
-use Rattle.lfs_fs.specs.Accepting.{IsDeclined, StagesDraft, TellsFew, TurnsDown, limit_of, need_of}
-use Rattle.lfs_fs.specs.Faults.{error_of_store}
-use Rattle.lfs_fs.specs.Refusals.{refusal_of}
-use Rattle.lfs_fs.specs.Seen.{answer_by, seen}
-use Rattle.lfs_fs.specs.Volume.{Behaves, CommitsFew, IsIn, IsStill, Mounted, Serves, TellsAtMost, segments_of}
+use Rattle.lfs_fs.specs.Accepting.{IsDeclined, limit_of}
 use Rattle.lfs_fs.proofs.calls.AnyDevice.{IsBounded, IsOrdinary, change_bounded, change_writes, commits_none, not_both, not_halted}
 use Rattle.lfs_fs.proofs.calls.AnyDevice.{ok_refuses_none, still_behaves, write_behaves}
 use Rattle.lfs_fs.proofs.save.Declined.{accept_fault_serves, no_room_serves}
 use Rattle.lfs_fs.proofs.calls.Drafts.{InEach, IsRest, not_acknowledged, accepts_by}
-use Rattle.lfs_steps.proofs.volume.Nodes.{IsMapOf}
 use Rattle.lfs_fs.proofs.clean.Room.{has_room}
 use Rattle.lfs_fs.proofs.calls.Exits.{clean_still, halts_at, map_dropped, point_of, served_still, still_in}
-use Rattle.lfs_model.specs.Step.{Step}
-use Rattle.lfs_model.specs.Run.{acknowledges}
-use Rattle.lfs_store.specs.StoreState.{Fits, draft_of, drafted_of, with_draft}
-use Rattle.lfs_store.specs.Recounting.{AreTotals}
-use Rattle.lfs_store.specs.declared.draft.Draft.{Draft}
-use Rattle.lfs_store.proofs.of_log.LogReads.{acknowledged, held_still, reads_more, reads_none}
-use Rattle.lfs_store.proofs.Known.{few_checkpoints}
+use Rattle.lfs_store.specs.StoreState.{Fits}
 use Rattle.lfs_fs.proofs.calls.Steps.{not_worn, refused_not_worn, worn}
 
 -- why a draft isn't staged, by the fault of the store

@@ -1,21 +1,9 @@
 -- Calls of open files that are refused, or do nothing, before a change is drafted.
-use Rattle.std.proofs.Common.{◌≡◌, ◌<◌, ◌≤◌, ◌+◌, ◌^◌, ◌==◌, ℕ, suc, false, true, List, [], ◌∷◌, length, get_or, Some, None, refl, sym, ◌∙◌}
-use Rattle.std.proofs.Common.{ap, subst, inl, inr, arith}
-use Rattle.std.proofs.lemmas.Bool.Decides.{nat_tests}
-use Rattle.std.specs.Ordering.{nat_cmp}
-use Rattle.std.specs.FinMap.{find}
-use Rattle.lfs_model.specs.Bytes.{AreBytes}
-use Rattle.lfs_model.specs.Call.{Answer, Call, Count, Pwrite, Refuse, Truncate, cleans}
-use Rattle.lfs_model.specs.Device.{DeviceState, IsLawful}
-use Rattle.lfs_model.specs.Refusal.{BadHandle, FileTooBig, Inval, Worn}
-use Rattle.lfs_model.specs.Step.{Step}
-use Rattle.lfs_model.specs.Tree.{State}
-use Rattle.lfs_fs.specs.declared.error.FsError.{FsError}
+use Rattle.lfs_fs.proofs.Prelude.{◌≡◌, ◌<◌, ◌≤◌, ◌+◌, ◌^◌, ◌==◌, ℕ, suc, false, true, List, [], ◌∷◌, length, get_or, Some, None, refl, sym}
+use Rattle.lfs_fs.proofs.Prelude.{◌∙◌, ap, subst, inl, inr, arith, nat_tests, nat_cmp, find, AreBytes, Answer, Call, Count, Pwrite, Refuse}
+use Rattle.lfs_fs.proofs.Prelude.{Truncate, cleans, DeviceState, IsLawful, BadHandle, FileTooBig, Inval, Worn, Step, State, FsError, Fs}
+use Rattle.lfs_fs.proofs.Prelude.{refusal_of, Begins, GivesNone, seen, Mounted, Serves, segments_of}
 use Rattle.lfs_fs.specs.declared.error.FsError.TheVariants as error
-use Rattle.lfs_fs.specs.declared.fs.Fs.{Fs}
-use Rattle.lfs_fs.specs.Refusals.{refusal_of}
-use Rattle.lfs_fs.specs.Seen.{Begins, GivesNone, seen}
-use Rattle.lfs_fs.specs.Volume.{Mounted, Serves, segments_of}
 use Rattle.lfs_fs.proofs.calls.Steps.{not_worn, worn}
 use Rattle.lfs_steps.proofs.open_files.Steps.{cut_bad_handle, cut_too_big, write_bad_handle, write_nothing, write_too_big, write_too_much}
 use Rattle.lfs_fs.proofs.calls.Exits.{point_of, served_halted, served_still}

@@ -1,5 +1,4 @@
-use Rattle.std.proofs.lemmas.Result.{err_from_is_err_and}
-use Rattle.std.proofs.Common.{Some, inl}
+use Rattle.lfs_fs.proofs.Prelude.{err_from_is_err_and, Some, inl}
 use Rattle.lfs_fs.proofs.new_entries.Ends.{bytes_of}
 use Rattle.lfs_fs.proofs.paths.Places.{place_lacks, place_ready, place_reached}
 use Rattle.lfs_fs.proofs.fs.Fs.begin_at.Goals as goal

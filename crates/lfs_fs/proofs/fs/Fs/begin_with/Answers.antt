@@ -1,9 +1,7 @@
-use Rattle.std.proofs.lemmas.Result.{err_from_is_err_and}
-use Rattle.std.proofs.Common.{ap, Err}
+use Rattle.lfs_fs.proofs.Prelude.{err_from_is_err_and, ap, Err, seen}
 use Rattle.lfs_fs.proofs.calls.Answers.{finds_object, refuses_path}
 use Rattle.lfs_fs.proofs.read.Ends.{halted_serves}
 use Rattle.lfs_fs.proofs.fs.Fs.begin_with.Goals as goal
-use Rattle.lfs_fs.specs.Seen.{seen}
 
 pub returns-in_err-begin-clause-refused : goal.returns-in_err-begin-clause-refused
 returns-in_err-begin-clause-refused g c =

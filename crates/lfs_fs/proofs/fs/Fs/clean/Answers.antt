@@ -1,9 +1,7 @@
-use Rattle.std.proofs.lemmas.Result.{err_from_is_err_and}
-use Rattle.std.proofs.Common.{Err, ap}
+use Rattle.lfs_fs.proofs.Prelude.{err_from_is_err_and, Err, ap, seen}
 use Rattle.lfs_fs.proofs.clean.Ends.{clean_fails, cleaned_serves, worn_serves}
 use Rattle.lfs_fs.proofs.save.Ends.{not_halted}
 use Rattle.lfs_fs.proofs.write.Exits.{begun, halted_begin, still_running}
-use Rattle.lfs_fs.specs.Seen.{seen}
 use Rattle.lfs_fs.proofs.fs.Fs.clean.Goals as goal
 
 pub returns-in_err-begin-clause-serves : goal.returns-in_err-begin-clause-serves

@@ -1,5 +1,4 @@
-use Rattle.std.proofs.lemmas.Result.{err_from_is_err_and}
-use Rattle.lfs_fs.specs.Seen.{seen}
+use Rattle.lfs_fs.proofs.Prelude.{err_from_is_err_and, seen}
 use Rattle.lfs_fs.proofs.open_files.Closes.{close_shared, close_unopened}
 use Rattle.lfs_fs.proofs.write.Exits.{begun, halted_begin, still_running}
 use Rattle.lfs_fs.proofs.fs.Fs.close.Goals as goal

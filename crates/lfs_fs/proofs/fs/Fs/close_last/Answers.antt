@@ -1,5 +1,4 @@
-use Rattle.std.proofs.lemmas.Result.{err_from_is_err_and}
-use Rattle.std.proofs.Common.{ap, Err}
+use Rattle.lfs_fs.proofs.Prelude.{err_from_is_err_and, ap, Err}
 use Rattle.lfs_fs.proofs.calls.Files.{here_begun}
 use Rattle.lfs_fs.proofs.open_files.Closes.{close_faults, close_last, close_named, close_unread}
 use Rattle.lfs_fs.proofs.fs.Fs.close_last.Goals as goal

@@ -1,21 +1,13 @@
-use Rattle.std.proofs.Common.{false, refl, sym, ◌∙◌, ap, subst, arith, ◌≤◌}
-use Rattle.std.proofs.lemmas.Result.{err_from_is_err_and}
-use Rattle.std.specs.Ordering.{nat_cmp}
-use Rattle.std.specs.FinMap.{put}
-use Rattle.lfs_model.specs.Call.{Create, Handle}
-use Rattle.lfs_model.specs.Tree.{Handles, least_handle}
-use Rattle.lfs_store.proofs.of_memory.Going.{ok_then}
-use Rattle.lfs_fs.specs.Volume.{segments_of}
-use Rattle.lfs_fs.specs.Seen.{seen}
+use Rattle.lfs_fs.proofs.Prelude.{false, refl, sym, ◌∙◌, ap, subst, arith, ◌≤◌, err_from_is_err_and, nat_cmp, put, Create, Handle, Handles}
+use Rattle.lfs_fs.proofs.Prelude.{least_handle, ok_then, segments_of, seen, at_most, not_at_most, checks_new}
 use Rattle.lfs_fs.proofs.calls.AnyDevice.{makes_behaves}
-use Rattle.lfs_steps.proofs.calls.Checks.{at_most, not_at_most}
 use Rattle.lfs_fs.proofs.calls.Files.{takes_draft}
 use Rattle.lfs_fs.proofs.paths.Steps.{create_refused}
 use Rattle.lfs_fs.proofs.new_entries.Drafts.{entry_opens, entry_turned}
 use Rattle.lfs_fs.proofs.new_entries.Ends.{bytes_of}
 use Rattle.lfs_fs.proofs.new_entries.Outcomes.{entry_refused, number_refused, own_refused}
 use Rattle.lfs_fs.proofs.new_entries.Rule.{read, unreached}
-use Rattle.lfs_steps.proofs.new_entries.Steps.{checks_new, create_call}
+use Rattle.lfs_steps.proofs.new_entries.Steps.{create_call}
 use Rattle.lfs_fs.proofs.fs.Fs.create.Goals as goal
 
 -- the path is refused, or has no piece

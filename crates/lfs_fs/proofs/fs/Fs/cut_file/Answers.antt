@@ -1,6 +1,4 @@
-use Rattle.std.proofs.Common.{arith}
-use Rattle.lfs_store.proofs.of_memory.Going.{ok_then}
-use Rattle.lfs_fs.specs.Seen.{seen}
+use Rattle.lfs_fs.proofs.Prelude.{arith, ok_then, seen}
 use Rattle.lfs_fs.proofs.calls.Files.{here_begun, takes_draft}
 use Rattle.lfs_fs.proofs.write.Drafts.{cut_ends}
 use Rattle.lfs_fs.proofs.fs.Fs.cut_file.Goals as goal

@@ -1,9 +1,4 @@
-use Rattle.std.proofs.Common.{Err, refl, ap, arith}
-use Rattle.std.proofs.lemmas.Result.{err_from_is_err_and}
-use Rattle.lfs_model.specs.Call.{LinkTo}
-use Rattle.lfs_store.proofs.of_memory.Going.{ok_then}
-use Rattle.lfs_fs.specs.Seen.{seen}
-use Rattle.lfs_fs.specs.Volume.{segments_of}
+use Rattle.lfs_fs.proofs.Prelude.{Err, refl, ap, arith, err_from_is_err_and, LinkTo, ok_then, seen, segments_of}
 use Rattle.lfs_fs.proofs.calls.Files.{takes_draft}
 use Rattle.lfs_fs.proofs.link.Drafts.{link_ends}
 use Rattle.lfs_fs.proofs.link.Outcomes.{many_refused, may_link, name_refused, names_object, second_begins, second_lacks}

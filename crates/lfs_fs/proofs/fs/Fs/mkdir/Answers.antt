@@ -1,18 +1,13 @@
-use Rattle.std.proofs.Common.{true, refl, ap, ◌∙◌, arith}
-use Rattle.std.proofs.lemmas.Result.{err_from_is_err_and}
-use Rattle.lfs_model.specs.Call.{Mkdir}
+use Rattle.lfs_fs.proofs.Prelude.{true, refl, ap, ◌∙◌, arith, err_from_is_err_and, Mkdir, ok_then, segments_of, seen, at_most, not_at_most}
+use Rattle.lfs_fs.proofs.Prelude.{checks_new}
 use Rattle.lfs_model.specs.Image.{new_form}
-use Rattle.lfs_store.proofs.of_memory.Going.{ok_then}
-use Rattle.lfs_fs.specs.Volume.{segments_of}
-use Rattle.lfs_fs.specs.Seen.{seen}
-use Rattle.lfs_steps.proofs.calls.Checks.{at_most, not_at_most}
 use Rattle.lfs_fs.proofs.calls.Files.{takes_draft}
 use Rattle.lfs_fs.proofs.paths.Steps.{mkdir_refused}
 use Rattle.lfs_fs.proofs.new_entries.Drafts.{entry_ends}
 use Rattle.lfs_fs.proofs.new_entries.Ends.{bytes_of}
 use Rattle.lfs_fs.proofs.new_entries.Outcomes.{entry_refused, number_refused, own_refused}
 use Rattle.lfs_fs.proofs.new_entries.Rule.{read, unreached}
-use Rattle.lfs_steps.proofs.new_entries.Steps.{checks_new, mkdir_call}
+use Rattle.lfs_steps.proofs.new_entries.Steps.{mkdir_call}
 use Rattle.lfs_fs.proofs.fs.Fs.mkdir.Goals as goal
 
 -- the path is refused, or has no piece

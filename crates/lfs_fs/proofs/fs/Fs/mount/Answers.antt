@@ -1,10 +1,6 @@
-use Rattle.std.proofs.Common.{subst, sym}
-use Rattle.lfs_model.specs.Device.{Only}
-use Rattle.lfs_fs.specs.declared.fs.Fs.{Fs}
-use Rattle.lfs_fs.specs.Mounting.{FindsState, IsMountFault, MountsFs}
+use Rattle.lfs_fs.proofs.Prelude.{subst, sym, Only, Fs, FindsState, IsMountFault, MountsFs, seen}
 use Rattle.lfs_fs.proofs.mount.Ends.{durable_now, finds_state, memory_fault, memory_reason, mounts_fs, only_there, tables_there}
 use Rattle.lfs_fs.proofs.fs.Fs.mount.Goals as goal
-use Rattle.lfs_fs.specs.Seen.{seen}
 
 pub with_tables-requires-clause-found : goal.with_tables-requires-clause-found
 with_tables-requires-clause-found g c =

@@ -1,10 +1,7 @@
-use Rattle.std.proofs.lemmas.Result.{err_from_is_err_and}
-use Rattle.std.proofs.Common.{ap, Err}
-use Rattle.lfs_model.specs.Call.{Pread}
+use Rattle.lfs_fs.proofs.Prelude.{err_from_is_err_and, ap, Err, Pread, seen}
 use Rattle.lfs_fs.proofs.read.Calls.{pread_fails, pread_gives, pread_too_much, pread_without}
 use Rattle.lfs_fs.proofs.read.Ends.{halted_serves}
 use Rattle.lfs_fs.proofs.fs.Fs.pread.Goals as goal
-use Rattle.lfs_fs.specs.Seen.{seen}
 
 pub returns-in_err-begin : goal.returns-in_err-begin
 returns-in_err-begin g c =

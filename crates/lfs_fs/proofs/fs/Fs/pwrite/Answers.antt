@@ -1,6 +1,4 @@
-use Rattle.std.proofs.lemmas.Result.{err_from_is_err_and}
-use Rattle.std.proofs.Common.{◌∙◌, length, sym, arith}
-use Rattle.lfs_fs.specs.Seen.{seen}
+use Rattle.lfs_fs.proofs.Prelude.{err_from_is_err_and, ◌∙◌, length, sym, arith, seen}
 use Rattle.lfs_fs.proofs.write.Exits.{begun, halted_begin, none_of, some_of, still_running, write_none, write_none_worn, write_past}
 use Rattle.lfs_fs.proofs.write.Exits.{write_refused, write_unopened}
 use Rattle.lfs_fs.proofs.fs.Fs.pwrite.Goals as goal

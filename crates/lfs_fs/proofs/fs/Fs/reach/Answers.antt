@@ -1,9 +1,4 @@
-use Rattle.std.proofs.lemmas.Result.{err_from_is_err_and}
-use Rattle.std.proofs.Common.{Err, Option, ap, inl, inr, refl, subst}
-use Rattle.lfs_path.specs.declared.last.Last.{Last}
-use Rattle.lfs_path.specs.Lasts.{HasLast}
-use Rattle.lfs_path.specs.Reaching.{EndsParent}
-use Rattle.lfs_path.specs.Trees.{here}
+use Rattle.lfs_fs.proofs.Prelude.{err_from_is_err_and, Err, Option, ap, inl, inr, refl, subst, Last, HasLast, EndsParent, here}
 use Rattle.lfs_fs.proofs.paths.Places.{path_read}
 use Rattle.lfs_fs.proofs.calls.StoreCalls.{ends_parent, ends_refused}
 use Rattle.lfs_fs.proofs.fs.Fs.reach.Goals as goal

@@ -1,6 +1,4 @@
-use Rattle.std.proofs.lemmas.Result.{err_from_is_err_and}
-use Rattle.std.proofs.Common.{ap, refl, Err}
-use Rattle.lfs_model.specs.Call.{Readdir}
+use Rattle.lfs_fs.proofs.Prelude.{err_from_is_err_and, ap, refl, Err, Readdir}
 use Rattle.lfs_fs.proofs.calls.Answers.{looked, unlooked}
 use Rattle.lfs_fs.proofs.paths.Steps.{readdir_refused}
 use Rattle.lfs_fs.proofs.read.Calls.{no_directory, readdir_fails, readdir_gives}

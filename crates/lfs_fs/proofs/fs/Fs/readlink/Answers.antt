@@ -1,6 +1,4 @@
-use Rattle.std.proofs.lemmas.Result.{err_from_is_err_and}
-use Rattle.std.proofs.Common.{ap, refl, Err}
-use Rattle.lfs_model.specs.Call.{Readlink}
+use Rattle.lfs_fs.proofs.Prelude.{err_from_is_err_and, ap, refl, Err, Readlink}
 use Rattle.lfs_fs.proofs.paths.Steps.{readlink_refused}
 use Rattle.lfs_fs.proofs.read.Calls.{readlink_fails, readlink_gives}
 use Rattle.lfs_fs.proofs.fs.Fs.readlink.Goals as goal

@@ -1,9 +1,4 @@
-use Rattle.std.proofs.lemmas.Result.{err_from_is_err_and}
-use Rattle.std.proofs.Common.{ap, refl, Err}
-use Rattle.lfs_model.specs.Call.{Rename}
-use Rattle.lfs_path.specs.Reaching.{EndsParent}
-use Rattle.lfs_fs.specs.Seen.{seen}
-use Rattle.lfs_fs.specs.Volume.{segments_of}
+use Rattle.lfs_fs.proofs.Prelude.{err_from_is_err_and, ap, refl, Err, Rename, EndsParent, seen, segments_of}
 use Rattle.lfs_fs.proofs.calls.Files.{with_store}
 use Rattle.lfs_fs.proofs.calls.StoreCalls.{ends_parent, ends_refused}
 use Rattle.lfs_fs.proofs.new_entries.Ends.{bytes_of}

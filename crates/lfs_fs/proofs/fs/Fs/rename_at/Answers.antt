@@ -1,9 +1,4 @@
-use Rattle.std.proofs.lemmas.Result.{err_from_is_err_and}
-use Rattle.std.proofs.Common.{Err, Option, ap, arith, subst, sym, ◌∙◌}
-use Rattle.lfs_store.proofs.of_memory.Going.{ok_then}
-use Rattle.lfs_store.specs.Seen.{files_of}
-use Rattle.lfs_entries.specs.declared.moving.Source.{Source}
-use Rattle.lfs_entries.specs.declared.moving.Target.{Target}
+use Rattle.lfs_fs.proofs.Prelude.{err_from_is_err_and, Err, Option, ap, arith, subst, sym, ◌∙◌, ok_then, files_of, Source, Target}
 use Rattle.lfs_entries.specs.Renaming.{TakesRename}
 use Rattle.lfs_fs.proofs.paths.Places.{path_read, ready_after}
 use Rattle.lfs_fs.proofs.rename.Outcomes.{checks_refused, dots_first, dots_second, move_ends, no_first, no_second, same_ends}

@@ -1,5 +1,4 @@
-use Rattle.std.proofs.lemmas.Result.{err_from_is_err_and}
-use Rattle.std.proofs.Common.{ap, Err}
+use Rattle.lfs_fs.proofs.Prelude.{err_from_is_err_and, ap, Err}
 use Rattle.lfs_fs.proofs.new_entries.Ends.{bytes_of}
 use Rattle.lfs_fs.proofs.paths.Places.{path_read, ready_after}
 use Rattle.lfs_fs.proofs.rename.Paths.{reaches_both, second_ends}

@@ -1,6 +1,4 @@
-use Rattle.std.proofs.lemmas.Result.{err_from_is_err_and}
-use Rattle.std.proofs.Common.{ap, Err}
-use Rattle.lfs_fs.specs.Reading.{stat_call}
+use Rattle.lfs_fs.proofs.Prelude.{err_from_is_err_and, ap, Err, stat_call}
 use Rattle.lfs_fs.proofs.calls.Answers.{looked, unlooked}
 use Rattle.lfs_fs.proofs.paths.Steps.{stat_cleans, stat_may_fail, stat_memory, stat_refused}
 use Rattle.lfs_fs.proofs.read.Calls.{stat_gives}

@@ -1,16 +1,11 @@
-use Rattle.std.proofs.Common.{false, refl, arith}
-use Rattle.std.proofs.lemmas.Result.{err_from_is_err_and}
-use Rattle.lfs_model.specs.Call.{Refuse, Symlink}
-use Rattle.lfs_store.proofs.of_memory.Going.{ok_then}
-use Rattle.lfs_fs.specs.Refusals.{refusal_of}
-use Rattle.lfs_fs.specs.Seen.{seen}
-use Rattle.lfs_fs.specs.Volume.{segments_of}
+use Rattle.lfs_fs.proofs.Prelude.{false, refl, arith, err_from_is_err_and, Refuse, Symlink, ok_then, refusal_of, seen, segments_of}
+use Rattle.lfs_fs.proofs.Prelude.{checks_new}
 use Rattle.lfs_fs.proofs.calls.Files.{takes_draft}
 use Rattle.lfs_fs.proofs.new_entries.Drafts.{entry_ends}
 use Rattle.lfs_fs.proofs.new_entries.Ends.{bytes_of, text_ends}
 use Rattle.lfs_fs.proofs.new_entries.Outcomes.{entry_refused, number_refused}
 use Rattle.lfs_fs.proofs.new_entries.Rule.{read, unreached}
-use Rattle.lfs_steps.proofs.new_entries.Steps.{checks_new, symlink_call}
+use Rattle.lfs_steps.proofs.new_entries.Steps.{symlink_call}
 use Rattle.lfs_fs.proofs.paths.Steps.{symlink_refused}
 use Rattle.lfs_fs.proofs.paths.Places.{place_begins, place_lacks}
 use Rattle.lfs_fs.proofs.read.Ends.{begun_serves, halted_serves}

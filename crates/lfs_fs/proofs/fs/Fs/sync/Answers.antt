@@ -1,5 +1,4 @@
-use Rattle.std.proofs.lemmas.Result.{err_from_is_err_and}
-use Rattle.std.proofs.Common.{Err, ap}
+use Rattle.lfs_fs.proofs.Prelude.{err_from_is_err_and, Err, ap}
 use Rattle.lfs_fs.proofs.save.Ends.{not_halted, sync_done_serves, sync_fails}
 use Rattle.lfs_fs.proofs.write.Exits.{begun, halted_begin, still_running}
 use Rattle.lfs_fs.proofs.fs.Fs.sync.Goals as goal

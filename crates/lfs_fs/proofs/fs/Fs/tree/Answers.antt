@@ -1,10 +1,7 @@
-use Rattle.std.proofs.lemmas.Result.{err_from_is_err_and}
-use Rattle.std.proofs.Common.{ap, arith, Err}
-use Rattle.lfs_model.specs.Call.{ListTree}
+use Rattle.lfs_fs.proofs.Prelude.{err_from_is_err_and, ap, arith, Err, ListTree, seen}
 use Rattle.lfs_fs.proofs.read.Ends.{halted_serves}
 use Rattle.lfs_fs.proofs.list.Trees.{tree_fails, tree_full, tree_gives, tree_more, tree_none}
 use Rattle.lfs_fs.proofs.fs.Fs.tree.Goals as goal
-use Rattle.lfs_fs.specs.Seen.{seen}
 
 pub returns-in_err-begin : goal.returns-in_err-begin
 returns-in_err-begin g c =

@@ -1,9 +1,4 @@
-use Rattle.std.proofs.Common.{Err, Some, ap, arith, refl}
-use Rattle.std.proofs.lemmas.Result.{err_from_is_err_and}
-use Rattle.lfs_model.specs.Call.{Unlink}
-use Rattle.lfs_store.proofs.of_memory.Going.{ok_then}
-use Rattle.lfs_fs.specs.Seen.{seen}
-use Rattle.lfs_fs.specs.Volume.{segments_of}
+use Rattle.lfs_fs.proofs.Prelude.{Err, Some, ap, arith, refl, err_from_is_err_and, Unlink, ok_then, seen, segments_of}
 use Rattle.lfs_fs.proofs.calls.Files.{begun_read, takes_draft, with_store}
 use Rattle.lfs_fs.proofs.old_entries.Rule.{entry_refused, no_piece_perm}
 use Rattle.lfs_fs.proofs.paths.Places.{nowhere_serves}

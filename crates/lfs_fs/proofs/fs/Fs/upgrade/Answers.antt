@@ -1,7 +1,4 @@
-use Rattle.std.proofs.lemmas.Result.{err_from_is_err_and}
-use Rattle.std.proofs.Common.{rules, ◌≡◌, sym, ◌∙◌}
-use Rattle.lfs_model.specs.Call.{Done, Upgrade}
-use Rattle.lfs_fs.specs.Seen.{answer_by, seen}
+use Rattle.lfs_fs.proofs.Prelude.{err_from_is_err_and, rules, ◌≡◌, sym, ◌∙◌, Done, Upgrade, answer_by, seen}
 use Rattle.lfs_fs.proofs.read.Ends.{begun_serves, halted_serves}
 use Rattle.lfs_fs.proofs.widen.Upgrades.{upgrade_ends, upgrade_nothing}
 use Rattle.lfs_fs.proofs.fs.Fs.upgrade.Goals as goal

@@ -1,8 +1,7 @@
-use Rattle.std.proofs.lemmas.Result.{err_from_is_err_and}
+use Rattle.lfs_fs.proofs.Prelude.{err_from_is_err_and, seen}
 use Rattle.lfs_model.specs.Call as call
 use Rattle.lfs_fs.proofs.read.Ends.{begun_version, halted_serves}
 use Rattle.lfs_fs.proofs.fs.Fs.version.Goals as goal
-use Rattle.lfs_fs.specs.Seen.{seen}
 
 pub returns-in_err-begin : goal.returns-in_err-begin
 returns-in_err-begin g c =

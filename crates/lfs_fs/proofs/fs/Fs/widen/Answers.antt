@@ -1,7 +1,4 @@
-use Rattle.std.proofs.lemmas.Result.{err_from_is_err_and}
-use Rattle.std.proofs.Common.{refl}
-use Rattle.lfs_model.specs.Call.{Widen}
-use Rattle.lfs_fs.specs.Seen.{seen}
+use Rattle.lfs_fs.proofs.Prelude.{err_from_is_err_and, refl, Widen, seen}
 use Rattle.lfs_steps.proofs.widen.Steps.{widen_refused}
 use Rattle.lfs_fs.proofs.fs.Fs.widen.Goals as goal
 

@@ -1,5 +1,4 @@
-use Rattle.std.proofs.lemmas.Result.{err_from_is_err_and}
-use Rattle.std.proofs.Common.{rules, Err, ◌≡◌, ◌≢◌, ap, refl, sym, ◌∙◌}
+use Rattle.lfs_fs.proofs.Prelude.{err_from_is_err_and, rules, Err, ◌≡◌, ◌≢◌, ap, refl, sym, ◌∙◌}
 use Rattle.lfs_fs.proofs.calls.Answers.{looked, unlooked}
 use Rattle.lfs_fs.proofs.widen.Ends.{narrow_reached, no_directory, old_before, old_volume, wide_already, young_before}
 use Rattle.lfs_fs.proofs.fs.Fs.widen_at.Goals as goal

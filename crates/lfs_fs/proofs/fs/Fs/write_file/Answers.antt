@@ -1,6 +1,4 @@
-use Rattle.std.proofs.Common.{rules, arith}
-use Rattle.lfs_store.proofs.of_memory.Going.{ok_then}
-use Rattle.lfs_fs.specs.Seen.{seen}
+use Rattle.lfs_fs.proofs.Prelude.{rules, arith, ok_then, seen}
 use Rattle.lfs_fs.proofs.calls.Files.{here_begun}
 use Rattle.lfs_fs.proofs.write.Drafts.{lone_write, write_ends}
 use Rattle.lfs_fs.proofs.write.Exits.{bytes_of}

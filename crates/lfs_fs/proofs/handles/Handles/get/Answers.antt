@@ -1,5 +1,4 @@
-use Rattle.std.proofs.Common.{◌≡◌, ◌≤◌, None, get_or, sym, subst, ◌∙◌, ap, length}
-use Rattle.lfs_fs.specs.Handles.{number_in}
+use Rattle.lfs_fs.proofs.Prelude.{◌≡◌, ◌≤◌, None, get_or, sym, subst, ◌∙◌, ap, length, number_in}
 use Rattle.lfs_fs.proofs.open_files.Tables.{Places, find_handle, find_past}
 use Rattle.lfs_fs.proofs.handles.Handles.get.Goals as goal
 

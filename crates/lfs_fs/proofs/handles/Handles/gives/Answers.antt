@@ -1,6 +1,4 @@
-use Rattle.std.proofs.Common.{Option, arith, subst}
-use Rattle.lfs_model.specs.declared.number.FileNumber.{FileNumber}
-use Rattle.lfs_fs.specs.Handles.{HasNumber}
+use Rattle.lfs_fs.proofs.Prelude.{Option, arith, subst, FileNumber, HasNumber}
 use Rattle.lfs_fs.proofs.open_files.FreedPlaces.{is_open, is_shut}
 use Rattle.lfs_fs.proofs.open_files.Tables.{place_read}
 use Rattle.lfs_fs.proofs.handles.Handles.gives.Goals as goal

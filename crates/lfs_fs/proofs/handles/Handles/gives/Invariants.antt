@@ -1,5 +1,4 @@
-use Rattle.std.proofs.Common.{◌<◌, ℕ, None, get_or}
-use Rattle.lfs_fs.specs.Handles.{HasNumber}
+use Rattle.lfs_fs.proofs.Prelude.{◌<◌, ℕ, None, get_or, HasNumber}
 use Rattle.lfs_fs.proofs.handles.Handles.gives.Given as goal
 
 abbrev pub invariant-loop-handle : goal.invariant-loop-handle

@@ -1,6 +1,4 @@
-use Rattle.std.proofs.Common.{Option, arith, subst}
-use Rattle.lfs_model.specs.declared.number.FileNumber.{FileNumber}
-use Rattle.lfs_fs.specs.Handles.{HasNumber}
+use Rattle.lfs_fs.proofs.Prelude.{Option, arith, subst, FileNumber, HasNumber}
 use Rattle.lfs_fs.proofs.open_files.FreedPlaces.{no_other_open, other_open}
 use Rattle.lfs_fs.proofs.open_files.Tables.{place_read}
 use Rattle.lfs_fs.proofs.handles.Handles.is_shared.Goals as goal

@@ -1,5 +1,4 @@
-use Rattle.std.proofs.Common.{◌∙◌, ap}
-use Rattle.lfs_fs.specs.Handles.{handles_of}
+use Rattle.lfs_fs.proofs.Prelude.{◌∙◌, ap, handles_of}
 use Rattle.lfs_fs.proofs.open_files.Tables.{none_open}
 use Rattle.lfs_fs.proofs.handles.Handles.new.Goals as goal
 

@@ -1,5 +1,4 @@
-use Rattle.std.proofs.Common.{◌≡◌, None}
-use Rattle.std.specs.Prelude.{replicate}
+use Rattle.lfs_fs.proofs.Prelude.{◌≡◌, None, replicate}
 use Rattle.lfs_fs.proofs.handles.Handles.new.Given as goal
 
 abbrev pub invariant-loop : goal.invariant-loop
