@@ -32,15 +32,8 @@ impl<D: SectorDevice> Fs<D> {
         let Some(number) = self.store.least_free() else {
             return Err(FsError::NoNumber);
         };
-        let object = NewObject::Link(text);
-        let drafted = draft_entry(
-            &mut self.store,
-            directory,
-            holder,
-            number,
-            object,
-            last.name,
-        );
+        let (object, name) = (NewObject::Link(text), last.name);
+        let drafted = draft_entry(&mut self.store, directory, holder, number, object, name);
         self.finish(drafted)
     }
 }
