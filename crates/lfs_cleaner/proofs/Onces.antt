@@ -1,9 +1,8 @@
 -- One pass where it is due, behind a commit of what is unsaved.
-use Rattle.std.proofs.Common.{◌≡◌, ◌<◌, ◌≤◌, ◌+◌, ◌*◌, ◌/◌, inl, ⊎_elim, ℕ, true, false, length, sym, subst, arith}
+use Rattle.std.proofs.Common.{◌≡◌, ◌<◌, ◌≤◌, ◌+◌, ◌*◌, ◌/◌, inl, ⊎_elim, ℕ, false, sym, subst, arith}
 use Rattle.std.proofs.Math.Nat.{mul-le-mul_right, one-mul}
 use Rattle.lfs_model.specs.Checkpoint.{IsSegmentCount}
 use Rattle.lfs_model.specs.Device.{DeviceState, IsLawful}
-use Rattle.lfs_log.specs.memory.segments.Table.{clean_in}
 use Rattle.lfs_log.specs.LogState.{AreAllSaved, LogState, Reads}
 use Rattle.lfs_log.specs.Saving.{commit_orders, pass_orders}
 use Rattle.lfs_cleaner.specs.Passing.{FailsPass, IsUnfit, RefusesPass}

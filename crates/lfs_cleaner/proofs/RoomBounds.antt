@@ -4,17 +4,16 @@ use Rattle.std.proofs.Common.{sym, ◌∙◌, ap, subst}
 use Rattle.std.proofs.Common.{arith}
 use Rattle.std.specs.Prelude.{Result, Ok, Err, IsErrOf, OnErr, OnOk}
 use Rattle.std.proofs.lemmas.Bool.{cases_Bool}
-use Rattle.lfs_model.specs.Checkpoint.{CheckpointValue, IsSegmentCount}
+use Rattle.lfs_model.specs.Checkpoint.{CheckpointValue}
 use Rattle.lfs_model.specs.declared.Order.{Order}
 use Rattle.lfs_model.specs.Device.{DeviceState, IsLawful}
 use Rattle.lfs_model.specs.Stands.{LogMap}
 use Rattle.lfs_model.specs.Totals.{IsCounted}
 use Rattle.lfs_model.specs.TreeOf.{dropped}
 use Rattle.lfs_log.proofs.LogReads.{segment_count}
-use Rattle.lfs_log.specs.memory.segments.Table.{clean_in}
 use Rattle.lfs_log.specs.verify.declared.totals.BlockTotals.{BlockTotals}
 use Rattle.lfs_log.specs.segments.Early.{AreUntaken}
-use Rattle.lfs_log.specs.LogState.{AreAllSaved, LogState, Halts, Holds, IsFull, Saves, commits_due}
+use Rattle.lfs_log.specs.LogState.{AreAllSaved, LogState, Halts, IsFull, Saves, commits_due}
 use Rattle.lfs_log.specs.memory.files.declared.fault.LogFault.{LogFault}
 use Rattle.lfs_log.specs.memory.files.declared.fault.LogFault.TheVariants as log
 use Rattle.lfs_cleaner.specs.Passing.{CanPass}

@@ -1,12 +1,11 @@
 -- A pass of the cleaner, and where one may be made.
-use Rattle.std.specs.Prelude.{◌≡◌, ◌<◌, ◌≤◌, ◌+◌, ◌-◌, ◌*◌, ◌^◌, ℕ, List, length}
+use Rattle.std.specs.Prelude.{◌≡◌, ◌<◌, ◌≤◌, ◌+◌, ◌-◌, ◌*◌, ◌^◌, ℕ, List}
 use Rattle.lfs_model.specs.Checkpoint.{CheckpointValue}
 use Rattle.lfs_model.specs.declared.limits.TheConstants.{LEAST_NEED, NEED_OF_META, NEED_OF_SEGMENT}
 use Rattle.lfs_model.specs.Device.{DeviceState}
 use Rattle.lfs_model.specs.Encodes.{IsLogMap}
 use Rattle.lfs_model.specs.Stands.{LogMap}
 use Rattle.lfs_model.specs.Totals.{data_in, meta_in}
-use Rattle.lfs_log.specs.segments.Table.{clean_in}
 use Rattle.lfs_log.specs.segments.Victims.{AreVictims, IsChosen, pass_limit}
 use Rattle.lfs_log.specs.Cleaning.{Cleans}
 use Rattle.lfs_log.specs.Thresholds.{IsEighthClean}

@@ -7,7 +7,6 @@ use Rattle.lfs_model.specs.Encodes.{IsLogMap}
 use Rattle.lfs_model.specs.Stands.{LogMap}
 use Rattle.lfs_model.specs.Totals.{IsCounted}
 use Rattle.lfs_model.specs.TreeOf.{dropped}
-use Rattle.lfs_log.specs.memory.segments.Table.{clean_in}
 pub use Rattle.lfs_log.specs.LogState.{IsAtRest}
 use Rattle.lfs_log.specs.LogState.{LogState, Holds, IsSaved, LeavesSaved, AreAllSaved, Saves, commits_due}
 use Rattle.lfs_log.specs.Saving.{commit_orders, pass_orders}

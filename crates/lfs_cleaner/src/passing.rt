@@ -10,12 +10,13 @@ use lfs_log::thresholds::most_victims;
 use lfs_log::{Log, LogFault};
 
 /// Empties the segments that are chosen by benefit and cost, or by their blocks (`victims`): an
-/// eighth of all and one at most, by which one is gained at least.
+/// eighth of all and one at most, by which one is gained at least. All that lives in them is
+/// relocated, whole or not at all, and then saved.
 ///
 /// # Errors
 ///
 /// `Full` where no list of an eighth of the segments and one at most gains one, or where
-/// `Log::clean` refuses it: nothing changed. Where the log holds a log map for which a pass may be
+/// `Log::relocate` refuses it: nothing changed. Where the log holds a log map for which a pass may be
 /// made (`CanPass`), it never answers so. `Device` where a call of the device failed before
 /// anything was written: nothing changed. `Halted` where one failed later, or as the log was
 /// written before.
@@ -41,5 +42,12 @@ pub fn pass<D: SectorDevice>(log: &mut Log<D>) -> Result<(), LogFault>
     let Some(chosen) = victims(log.usage(), log.meta(), most, log.number()) else {
         return Err(LogFault::Full);
     };
-    log.clean(chosen.as_slice())
+    match log.relocate(chosen.as_slice()) {
+        Ok(()) => {}
+        Err(fault) => return Err(fault),
+    }
+    match log.commit_relocated() {
+        Ok(()) => Ok(()),
+        Err(fault) => Err(fault),
+    }
 }

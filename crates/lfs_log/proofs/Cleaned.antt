@@ -1,26 +1,30 @@
 -- Segments whose blocks came into memory: nothing lives there, and a commit makes them clean.
-use Rattle.std.proofs.Common.{◌≡◌, ◌<◌, ◌≤◌, ⊎_elim, ℕ, zero, suc, Bool, true, false, List, [], ◌∷◌, length, get_or, refl}
+use Rattle.std.proofs.Common.{◌≡◌, ◌<◌, ◌≤◌, ⊎_elim, ℕ, zero, suc, Bool, true, false, List, [], ◌∷◌, Option, length, get_or, refl}
 use Rattle.std.proofs.Common.{sym, ◌∙◌, ap, ap₂, subst, arith, ◌&&◌, eq-eqb}
 use Rattle.std.specs.List.{AllByRecursion}
 use Rattle.std.proofs.lemmas.Bool.{cond-true}
 use Rattle.lfs_model.specs.Checkpoint.{CheckpointValue}
 use Rattle.lfs_model.specs.Device.{DeviceState}
+use Rattle.lfs_model.specs.Entry.{Entry}
 use Rattle.lfs_model.specs.Members.{IsIn, AreApart}
 use Rattle.lfs_model.specs.Running.{Running, IsTight}
 use Rattle.lfs_model.specs.Stands.{LogMap, count_up}
 use Rattle.lfs_model.proofs.EmptySegment.{empty_segment}
 use Rattle.lfs_model.proofs.Live.{count_up_none, count_up_more}
+use Rattle.lfs_memory.specs.segments.Chunk.{Chunk}
 use Rattle.lfs_memory.specs.segments.Emptied.{IsEmptied}
 use Rattle.lfs_memory.specs.segments.Spare.{is_emptied, emptied_in}
 use Rattle.lfs_memory.specs.segments.Steps.{Releases, is_empty}
 use Rattle.lfs_memory.specs.segments.Table.{SegmentNumbers, UsageTable, no_segment, used_of}
-use Rattle.lfs_memory.specs.inodes.Blocks.{Blocks, TableValue, blocks_in}
+use Rattle.lfs_memory.specs.inodes.MapValue.{MapValue}
+use Rattle.lfs_memory.specs.inodes.Blocks.{Blocks, TableValue, blocks_in, blocks_of}
 use Rattle.lfs_memory.specs.declared.memory.LogMemory.{LogMemory}
 use Rattle.lfs_memory.specs.Changing.{Tightens}
 use Rattle.lfs_memory.specs.Memory.{IsLog, IsLoose, tables_of, segment_in, chunk_in}
 use Rattle.lfs_memory.specs.Present.{FailsFromDevice}
 use Rattle.lfs_memory.proofs.BlockSteps.{tightened_log}
 use Rattle.lfs_memory.proofs.Looses.{loose}
+use Rattle.lfs_memory.proofs.Opened.{closed_chunk, closed_segment}
 use Rattle.lfs_memory.proofs.of_segments.EmptiedGained.{count_gained}
 use Rattle.lfs_memory.proofs.of_segments.Spare.{passes}
 use Rattle.lfs_log.specs.Cleaning.{AreCleanable, AreEmptied, Crowds, Empties, Overfills}
@@ -54,65 +58,82 @@ empties a b v v' v'' vs one emptied go = record {
   memory = go.stays.memory one.memory;
   segments = go.stays.segments ∙ one.segments;
   clean = go.stays.clean ∙ one.clean;
-  chunk = go.stays.chunk ∙ one.chunk;
+  chunk = ap (λ (c : Chunk). c.names) (go.stays.chunk ∙ one.chunk);
   emptied = subst (λ (u : UsageTable). AreEmptied u vs) (sym go.usage) emptied;
   log = λ k m0 m keeps is. tightened_log b v' v'' k m0 m go (one.gathers.traces k m0 m keeps (loose a v k m0 m is)).0;
 }
 
--- ---- another limit of the table of blocks
-module _ (v : LogMemory) (t : TableValue) (same : t.blocks ≡ v.dirty.blocks) where
-  abbrev limited : LogMemory
-  limited = record { map = v.map; usage = v.usage; dirty = t; chunk = v.chunk }
+-- a table by its parts
+table_by : (t : TableValue) (bs : Blocks) (limit : ℕ) → t.blocks ≡ bs → t.capacity.limit ≡ limit
+    → t ≡ record { blocks = bs; capacity = record { limit = limit; room = t.capacity.room } }
+table_by t bs limit blocks same =
+    ap (λ (b : Blocks). record t { blocks = b }) blocks ∙ ap (λ (n : ℕ). by_limit n) same
+  where
+    by_limit : ℕ → TableValue
+    by_limit n = record { blocks = bs; capacity = record { limit = n; room = t.capacity.room } }
 
-  pub limited_log : (d : DeviceState) (k : CheckpointValue) (m0 m : LogMap) → IsLog d v k m0 m
-      → IsLog d (record { map = v.map; usage = v.usage; dirty = t; chunk = v.chunk }) k m0 m
-  limited_log d k m0 m is = record {
-    running = subst (λ (bs : Blocks). Running d (blocks_in bs) (tables_of v) k m0 m (segment_in v.chunk) (chunk_in v.chunk))
-        (sym same) is.running;
+-- ---- memory with the same tables and blocks, and another limit; neither has begun a chunk
+abbrev pub beside : LogMemory → TableValue → Chunk → LogMemory
+beside v t c = record { map = v.map; usage = v.usage; dirty = t; chunk = c }
+
+-- with tables that are copies of its own
+pub by_tables : (P : LogMemory → Type 0) (v : LogMemory) (map : MapValue) (usage : UsageTable) (t : TableValue) (c : Chunk) → map ≡ v.map
+    → usage ≡ v.usage → P (record { map = map; usage = usage; dirty = t; chunk = c }) → P (beside v t c)
+by_tables P v map usage t c same_map same_usage is =
+    subst (λ (u : UsageTable). P (record { map = v.map; usage = u; dirty = t; chunk = c })) same_usage
+    (subst (λ (m : MapValue). P (record { map = m; usage = usage; dirty = t; chunk = c })) same_map is)
+
+module _ (v : LogMemory) (t : TableValue) (c : Chunk) (same : t.blocks ≡ v.dirty.blocks) (ended : v.chunk.names ≡ [])
+    (closed : c.names ≡ []) where
+  begun : (segment_in v.chunk ≡ segment_in c) × (chunk_in v.chunk ≡ chunk_in c)
+  begun =
+      let one = ap length ended in
+      let two = ap length closed in
+      (closed_segment v.chunk one ∙ sym (closed_segment c two), closed_chunk v.chunk one ∙ sym (closed_chunk c two))
+
+  running_beside : (d : DeviceState) (k : CheckpointValue) (m0 m : LogMap)
+      → Running d (blocks_of v.dirty) (tables_of v) k m0 m (segment_in v.chunk) (chunk_in v.chunk)
+      → Running d (blocks_of t) (tables_of v) k m0 m (segment_in c) (chunk_in c)
+  running_beside d k m0 m is =
+      subst (λ (bs : Blocks). Running d (blocks_in bs) (tables_of v) k m0 m (segment_in c) (chunk_in c)) (sym same)
+      (subst (λ (o : Option (List Entry)). Running d (blocks_of v.dirty) (tables_of v) k m0 m (segment_in c) o) begun.1
+      (subst (λ (s : ℕ). Running d (blocks_of v.dirty) (tables_of v) k m0 m s (chunk_in v.chunk)) begun.0 is))
+
+  pub log_beside : (d : DeviceState) (k : CheckpointValue) (m0 m : LogMap) → IsLog d v k m0 m → IsLog d (beside v t c) k m0 m
+  log_beside d k m0 m is = record {
+    running = running_beside d k m0 m is.running;
     hidden = is.hidden;
     segments = is.segments;
     tight = subst (λ (bs : Blocks). IsTight (blocks_in bs)) (sym same) is.tight;
   }
 
-  pub limited_excused : (a b : DeviceState) → FailsFromDevice a b (record { map = v.map; usage = v.usage; dirty = t; chunk = v.chunk })
-      → FailsFromDevice a b v
-  limited_excused a b failed k m0 m keeps is = failed k m0 m keeps (record {
-    running = subst (λ (bs : Blocks). Running a (blocks_in bs) (tables_of v) k m0 m (segment_in v.chunk) (chunk_in v.chunk))
-        (sym same) is.running;
-    hidden = is.hidden;
-    segments = is.segments;
-  })
+  pub loose_beside : (d : DeviceState) (k : CheckpointValue) (m0 m : LogMap) → IsLoose d v k m0 m → IsLoose d (beside v t c) k m0 m
+  loose_beside d k m0 m is =
+      record { running = running_beside d k m0 m is.running; hidden = is.hidden; segments = is.segments }
 
-  pub limited_empties : (a b : DeviceState) (v' : LogMemory) (vs : List ℕ)
-      → Empties a b (record { map = v.map; usage = v.usage; dirty = t; chunk = v.chunk }) v' vs → Empties a b v v' vs
-  limited_empties a b v' vs one = record {
+  pub empties_beside : (a b : DeviceState) (v' : LogMemory) (vs : List ℕ) → Empties a b (beside v t c) v' vs → Empties a b v v' vs
+  empties_beside a b v' vs one = record {
     looks = one.looks;
     memory = one.memory;
     segments = one.segments;
     clean = one.clean;
-    chunk = one.chunk;
+    chunk = one.chunk ∙ closed ∙ sym ended;
     emptied = one.emptied;
-    log = λ k m0 m keeps is. one.log k m0 m keeps (limited_log a k m0 m is);
+    log = λ k m0 m keeps is. one.log k m0 m keeps (log_beside a k m0 m is);
   }
 
--- a table by its parts
-pub table_by : (t : TableValue) (bs : Blocks) (l r : ℕ) → t.blocks ≡ bs → t.capacity.limit ≡ l → t.capacity.room ≡ r
-    → t ≡ record { blocks = bs; capacity = record { limit = l; room = r } }
-table_by t bs l r blocks limit room =
-    ap (λ (b : Blocks). record t { blocks = b }) blocks ∙ ap (λ (n : ℕ). by_limit n) limit ∙ ap (λ (n : ℕ). by_room n) room
-  where
-    by_limit : ℕ → TableValue
-    by_limit n = record { blocks = bs; capacity = record { limit = n; room = t.capacity.room } }
+  pub fails_beside : (a b : DeviceState) → FailsFromDevice a b (beside v t c) → FailsFromDevice a b v
+  fails_beside a b failed k m0 m keeps is = failed k m0 m keeps (loose_beside a k m0 m is)
 
-    by_room : ℕ → TableValue
-    by_room n = record { blocks = bs; capacity = record { limit = l; room = n } }
-
-pub overfills : (a b : DeviceState) (v : LogMemory) (t : TableValue) (most : ℕ) (w : LogMemory) → t.blocks ≡ v.dirty.blocks
-    → t.capacity.limit ≡ most → t.capacity.room ≡ v.dirty.capacity.room
-    → (vs : List ℕ) → Crowds a b (record { map = v.map; usage = v.usage; dirty = t; chunk = v.chunk }) w vs → Overfills a b v vs most
-overfills a b v t most w blocks limit room vs one =
-    let same = table_by t v.dirty.blocks most v.dirty.capacity.room blocks limit room in
-    (w, subst (λ (t : TableValue). Crowds a b (record { map = v.map; usage = v.usage; dirty = t; chunk = v.chunk }) w vs) same one)
+  pub overfills : (a b : DeviceState) (most : ℕ) (w : LogMemory) (vs : List ℕ) → t.capacity.limit ≡ most
+      → Crowds a b (beside v t c) w vs → Overfills a b v vs most
+  overfills a b most w vs limit one = record {
+    room = t.capacity.room;
+    chunk = c;
+    closed = closed;
+    after = w;
+    crowds = subst (λ (t : TableValue). Crowds a b (beside v t c) w vs) (table_by t v.dirty.blocks most same limit) one;
+  }
 
 -- ---- how many were emptied
 no_test : ℕ → Bool

@@ -1,5 +1,6 @@
 -- The log over its device, as full chunks of data blocks are written between commits.
-use Rattle.std.proofs.Common.{◌≡◌, ◌<◌, ◌≤◌, ◌⊎◌, ⊎_elim, inl, inr, ◌+◌, cond, ℕ, Bool, true, false, length, sym, ◌∙◌, ap, ap₂, subst}
+use Rattle.std.proofs.Common.{◌≡◌, ◌<◌, ◌≤◌, ◌⊎◌, ⊎_elim, inl, inr, ◌+◌, cond, ℕ, Bool}
+use Rattle.std.proofs.Common.{true, false, [], length, sym, ◌∙◌, ap, ap₂, subst}
 use Rattle.std.proofs.Common.{arith}
 use Rattle.std.specs.Prelude.{max}
 use Rattle.lfs_model.specs.Crash.{StandsOn, StandsForOn}
@@ -16,7 +17,7 @@ use Rattle.lfs_log.specs.Early.{WritesChunks, full_chunk}
 use Rattle.lfs_log.specs.Thresholds.{reserve_of}
 use Rattle.lfs_memory.proofs.of_inodes.Data.{no_data}
 use Rattle.lfs_log.specs.LogState.{Halts, IsAtRest, WritesEarly}
-use Rattle.lfs_log.specs.Held.{Held, NothingWaits, WaitsUnlessSaved, seen}
+use Rattle.lfs_log.specs.Held.{Held, IsReadyToSave, NothingWaits, WaitsForPass, WaitsUnlessSaved, seen}
 use Rattle.lfs_log.proofs.Unsaved.{none_left}
 
 module _ {D : Type 0} (state : D → DeviceState) where
@@ -56,13 +57,15 @@ module _ {D : Type 0} (state : D → DeviceState) where
     moment = λ k m0 m keeps is. c.goes.1.quiet k m0 m keeps is.log;
   }
     where
-      -- nothing is written where all is saved
+      -- nothing is written where no block waits
+      unwritten : h.memory.dirty.blocks ≡ [] → h' ≡ h
+      unwritten empty = let none = no_data h.memory.dirty empty in idle (omega (arith, none))
+
       rest_early : IsAtRest (seen h) → IsAtRest (seen h')
       rest_early rest =
           let empty = rest.nothing.blocks in
-          let none = no_data h.memory.dirty (none_left h.memory.dirty.blocks (omega (arith, empty))) in
-          let few : data_count h.memory.dirty < full_chunk = omega (arith, none) in
-          subst (λ (x : Held D). IsAtRest (seen x)) (sym (idle few)) rest
+          let none = none_left h.memory.dirty.blocks (omega (arith, empty)) in
+          subst (λ (x : Held D). IsAtRest (seen x)) (sym (unwritten none)) rest
 
   -- a write that failed: what is acknowledged stays
   pub early_halts : (h h' : Held D) → Stops (state h.device) (state h'.device) h.memory → h'.halted ≡ true → h'.saved ≡ false
@@ -78,11 +81,15 @@ module _ {D : Type 0} (state : D → DeviceState) where
         (StandsForOn k.segments m0 (dropped m)) (λ x h. inl h) (stops.quiet k m0 m keeps is.log);
   }
 
--- nothing waits still, where all is saved
-pub early_waits : (v v' : LogMemory) (upgraded saved : Bool) → WaitsUnlessSaved v upgraded saved
-    → (data_count v.dirty < full_chunk → v' ≡ v) → WaitsUnlessSaved v' upgraded saved
-early_waits v v' upgraded saved waits idle all =
-    let nothing = waits all in
-    let none = no_data v.dirty nothing.blocks in
-    let few : data_count v.dirty < full_chunk = omega (arith, none) in
-    subst (λ (x : LogMemory). NothingWaits x upgraded) (sym (idle few)) nothing
+-- nothing is written where nothing waits, so what is saved stays so, and so does what was relocated
+module _ (v v' : LogMemory) (idle : data_count v.dirty < full_chunk → v' ≡ v) where
+  unwritten : v.dirty.blocks ≡ [] → v' ≡ v
+  unwritten empty = let none = no_data v.dirty empty in idle (omega (arith, none))
+
+  pub early_waits : (upgraded saved : Bool) → WaitsUnlessSaved v upgraded saved → WaitsUnlessSaved v' upgraded saved
+  early_waits upgraded saved waits all =
+      subst (λ (x : LogMemory). NothingWaits x upgraded) (sym (unwritten (waits all).blocks)) (waits all)
+
+  pub early_ready : (pass : LogMemory) (relocated : Bool) → WaitsForPass v pass relocated → WaitsForPass v' pass relocated
+  early_ready pass relocated waits on =
+      subst (λ (x : LogMemory). IsReadyToSave x pass) (sym (unwritten (waits on).nothing)) (waits on)

@@ -1,6 +1,6 @@
 -- What a pass of the cleaner brings into memory fits: its blocks of data stood in the
 -- victims, and of inodes and blocks of pointers there are no more than the log map has.
-use Rattle.std.proofs.Common.{◌≡◌, ◌<◌, ◌≤◌, ◌⊎◌, ⊎_elim, ◌+◌, ◌*◌, ◌-◌, ℕ, List, [], ◌∷◌, length, Some, None, refl, sym, ◌∙◌, ap, subst}
+use Rattle.std.proofs.Common.{◌≡◌, ◌<◌, ◌≤◌, ◌⊎◌, ⊎_elim, ◌+◌, ℕ, List, [], ◌∷◌, length, Some, None, refl, sym, ◌∙◌, ap, subst}
 use Rattle.std.proofs.Common.{arith, inl, inr}
 use Rattle.std.specs.Prelude.{sum_by}
 use Rattle.lfs_model.specs.Checkpoint.{CheckpointValue}
@@ -12,13 +12,15 @@ use Rattle.lfs_model.specs.Memory.{Memory, IsOfFile, IsPointers}
 use Rattle.lfs_model.specs.Stands.{LogMap}
 use Rattle.lfs_model.specs.Totals.{meta_in}
 use Rattle.lfs_model.proofs.MetasCounted.{IsMeta, metas_counted}
-use Rattle.lfs_memory.specs.inodes.Blocks.{Blocks, Capacity, blocks_of, blocks_in}
+use Rattle.lfs_memory.specs.inodes.Blocks.{Blocks, Capacity, TableValue, blocks_of, blocks_in}
 use Rattle.lfs_memory.specs.segments.Victims.{load_of}
 use Rattle.lfs_memory.specs.declared.memory.LogMemory.{LogMemory}
 use Rattle.lfs_memory.specs.Lifting.{IsInMemory}
 use Rattle.lfs_memory.specs.Memory.{IsLog, IsLoose, segment_in}
-use Rattle.lfs_log.specs.Cleaning.{Crowds, Overfills, limited, most_brought}
+use Rattle.lfs_log.specs.Cleaning.{Crowds, Overfills, limited}
 use Rattle.lfs_log.specs.Relocating.{IsAmong, IsDataBlock, StandsWhere}
+use Rattle.lfs_memory.proofs.Looses.{loose}
+use Rattle.lfs_log.proofs.Cleaned.{loose_beside}
 use Rattle.lfs_log.proofs.StoodBlocks.{segments_counted}
 use Rattle.lfs_log.proofs.TableEntries.{entries, count_entries, apart_entries, has_entry, file_entry}
 
@@ -122,7 +124,7 @@ module _ (d : DeviceState) (v : LogMemory) (k : CheckpointValue) (m0 m : LogMap)
       omega (arith, metas, datas, sum)
 
 -- No more blocks are wanted in memory than the victims hold, with all inodes and blocks of pointers.
-pub crowd_fits : (d d' : DeviceState) (v w : LogMemory) (k : CheckpointValue) (m0 m : LogMap) (vs : List ℕ) → d'.keeps_model
+crowd_fits : (d d' : DeviceState) (v w : LogMemory) (k : CheckpointValue) (m0 m : LogMap) (vs : List ℕ) → d'.keeps_model
     → IsLoose d v k m0 m → IsLogMap m → v.dirty.blocks ≡ [] → Crowds d d' v w vs
     → v.dirty.capacity.limit < sum_by (load_of v.usage) vs + meta_in m
 crowd_fits d d' v w k m0 m vs keeps is map nothing one =
@@ -144,12 +146,11 @@ crowd_fits d d' v w k m0 m vs keeps is map nothing one =
     let full = one.full in
     omega (arith, fit, count, limit, full)
 
--- A pass over segments whose blocks, with all inodes and blocks of pointers, fill fewer doesn't overfill memory.
-pub fits : (d d' : DeviceState) (v : LogMemory) (k : CheckpointValue) (m0 m : LogMap) (meta : ℕ) (vs : List ℕ) → d'.keeps_model
-    → IsLog d v k m0 m → IsLogMap m → v.dirty.blocks ≡ [] → meta ≡ meta_in m
-    → sum_by (load_of v.usage) vs + meta + 48 ≤ 63 * (length vs - 1) → Overfills d d' v vs (most_brought (length vs)) → ⊥
-fits d d' v k m0 m meta vs keeps is map nothing counted gain over =
-    let loose : IsLoose d (limited v (most_brought (length vs))) k m0 m =
-    record { running = is.running; hidden = is.hidden; segments = is.segments } in
-    let fewer = crowd_fits d d' (limited v (most_brought (length vs))) over.0 k m0 m vs keeps loose map nothing over.1 in
-    omega (arith, fewer, gain, counted)
+-- so where memory beside the log's is overfilled
+pub overfilled : (d d' : DeviceState) (v : LogMemory) (k : CheckpointValue) (m0 m : LogMap) (vs : List ℕ) (most : ℕ) → d'.keeps_model
+    → IsLog d v k m0 m → IsLogMap m → v.dirty.blocks ≡ [] → v.chunk.names ≡ [] → Overfills d d' v vs most
+    → most < sum_by (load_of v.usage) vs + meta_in m
+overfilled d d' v k m0 m vs most keeps is map nothing closed over =
+    let t : TableValue = record { blocks = v.dirty.blocks; capacity = record { limit = most; room = over.room } } in
+    crowd_fits d d' (limited v most over.room over.chunk) over.after k m0 m vs keeps
+    (loose_beside v t over.chunk refl closed over.closed d k m0 m (loose d v k m0 m is)) map nothing over.crowds

@@ -38,7 +38,7 @@ use Rattle.lfs_verify.specs.declared.fault.MountFault.TheVariants as fault
 use Rattle.lfs_verify.specs.Faults.{IsOpenFault}
 use Rattle.lfs_verify.specs.Verified.{HasLogMap, IsRefusedLog}
 use Rattle.lfs_log.specs.LogState.{LogState, Holds, Mounts}
-use Rattle.lfs_log.specs.Held.{IsReadyToPass}
+use Rattle.lfs_log.specs.Held.{IsPassMemory, IsReadyToPass}
 use Rattle.lfs_log.specs.Mounting.{OpenedLog, OpensLog}
 use Rattle.lfs_log.specs.Opening.{CountsOpened, IsOpened, Opens}
 use Rattle.lfs_memory.specs.segments.Early.{AreUntaken}
@@ -236,9 +236,8 @@ has_log_map d d' t has keeps = let h = has keeps in
     (h.held.log, record { checkpoint = h.held.checkpoint; newest = h.held.newest; stands = h.stands })
 
 -- the log that has it is ready
-pub ready : (d : DeviceState) (v : LogMemory) (before : UsageTable) → IsOpened v d.size → length before.segments ≡ length v.usage.segments
-    → IsReadyToPass d v before
-ready d v before is saved = record {
+pub ready : (d : DeviceState) (v pass : LogMemory) → IsOpened v d.size → IsPassMemory v pass → IsReadyToPass d v pass
+ready d v pass is there = record {
   running = record {
     memory = is.memory;
     room = is.room;
@@ -247,7 +246,7 @@ ready d v before is saved = record {
     wide = is.wide;
     reserved = is.reserved;
   };
-  saved = saved;
+  prepared = there;
 }
 
 -- ---- behind a walk, which only read

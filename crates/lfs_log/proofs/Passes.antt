@@ -1,50 +1,59 @@
--- A pass of the cleaner: what came into memory fits, and its commit makes the segments clean.
-use Rattle.std.proofs.Common.{◌≡◌, ◌≤◌, inl, ◌+◌, ◌-◌, ℕ, Bool, true, false, List, length, get_or, refl, sym, ◌∙◌, ap, subst, arith}
+-- A pass of the cleaner: what is relocated fits, and its commit makes the segments clean.
+use Rattle.std.proofs.Common.{◌≡◌, ◌<◌, ◌≤◌, inl, ◌+◌, ◌-◌, ◌^◌, ℕ, false}
+use Rattle.std.proofs.Common.{true, List, [], Option, Some, None, length, get_or, refl, sym, ◌∙◌}
+use Rattle.std.proofs.Common.{ap, subst, arith}
+use Rattle.std.specs.Prelude.{IfSome}
 use Rattle.lfs_model.specs.Checkpoint.{CheckpointValue}
 use Rattle.lfs_model.specs.Content.{Content}
 use Rattle.lfs_model.specs.Crash.{StandsOn, StandsForOn}
-use Rattle.lfs_model.specs.Device.{DeviceState, IsLawful, AllLeft, LeavesOnly}
+use Rattle.lfs_model.specs.Device.{DeviceState, IsLawful, AllLeft}
 use Rattle.lfs_model.specs.Encodes.{IsLogMap}
 use Rattle.lfs_model.specs.Members.{AreApart}
 use Rattle.lfs_model.specs.Stands.{LogMap}
 use Rattle.lfs_model.specs.TreeOf.{dropped}
 use Rattle.lfs_model.proofs.Moments.{carries_then, joined}
 use Rattle.lfs_model.proofs.Settled.{settled_stands}
+use Rattle.lfs_memory.specs.segments.Chunk.{Chunk}
 use Rattle.lfs_memory.specs.segments.Table.{used_of}
-use Rattle.lfs_memory.specs.segments.Spare.{emptied_in}
 use Rattle.lfs_memory.specs.inodes.Blocks.{TableValue}
 use Rattle.lfs_memory.specs.declared.memory.LogMemory.{LogMemory}
-use Rattle.lfs_memory.specs.Memory.{IsLoose}
-use Rattle.lfs_memory.proofs.Looses.{loose}
-use Rattle.lfs_memory.proofs.Presents.{looks_quiet}
-use Rattle.lfs_log.specs.Cleaning.{ArePacked, Cleans, Empties, MayClean, MayPass, Overfills, limited, most_brought}
-use Rattle.lfs_log.specs.LogState.{AreAllSaved, Halts, Holds}
-use Rattle.lfs_log.specs.Held.{Held, seen}
-use Rattle.lfs_log.specs.Publishing.{IsAcknowledged}
-use Rattle.lfs_log.specs.Saving.{CommitsAll, CommitFails, IsSpared, segments_for}
-use Rattle.lfs_log.proofs.Cleaned.{at_one, emptied_least, limited_log}
-use Rattle.lfs_log.proofs.Fitting.{crowd_fits}
+use Rattle.lfs_memory.specs.Memory.{IsLog}
+use Rattle.lfs_log.specs.Cleaning.{AreEmptied, ArePacked, Cleans, CleansOf, Empties, HaltsRelocated}
+use Rattle.lfs_log.specs.Cleaning.{HoldsRelocated, IsRelocated, MayClean, MayPass, Overfills, most_brought}
+use Rattle.lfs_log.specs.LogState.{AreAllSaved, Halts, Holds, LeavesSaved, LeavesSavedOf, LogState, Reads}
+use Rattle.lfs_log.specs.Held.{Held, IsReadyToSave, seen}
+use Rattle.lfs_log.specs.Saving.{CommitsAll, orders_for, pass_orders, segments_for}
+use Rattle.lfs_log.proofs.Cleaned.{at_one, beside, emptied_least, log_beside}
+use Rattle.lfs_log.proofs.Fitting.{overfilled}
+use Rattle.lfs_log.proofs.LogReads.{held_still, looks_leave}
 use Rattle.lfs_log.proofs.Unsaved.{none_left}
+use Rattle.lfs_log.proofs.Volumes.{acknowledged}
 
 -- ---- room
-pub fewer_taken : (blocks count : ℕ) → 2 ≤ count → blocks ≤ most_brought count → segments_for blocks ≤ count - 1
+fewer_taken : (blocks count : ℕ) → 2 ≤ count → blocks ≤ most_brought count → segments_for blocks ≤ count - 1
 fewer_taken blocks count least few = omega (arith, least, few)
 
-module _ (d d' : DeviceState) (v v' : LogMemory) (vs : List ℕ) (may : MayClean v vs) (apart : AreApart vs) (one : Empties d d' v v' vs)
-    (few : length v'.dirty.blocks ≤ most_brought (length vs)) where
-  pub pass_emptied : length vs ≤ emptied_in v'.usage.segments
-  pass_emptied = emptied_least v'.usage vs apart
-      (λ i lt. let low = (may.each i lt).inside in let size = one.segments in omega (arith, low, size)) one.emptied
-
-  pub pass_spared : IsSpared v'
-  pass_spared =
-      let taken = fewer_taken (length v'.dirty.blocks) (length vs) may.least few in
-      let least = may.least in
-      let many = may.many in
-      let clean = one.clean in
-      let size = one.segments in
-      let gone = pass_emptied in
-      omega (arith, taken, least, many, clean, size, gone)
+-- what was relocated may be saved
+pub ready_to_save : (d d' : DeviceState) (v v' : LogMemory) (vs : List ℕ) → MayClean v vs → AreApart vs → Empties d d' v v' vs
+    → length v'.dirty.blocks ≤ most_brought (length vs) → IsReadyToSave v v'
+ready_to_save d d' v v' vs may apart one few =
+    let emptied = emptied_least v'.usage vs apart
+    (λ i lt. let low = (may.each i lt).inside in let size = one.segments in omega (arith, low, size)) one.emptied in
+    let taken = fewer_taken (length v'.dirty.blocks) (length vs) may.least few in
+    let least = may.least in
+    let most = may.most in
+    let many = may.many in
+    let clean = one.clean in
+    let size = one.segments in
+    record {
+      nothing = may.nothing;
+      memory = one.memory;
+      clean = clean;
+      enough = omega (arith, taken, most, many, clean);
+      few = omega (arith, taken, most, size);
+      gains = omega (arith, taken, least, emptied);
+      spared = omega (arith, taken, least, many, clean, size, emptied);
+    }
 
 -- ---- whether it may begin, and whether its blocks fit
 pub may_begin : {D : Type 0} (h : Held D) (vs : List ℕ) → MayPass (seen h) vs → MayClean h.memory vs
@@ -56,128 +65,169 @@ may_begin h vs may = record {
   each = may.each;
 }
 
--- ---- the whole pass
+-- ---- of two that are known to be one
+pub same_some : {T : Type 0} (P : T → Type 0) (o : Option T) (x y : T) → o ≡ Some x → o ≡ Some y → P x → P y
+same_some {T} P o x y one two is = subst (λ (o : Option T). IfSome o P) (sym one ∙ two) is
+
+-- as many orders as a pass gives at most
+pub few_orders : (v pass : LogMemory) (before after : ℕ) → IsReadyToSave v pass → length pass.usage.segments ≡ length v.usage.segments
+    → after ≤ before + orders_for (length pass.dirty.blocks) → after ≤ before + pass_orders (length v.usage.segments)
+few_orders v pass before after ready size told = let few = ready.few in omega (arith, few, size, told)
+
 module _ {D : Type 0} (state : D → DeviceState) where
-  pub are_packed : (h h' : Held D) (vs : List ℕ) → MayPass (seen h) vs
+  pub are_packed : (h h' : Held D) (vs : List ℕ) → MayPass (seen h) vs → h.memory.chunk.names ≡ []
       → Overfills (state h.device) (state h'.device) h.memory vs (most_brought (length vs)) → ArePacked state (seen h) (seen h') vs
-  are_packed h h' vs may over k m0 m keeps is map =
-      let v = limited h.memory (most_brought (length vs)) in
-      let loose : IsLoose (state h.device) v k m0 m =
-      record { running = is.log.running; hidden = is.log.hidden; segments = is.log.segments } in
-      crowd_fits (state h.device) (state h'.device) v over.0 k m0 m vs keeps loose map (may_begin h vs may).nothing over.1
+  are_packed h h' vs may closed over k m0 m keeps is map =
+      overfilled (state h.device) (state h'.device) h.memory k m0 m vs (most_brought (length vs)) keeps is.log map
+      (may_begin h vs may).nothing closed over
 
-  module _ (h : Held D) (middle : DeviceState) (v : LogMemory) (vs : List ℕ) (lawful : IsLawful (state h.device))
-      (one : Empties (state h.device) middle h.memory v vs) where
-    acknowledged : (k : CheckpointValue) (m0 m : LogMap) → middle.keeps_model → Holds state (seen h) k m0 m → IsLogMap (dropped m)
-        → IsAcknowledged middle v h.version h.number k m0 m
-    acknowledged k m0 m keeps is map = record { log = one.log k m0 m keeps is.log; map = map; same = is.number; same_version = is.version }
-
-    moment_then : (d : DeviceState) (k : CheckpointValue) (m0 m : LogMap) → middle.keeps_model → Holds state (seen h) k m0 m
-        → LeavesOnly middle d (StandsForOn k.segments m0 (dropped m))
-        → LeavesOnly (state h.device) d (StandsForOn k.segments m0 (dropped m))
-    moment_then d k m0 m keeps is moment =
-        let P : Content → Type 0 = λ x. StandsOn k.segments x m0 in
-        let Q : Content → Type 0 = StandsForOn k.segments m0 (dropped m) in
-        joined (state h.device) middle d P Q Q (looks_quiet (state h.device) middle h.memory k m0 m lawful one.looks
-        (loose (state h.device) h.memory k m0 m is.log)) moment (λ x s. inl s) (λ x s. s)
-
-    pub pass_halts : (device : D) (after : LogMemory) → middle.failures ≡ (state h.device).failures
-        → CommitFails middle (state device) v h.version h.number
-        → Halts state (seen h) (seen (record {
-          device = device;
-          memory = after;
-          number = h.number;
-          version = h.version;
-          upgraded = h.upgraded;
-          saved = false;
-          halted = true;
-          totals = h.totals;
-        }))
-    pass_halts device after unfailed fails = record {
-      carries = carries_then (state h.device) middle (state device) one.looks.carries fails.carries;
-      halted = refl;
-      unsaved = refl;
-      number = refl;
-      cause = λ k m0 m keeps is.
-          (let rose = fails.cause k m0 m keeps (one.log k m0 m (fails.carries.kept_before keeps) is.log) in omega (arith, rose, unfailed));
-      left = λ k m0 m keeps is map. fails.left k m0 m keeps (acknowledged k m0 m (fails.carries.kept_before keeps) is map);
-      moment = λ k m0 m keeps is map.
-          let back = fails.carries.kept_before keeps in
-          moment_then (state device) k m0 m back is (fails.moment k m0 m keeps (acknowledged k m0 m back is map));
+  -- ---- what was relocated
+  module _ (h : Held D) (device : D) (pass : LogMemory) (vs : List ℕ)
+      (one : Empties (state h.device) (state device) h.memory pass vs) where
+    pub relocates : h.halted ≡ false → h.number < 2 ^ 64 - 1 → (state device).failures ≡ (state h.device).failures
+        → IsRelocated state (seen h) (seen (record h { device = device; relocated = Some pass })) vs
+    relocates running number unfailed = record {
+      reads = reads;
+      running = running;
+      number = number;
+      emptied = (pass, refl, one.emptied);
+      no_failure = unfailed;
+      holds = λ k m0 m keeps is. record {
+        holds = held_still state (seen h) (seen (record h { device = device; relocated = Some pass })) k m0 m reads is;
+        relocated = λ v there. subst (λ (o : Option LogMemory). IfSome o (λ v. IsLog (state device) v k m0 m)) there
+            (one.log k m0 m keeps is.log);
+      };
     }
+      where
+        reads : Reads state (seen h) (seen (record h { device = device; relocated = Some pass }))
+        reads = record {
+          looks = one.looks;
+          halted = refl;
+          number = refl;
+          version = refl;
+          upgraded = refl;
+          saved = refl;
+          unsaved = refl;
+          totals = refl;
+          segments = refl;
+          clean = refl;
+          emptied = refl;
+          waiting = refl;
+          file_data = refl;
+          usage = refl;
+          inner = refl;
+        }
 
-    pub pass_done : MayClean h.memory vs → AreApart vs → length v.dirty.blocks ≤ most_brought (length vs)
-        → (device : D) (w : LogMemory) (t : TableValue) (halted : Bool) → halted ≡ false → t.blocks ≡ w.dirty.blocks
-        → middle.failures ≡ (state h.device).failures → CommitsAll middle (state device) v w h.version h.number
-        → Cleans state (seen h) (seen (record {
+  -- ---- its commit, whose tables the log's memory takes
+  module _ (h : Held D) (v : LogMemory) (there : h.relocated ≡ Some v) (ready : IsReadyToSave h.memory v)
+      (size : length v.usage.segments ≡ length h.memory.usage.segments) where
+    pub relocated_done : (device : D) (w : LogMemory) (t : TableValue) (c : Chunk) → t.blocks ≡ [] → c.names ≡ [] → h.halted ≡ false
+        → CommitsAll (state h.device) (state device) v w h.version h.number → (vs : List ℕ) → AreEmptied v.usage vs
+        → CleansOf state (HoldsRelocated state (seen h)) (seen h) (seen (record h {
           device = device;
-          memory = record { map = w.map; usage = w.usage; dirty = t; chunk = w.chunk };
+          memory = beside w t c;
           number = h.number + 1;
-          version = h.version;
           upgraded = false;
           saved = true;
-          halted = halted;
-          totals = h.totals;
+          relocated = None;
         })) vs
-    pass_done may apart few device w t halted on same unfailed done = record {
-      carries = carries_then (state h.device) middle (state device) one.looks.carries done.carries;
-      running = on;
+    relocated_done device w t c empty closed running done vs emptied = record {
+      carries = done.carries;
+      running = running;
       number = refl;
-      segments = done.segments ∙ one.segments;
-      cleaned = λ s is. at_one (λ (s : ℕ). used_of w.usage s ≡ 0) vs s (λ i lt. done.cleaned (get_or vs i 0) (one.emptied i lt)) is;
+      segments = done.segments ∙ size;
+      cleaned = λ s is. at_one (λ (s : ℕ). used_of w.usage s ≡ 0) vs s (λ i lt. done.cleaned (get_or vs i 0) (emptied i lt)) is;
       gains =
           let gained = done.gains in
-          let gone = pass_emptied (state h.device) middle h.memory v vs may apart one few in
-          let taken = fewer_taken (length v.dirty.blocks) (length vs) may.least few in
-          let least = may.least in
-          let clean = one.clean in
-          omega (arith, gained, gone, taken, least, clean);
+          let pays = ready.gains in
+          let clean = ready.clean in
+          omega (arith, gained, pays, clean);
       many = done.many;
       saved = refl;
       empty = nothing;
       untaken = done.untaken;
-      no_failure = done.no_failure ∙ unfailed;
+      no_failure = done.no_failure;
       holds = holds;
       left = λ k m0 m keeps is map.
           let n = holds k m0 m keeps is map in
-          let own = n.1.log.segments in
-          let size = done.segments ∙ one.segments in
-          let was = is.log.segments in
-          subst (λ (l : ℕ). AllLeft (state device) (λ c. StandsOn l c (dropped m))) (omega (arith, own, size, was))
+          subst (λ (l : ℕ). AllLeft (state device) (λ c. StandsOn l c (dropped m)))
+          (sym n.1.log.segments ∙ done.segments ∙ size ∙ is.holds.log.segments)
           (settled_stands (state device) n.0 (dropped m) n.1.log.running.settled);
-      moment = λ k m0 m keeps is map.
-          let back = done.carries.kept_before keeps in
-          moment_then (state device) k m0 m back is (done.moment k m0 m keeps (acknowledged k m0 m back is map));
+      moment = λ k m0 m keeps is map. done.moment k m0 m keeps (acknowledged state h v k m0 m is.holds (is.relocated v there) map);
     }
       where
         after : Held D
-        after = record {
-          device = device;
-          memory = record { map = w.map; usage = w.usage; dirty = t; chunk = w.chunk };
-          number = h.number + 1;
-          version = h.version;
-          upgraded = false;
-          saved = true;
-          halted = halted;
-          totals = h.totals;
-        }
+        after =
+            record h {
+              device = device;
+              memory = beside w t c;
+              number = h.number + 1;
+              upgraded = false;
+              saved = true;
+              relocated = None;
+            }
 
         nothing : AreAllSaved (seen after)
-        nothing = record { blocks = ap length (same ∙ done.dirty); version = refl; sectors = done.untaken }
+        nothing = record { blocks = ap length empty; version = refl; sectors = done.untaken }
 
-        holds : (k : CheckpointValue) (m0 m : LogMap) → (state device).keeps_model → Holds state (seen h) k m0 m → IsLogMap (dropped m)
-            → (next : CheckpointValue)
-            × Holds state (seen after) next (dropped m) m
+        holds : (k : CheckpointValue) (m0 m : LogMap) → (state device).keeps_model → HoldsRelocated state (seen h) k m0 m
+            → IsLogMap (dropped m) → (next : CheckpointValue) × Holds state (seen after) next (dropped m) m
         holds k m0 m keeps is map =
-            let n = done.log k m0 m keeps (acknowledged k m0 m (done.carries.kept_before keeps) is map) in (
+            let n = done.log k m0 m keeps (acknowledged state h v k m0 m is.holds (is.relocated v there) map) in (
               n.0,
               record {
-                log = limited_log w t same (state device) n.0 (dropped m) m n.2;
+                log = log_beside w t c (empty ∙ sym done.dirty) done.chunk closed (state device) n.0 (dropped m) m n.2;
                 segments = sym n.2.segments;
                 number = n.1;
-                version = is.version;
-                running = on;
+                version = is.holds.version;
+                running = running;
                 nothing_new = λ all. refl;
                 rest = λ all. record { nothing = nothing; untaken = done.untaken; many = done.many };
               },
             )
+
+  -- ---- both: a pass
+  module _ (a b c : LogState D) (vs : List ℕ) (lawful : IsLawful (state a.device)) (one : IsRelocated state a b vs) where
+    moment_then : ((state c.device).keeps_model → (state b.device).keeps_model) → LeavesSavedOf state (HoldsRelocated state b) b c
+        → LeavesSaved state a c
+    moment_then back moment k m0 m keeps is map =
+        let P : Content → Type 0 = λ x. StandsOn k.segments x m0 in
+        let Q : Content → Type 0 = StandsForOn k.segments m0 (dropped m) in
+        joined (state a.device) (state b.device) (state c.device) P Q Q
+        (looks_leave state a (state b.device) k m0 m lawful one.reads.looks is)
+        (moment k m0 m keeps (one.holds k m0 m (back keeps) is) map) (λ x s. inl s) (λ x s. s)
+
+    pub pass_done : CleansOf state (HoldsRelocated state b) b c vs → Cleans state a c vs
+    pass_done two =
+        let back = two.carries.kept_before in
+        record {
+          carries = carries_then (state a.device) (state b.device) (state c.device) one.reads.looks.carries two.carries;
+          running = two.running;
+          number = two.number ∙ ap (λ (n : ℕ). n + 1) one.reads.number;
+          segments = two.segments ∙ one.reads.segments;
+          cleaned = two.cleaned;
+          gains = let more = two.gains in let same = one.reads.clean in omega (arith, more, same);
+          many = two.many;
+          saved = two.saved;
+          empty = two.empty;
+          untaken = two.untaken;
+          no_failure = two.no_failure ∙ one.no_failure;
+          holds = λ k m0 m keeps is map. two.holds k m0 m keeps (one.holds k m0 m (back keeps) is) map;
+          left = λ k m0 m keeps is map. two.left k m0 m keeps (one.holds k m0 m (back keeps) is) map;
+          moment = moment_then back two.moment;
+        }
+
+    pub pass_halts : HaltsRelocated state b c → Halts state a c
+    pass_halts two =
+        let back = two.carries.kept_before in
+        record {
+          carries = carries_then (state a.device) (state b.device) (state c.device) one.reads.looks.carries two.carries;
+          halted = two.halted;
+          unsaved = two.unsaved;
+          number = two.number ∙ one.reads.number;
+          cause = λ k m0 m keeps is.
+              (let rose = two.cause k m0 m keeps (one.holds k m0 m (back keeps) is) in
+              let same = one.no_failure in omega (arith, rose, same));
+          left = λ k m0 m keeps is map. two.left k m0 m keeps (one.holds k m0 m (back keeps) is) map;
+          moment = moment_then back two.moment;
+        }

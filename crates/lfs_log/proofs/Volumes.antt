@@ -1,7 +1,8 @@
 -- The log over its device: what its calls do, from what is done to device and memory.
 use Rattle.std.specs.Prelude.{Result, Ok, Err}
 use Rattle.std.proofs.lemmas.Bool.{and_parts}
-use Rattle.std.proofs.Common.{◌≡◌, ◌<◌, ◌≤◌, ◌+◌, ◌*◌, ◌&&◌, ◌||◌, cond, ℕ, Bool, true, false, List, Option, length, refl, sym, ◌∙◌, ap}
+use Rattle.std.proofs.Common.{◌≡◌, ◌<◌, ◌≤◌, ◌+◌, ◌*◌, ◌&&◌, ◌||◌, cond, ℕ, Bool}
+use Rattle.std.proofs.Common.{true, false, List, Option, length, refl, sym, ◌∙◌, ap}
 use Rattle.std.proofs.Common.{subst, arith}
 use Rattle.lfs_model.specs.Checkpoint.{CheckpointValue}
 use Rattle.lfs_model.specs.Crash.{StandsOn}
@@ -27,7 +28,7 @@ use Rattle.lfs_memory.specs.inodes.MapValue.{IsUnusedNumber, address_in, is_hidd
 use Rattle.lfs_memory.specs.segments.Early.{AreUntaken}
 use Rattle.lfs_memory.specs.segments.Table.{UsageTable, used_of, kept_of, clean_in}
 use Rattle.lfs_model.specs.Encodes.{HasInode}
-use Rattle.lfs_memory.specs.Memory.{IsLoose}
+use Rattle.lfs_memory.specs.Memory.{IsLog, IsLoose}
 use Rattle.lfs_memory.specs.Lifting.{Prepares}
 use Rattle.lfs_memory.specs.Changing.{Tightens}
 use Rattle.lfs_memory.specs.Removing.{RemovesFile}
@@ -37,7 +38,8 @@ use Rattle.lfs_memory.proofs.Applied.{has_inode}
 use Rattle.lfs_memory.proofs.BlockSteps.{tightened_log}
 use Rattle.lfs_memory.proofs.Presents.{no_inode, same_map}
 use Rattle.lfs_memory.proofs.Versions.{staged_version}
-use Rattle.lfs_log.specs.LogState.{LogState, Holds, Mounts, Saves, Halts, ReadsHeader, ReadsBlock, IsReadFault, Alters, IsStaged, IsRefused}
+use Rattle.lfs_log.specs.LogState.{LogState, Holds, Mounts, Saves, HaltsOf}
+use Rattle.lfs_log.specs.LogState.{ReadsHeader, ReadsBlock, IsReadFault, Alters, IsStaged, IsRefused}
 use Rattle.lfs_log.specs.LogState.{IsStageFault, IsRemoved, IsKept, IsVacant, HasAll, HoldsOne, AreAllSaved, IsAtRest, Reads, ReadsLog}
 use Rattle.lfs_log.specs.Held.{Held, seen}
 use Rattle.lfs_log.proofs.Linked.{all_linked, same_dropped}
@@ -51,9 +53,10 @@ and_true true = refl
 and_true false = refl
 
 module _ {D : Type 0} (state : D → DeviceState) where
-  acknowledged : (h : Held D) (k : CheckpointValue) (m0 m : LogMap) → Holds state (seen h) k m0 m → IsLogMap (dropped m)
-      → IsAcknowledged (state h.device) h.memory h.version h.number k m0 m
-  acknowledged h k m0 m holds map = record { log = holds.log; map = map; same = holds.number; same_version = holds.version }
+  -- what is to be saved, where the log holds a log map and memory stands for it
+  pub acknowledged : (h : Held D) (v : LogMemory) (k : CheckpointValue) (m0 m : LogMap) → Holds state (seen h) k m0 m
+      → IsLog (state h.device) v k m0 m → IsLogMap (dropped m) → IsAcknowledged (state h.device) v h.version h.number k m0 m
+  acknowledged h v k m0 m is log map = record { log = log; map = map; same = is.number; same_version = is.version }
 
   -- checkpoints over as many numbers in memory have as many segments
   pub same_segments : (h h' : LogState D) (k next : CheckpointValue) (m0 m m0' m' : LogMap) → h'.segments ≡ h.segments
@@ -82,7 +85,7 @@ module _ {D : Type 0} (state : D → DeviceState) where
         subst (λ (l : ℕ). AllLeft (state h'.device) (λ c. StandsOn l c (dropped m)))
         (same_segments (seen h) (seen h') k n.0 m0 m (dropped m) m c.segments is n.1)
         (settled_stands (state h'.device) n.0 (dropped m) n.1.log.running.settled));
-    moment = λ k m0 m keeps is map. c.moment k m0 m keeps (acknowledged h k m0 m is map);
+    moment = λ k m0 m keeps is map. c.moment k m0 m keeps (acknowledged h h.memory k m0 m is is.log map);
   }
     where
       nothing : AreAllSaved (seen h')
@@ -91,7 +94,7 @@ module _ {D : Type 0} (state : D → DeviceState) where
       holds : (k : CheckpointValue) (m0 m : LogMap) → (state h'.device).keeps_model → Holds state (seen h) k m0 m → IsLogMap (dropped m)
           → (next : CheckpointValue) × Holds state (seen h') next (dropped m) m
       holds k m0 m keeps is map =
-          let n = c.log k m0 m keeps (acknowledged h k m0 m is map) in (
+          let n = c.log k m0 m keeps (acknowledged h h.memory k m0 m is is.log map) in (
             n.0,
             record {
               log = n.2;
@@ -104,16 +107,19 @@ module _ {D : Type 0} (state : D → DeviceState) where
             },
           )
 
-  pub halts : (h h' : Held D) → CommitFails (state h.device) (state h'.device) h.memory h.version h.number → h'.halted ≡ true
-      → h'.saved ≡ false → h'.number ≡ h.number → Halts state (seen h) (seen h')
-  halts h h' c halted unsaved number = record {
+  -- where `Has` says what the log holds, and that memory stands for it
+  pub halts : (h h' : Held D) (v : LogMemory) (Has : CheckpointValue → LogMap → LogMap → Type 0)
+      → ((k : CheckpointValue) (m0 m : LogMap) → Has k m0 m → Holds state (seen h) k m0 m × IsLog (state h.device) v k m0 m)
+      → CommitFails (state h.device) (state h'.device) v h.version h.number → h'.halted ≡ true → h'.saved ≡ false
+      → h'.number ≡ h.number → HaltsOf state Has (seen h) (seen h')
+  halts h h' v Has stands c halted unsaved number = record {
     carries = c.carries;
     halted = halted;
     unsaved = unsaved;
     number = number;
-    cause = λ k m0 m keeps is. c.cause k m0 m keeps is.log;
-    left = λ k m0 m keeps is map. c.left k m0 m keeps (acknowledged h k m0 m is map);
-    moment = λ k m0 m keeps is map. c.moment k m0 m keeps (acknowledged h k m0 m is map);
+    cause = λ k m0 m keeps is. c.cause k m0 m keeps (stands k m0 m is).1;
+    left = λ k m0 m keeps is map. (let both = stands k m0 m is in c.left k m0 m keeps (acknowledged h v k m0 m both.0 both.1 map));
+    moment = λ k m0 m keeps is map. (let both = stands k m0 m is in c.moment k m0 m keeps (acknowledged h v k m0 m both.0 both.1 map));
   }
 
   -- a mounted log map has no file of no links

@@ -1,5 +1,5 @@
 -- What the steps of a commit, and of a pass, leave as it was.
-use Rattle.std.specs.Prelude.{◌≡◌, length}
+use Rattle.std.specs.Prelude.{◌≡◌, [], length}
 use Rattle.lfs_memory.specs.declared.memory.LogMemory.{LogMemory}
 
 -- all but the chunk that has begun
@@ -31,3 +31,9 @@ pub record KeepsShape (v v' : LogMemory) : Type 0 where
   pub segments : length v'.usage.segments ≡ length v.usage.segments
   pub chunk : v'.chunk ≡ v.chunk
   pub capacity : v'.dirty.capacity ≡ v.dirty.capacity
+
+-- a pass's memory: as many segments as the log has, no chunk that has begun, and the same room for blocks
+pub record KeepsPass (v pass pass' : LogMemory) : Type 0 where
+  pub segments : length pass'.usage.segments ≡ length v.usage.segments
+  pub closed : pass'.chunk.names ≡ []
+  pub room : pass'.dirty.capacity.room ≡ pass.dirty.capacity.room

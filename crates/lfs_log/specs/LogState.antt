@@ -52,8 +52,10 @@ pub record LogState (D : Type 0) : Type 0 where
   pub file_data : ℕ
   -- what lives in each segment, for the cleaner alone
   pub usage : UsageTable
-  -- the rest, of which no layer above speaks
+  -- the rest, of which no layer above speaks: the memory that calls change, and beside it what was relocated and waits for the commit of a
+  -- pass, if anything was
   pub inner : LogMemory
+  pub relocated : Option LogMemory
 
 -- nothing waits for a checkpoint: no block in memory, no version that was raised, and no sector that was taken
 pub record AreAllSaved {D : Type 0} (h : LogState D) : Type 0 where
@@ -98,10 +100,13 @@ module _ {D : Type 0} (state : D → DeviceState) where
   abbrev pub IsSaved : ℕ → LogMap → LogMap → Content → Type 0
   IsSaved segments m0 m c = StandsForOn segments m0 (dropped m) c
 
-  -- a stop at any moment leaves one of these
-  abbrev pub LeavesSaved : LogState D → LogState D → Type 0
-  LeavesSaved h h' = (k : CheckpointValue) (m0 m : LogMap) → (state h'.device).keeps_model → Holds h k m0 m → IsLogMap (dropped m)
+  -- A stop at any moment leaves one of these, where `Has` says what the log holds.
+  abbrev pub LeavesSavedOf : (Has : CheckpointValue → LogMap → LogMap → Type 0) → LogState D → LogState D → Type 0
+  LeavesSavedOf Has h h' = (k : CheckpointValue) (m0 m : LogMap) → (state h'.device).keeps_model → Has k m0 m → IsLogMap (dropped m)
       → LeavesOnly (state h.device) (state h'.device) (IsSaved k.segments m0 m)
+
+  abbrev pub LeavesSaved : LogState D → LogState D → Type 0
+  LeavesSaved h h' = LeavesSavedOf (Holds h) h h'
 
   -- A commit: the present map, without its files of no links, is what is acknowledged.
   pub record Saves (h h' : LogState D) : Type 0 where
@@ -125,17 +130,20 @@ module _ {D : Type 0} (state : D → DeviceState) where
         → AllLeft (state h'.device) (λ c. StandsOn k.segments c (dropped m))
     pub moment : LeavesSaved h h'
 
-  -- One that a failure of the device ended.
-  pub record Halts (h h' : LogState D) : Type 0 where
+  -- One that a failure of the device ended, where `Has` says what the log holds.
+  pub record HaltsOf (Has : CheckpointValue → LogMap → LogMap → Type 0) (h h' : LogState D) : Type 0 where
     pub carries : Carries (state h.device) (state h'.device)
     pub halted : h'.halted ≡ true
     pub unsaved : h'.saved ≡ false
     pub number : h'.number ≡ h.number
-    pub cause : (k : CheckpointValue) (m0 m : LogMap) → (state h'.device).keeps_model → Holds h k m0 m
+    pub cause : (k : CheckpointValue) (m0 m : LogMap) → (state h'.device).keeps_model → Has k m0 m
         → (state h.device).failures < (state h'.device).failures
-    pub left : (k : CheckpointValue) (m0 m : LogMap) → (state h'.device).keeps_model → Holds h k m0 m → IsLogMap (dropped m)
+    pub left : (k : CheckpointValue) (m0 m : LogMap) → (state h'.device).keeps_model → Has k m0 m → IsLogMap (dropped m)
         → AllLeft (state h'.device) (IsSaved k.segments m0 m)
-    pub moment : LeavesSaved h h'
+    pub moment : LeavesSavedOf Has h h'
+
+  abbrev pub Halts : LogState D → LogState D → Type 0
+  Halts h h' = HaltsOf (Holds h) h h'
 
   -- Full chunks of data blocks went to segments that the acknowledged checkpoint doesn't reach. What the log holds stays, what is
   -- acknowledged and what a stop leaves, and as many blocks are unsaved.
@@ -293,3 +301,5 @@ pub record IsWhole {D : Type 0} (h : LogState D) : Type 0 where
   pub blocks : h.waiting ≡ length h.inner.dirty.blocks
   pub memory : h.halted ≡ false → IsMemory h.inner
   pub few : h.halted ≡ false → h.waiting ≤ MOST_UNSAVED
+  pub limit : h.halted ≡ false → h.inner.dirty.capacity.limit ≡ MOST_UNSAVED
+  pub room : h.halted ≡ false → h.inner.dirty.capacity.room ≡ MOST_UNSAVED

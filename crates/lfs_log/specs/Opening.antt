@@ -1,7 +1,7 @@
 -- What a mount makes of the tables: the memory of a log that runs.
-use Rattle.std.specs.Prelude.{◌≡◌, ◌≤◌, ◌+◌, ◌*◌, ◌/◌, ℕ, [], length, None}
+use Rattle.std.specs.Prelude.{◌≡◌, ◌≤◌, ◌+◌, ◌*◌, ℕ, [], length, None}
 use Rattle.lfs_model.specs.Device.{DeviceState}
-use Rattle.lfs_model.specs.declared.limits.TheConstants.{CHECKPOINT_SLOTS, CHUNK_BLOCKS, MOST_UNSAVED, SEGMENT_SECTORS, TABLE_BLOCKS}
+use Rattle.lfs_model.specs.declared.limits.TheConstants.{CHECKPOINT_SLOTS, MOST_UNSAVED, SEGMENT_SECTORS}
 use Rattle.lfs_model.specs.Stands.{LogMap, StandsLog}
 use Rattle.lfs_model.specs.Totals.{IsCounted}
 use Rattle.lfs_verify.specs.declared.totals.BlockTotals.{BlockTotals}
@@ -17,7 +17,7 @@ pub record IsOpened (v : LogMemory) (size : ℕ) : Type 0 where
   pub last : v.usage.last ≡ None
   pub dirty : v.dirty.blocks ≡ []
   pub wide : v.dirty.capacity.limit ≡ MOST_UNSAVED
-  pub reserved : v.dirty.capacity.room + TABLE_BLOCKS ≡ CHUNK_BLOCKS * (length v.usage.segments / 8)
+  pub reserved : v.dirty.capacity.room ≡ MOST_UNSAVED
 
 -- The device holds the log map that it stands for, all of it durable.
 abbrev pub Opens : DeviceState → DeviceState → LogMemory → ℕ → ℕ → Type 0

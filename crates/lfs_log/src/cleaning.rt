@@ -1,10 +1,10 @@
-//! A pass of the cleaner: all that lives in some segments comes into memory, whole or not at all,
-//! and a commit writes it elsewhere. After the cleaner of the Sprite LFS paper (1992, section 3.3).
+//! A pass of the cleaner: all that lives in some segments comes into memory of its own, and a commit
+//! writes it elsewhere. After the cleaner of the Sprite LFS paper (1992, section 3.3).
 ghost use Rattle.std.specs.Prelude.{◌≡◌, ◌<◌, ◌≤◌, ◌+◌, ◌*◌, ◌-◌, ◌/◌, ℕ, [], length, get_or, IfOk, OnOk, OnErr, IsErrOf, IsTrue, IsFalse};
 ghost use Rattle.lfs_memory.specs.segments.Emptied.{IsEmptied};
 ghost use Rattle.lfs_memory.specs.Memory.{HasRoom, IsMemory};
 ghost use Rattle.lfs_log.specs.Cleaning.{AreCleanable, AreEmptied, Crowds, Empties, EndsReading, IsCleanable, MayClean, Overfills, most_brought};
-ghost use Rattle.lfs_log.specs.Keeping.{KeepsShape};
+ghost use Rattle.lfs_log.specs.Keeping.{KeepsPass, KeepsShape};
 ghost use Rattle.lfs_log.specs.Relocating.{EndsRelocating, IsAmong, VacatesAll};
 
 use crate::relocating::{are_in_order, relocate_segment};
@@ -13,34 +13,10 @@ use lfs_cache::CachedDevice;
 use lfs_device::SectorDevice;
 use lfs_memory::LogMemory;
 use lfs_memory::changing::tighten;
-use lfs_memory::inodes::InodeMap;
 use lfs_memory::lifting::LiftFault;
 use lfs_memory::segments::Usage;
 use lfs_model::limits::{CHUNK_BLOCKS, MOST_SEGMENTS, TABLE_BLOCKS};
-use std::alloc::{AllocError, Global};
-
-/// The tables as a pass found them, to be put back where it fails.
-#[derive(Drop)]
-pub struct SavedTables {
-    pub map: InodeMap,
-    pub usage: Usage,
-}
-
-impl SavedTables {
-    /// Memory for the tables of so many segments.
-    ///
-    /// # Errors
-    ///
-    /// Where memory runs out.
-    pub fn with_segments(alloc: Global, segments: u32) -> Result<SavedTables, AllocError>
-        requires { segments ≤ MOST_SEGMENTS }
-        ensures { IfOk result (λ t. length t.usage.segments ≡ segments) }
-    {
-        let map = InodeMap::new(alloc)?;
-        let usage = Usage::new(alloc, segments)?;
-        Ok(SavedTables { map, usage })
-    }
-}
+use std::mem::swap;
 
 /// The blocks of segments come into memory with all above them.
 ///
@@ -138,55 +114,56 @@ fn empty_segments<D: SectorDevice>(
     Ok(())
 }
 
-/// All that lives in these segments comes into memory, whole or not at all: at most so many blocks
-/// of files. What is put back after a fault is kept in `before`. Nothing is unsaved as it begins.
+/// The memory of a pass gets the log's tables, and all that lives in these segments with what
+/// stands above it: at most so many blocks of files. Nothing of the log is unsaved.
 ///
 /// # Errors
 ///
-/// With memory as it was: `Full` where more blocks would come, `Device` where a call of the device
-/// failed.
+/// `Full` where more blocks would come, `Device` where a call of the device failed.
 pub fn relocate<D: SectorDevice>(
     device: &mut CachedDevice<D>,
-    memory: &mut LogMemory,
-    before: &mut SavedTables,
+    memory: &LogMemory,
+    pass: &mut LogMemory,
     victims: &[u16],
     most: u32,
 ) -> Result<(), LiftFault>
-    requires closed { memory.old.chunk.names ≡ [] }
-    requires nothing { memory.old.dirty.blocks ≡ [] }
-    requires victims { AreCleanable memory.old.usage victims.now }
-    requires same_size { length before.old.usage.segments ≡ length memory.old.usage.segments }
-    requires few { most + TABLE_BLOCKS ≤ CHUNK_BLOCKS * (length memory.old.usage.segments / 8) }
-    requires room { most ≤ memory.old.dirty.capacity.room }
-    requires memory { IsMemory memory.old }
-    requires size { HasRoom (D.state device.old) memory.old }
-    ensures done { OnOk result (Empties (D.state device.old) (D.state device.new) memory.old
-        memory.new victims.now) }
-    ensures few { OnOk result (length memory.new.dirty.blocks ≤ most) }
-    ensures room { OnOk result (memory.new.dirty.capacity.room ≡ memory.old.dirty.capacity.room) }
-    ensures same { OnErr result (memory.new ≡ memory.old) }
-    ensures kept { length before.new.usage.segments ≡ length before.old.usage.segments }
-    ensures reads { EndsReading (D.state device.old) (D.state device.new) memory.old result }
+    requires closed { memory.now.chunk.names ≡ [] }
+    requires nothing { memory.now.dirty.blocks ≡ [] }
+    requires victims { AreCleanable memory.now.usage victims.now }
+    requires same_size { length pass.old.usage.segments ≡ length memory.now.usage.segments }
+    requires ended { pass.old.chunk.names ≡ [] }
+    requires few { most + TABLE_BLOCKS ≤ CHUNK_BLOCKS * (length memory.now.usage.segments / 8) }
+    requires room { most ≤ pass.old.dirty.capacity.room }
+    requires memory { IsMemory memory.now }
+    requires size { HasRoom (D.state device.old) memory.now }
+    ensures done { OnOk result (Empties (D.state device.old) (D.state device.new) memory.now
+        pass.new victims.now) }
+    ensures few { OnOk result (length pass.new.dirty.blocks ≤ most) }
+    ensures keeps { KeepsPass memory.now pass.old pass.new }
+    ensures reads { EndsReading (D.state device.old) (D.state device.new) memory.now result }
     ensures full { IsErrOf result LiftFault.Full
-        → Overfills (D.state device.old) (D.state device.new) memory.old victims.now most }
+        → Overfills (D.state device.old) (D.state device.new) memory.now victims.now most }
 {
-    let limit = memory.dirty.capacity() as u32;
-    before.map.copy_from(&memory.map);
-    before.usage.copy_from(&memory.usage);
-    memory.dirty.set_limit(most);
-    match empty_segments(device, memory, victims) {
+    pass.map.copy_from(&memory.map);
+    pass.usage.copy_from(&memory.usage);
+    pass.dirty.clear();
+    pass.dirty.set_limit(most);
+    match empty_segments(device, pass, victims) {
         Ok(()) => {
-            let _few = memory.dirty.len();
+            let _few = pass.dirty.len();
             Ok(())
         }
-        Err(fault) => {
-            memory.map.copy_from(&before.map);
-            memory.usage.copy_from(&before.usage);
-            memory.dirty.clear();
-            memory.dirty.set_limit(limit);
-            Err(fault)
-        }
+        Err(fault) => Err(fault),
     }
+}
+
+/// The tables that a pass made are the log's from now on.
+pub fn take_tables(memory: &mut LogMemory, pass: &mut LogMemory)
+    ensures memory { memory.new ≡ record memory.old { map = pass.old.map; usage = pass.old.usage } }
+    ensures pass { pass.new ≡ record pass.old { map = memory.old.map; usage = memory.old.usage } }
+{
+    swap(&mut memory.map, &mut pass.map);
+    swap(&mut memory.usage, &mut pass.usage);
 }
 
 /// Whether a segment is in use, and was before the acknowledged checkpoint, and the last chunk

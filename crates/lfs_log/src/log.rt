@@ -7,7 +7,7 @@ ghost use Rattle.lfs_model.specs.Members.{AreApart};
 ghost use Rattle.lfs_verify.specs.Loading.{HasTables, IsLoaded};
 ghost use Rattle.lfs_memory.specs.Batch.{room_for};
 
-use crate::cleaning::{SavedTables, may_clean, most_of, relocate};
+use crate::cleaning::{may_clean, most_of, relocate, take_tables};
 use crate::committing::save;
 use crate::early::{age_after, write_chunks};
 use crate::layout_version::{LayoutVersion, is_raised_after, unsaved_by, version_after};
@@ -45,8 +45,10 @@ pub struct Log<D: SectorDevice> {
     totals: BlockTotals,
     /// What a file loses is counted here.
     counts: SegmentCounts,
-    /// A cleaning pass keeps the tables that it found here.
-    before: SavedTables,
+    /// What a pass of the cleaner relocated, which its commit writes.
+    pass: LogMemory,
+    /// Something was relocated, and nothing changed since.
+    relocated: bool,
     /// The pointers that the last read of a block found, until something changes.
     pointers: Option<PointerRun>,
 }
@@ -54,7 +56,7 @@ pub struct Log<D: SectorDevice> {
 impl<D: SectorDevice> Model for Log<D> {
     ghost use Rattle.lfs_memory.specs.Pointers.{KeepsRun};
     ghost use Rattle.lfs_log.specs.LogState.{LogState};
-    ghost use Rattle.lfs_log.specs.Held.{HoldsUnlessHalted, WaitsUnlessSaved, seen};
+    ghost use Rattle.lfs_log.specs.Held.{HoldsUnlessHalted, WaitsForPass, WaitsUnlessSaved, relocated_by, seen};
     ghost use Rattle.lfs_log.specs.Versions.{number_of};
 
     ghost Value = { LogState D };
@@ -68,16 +70,18 @@ impl<D: SectorDevice> Model for Log<D> {
       saved = l.saved;
       halted = l.halted;
       totals = l.totals;
+      relocated = relocated_by l.relocated l.pass;
     } };
 
     ghost invariant = { λ l.
-        HoldsUnlessHalted (D.SectorDevice.state l.device) l.memory l.before.usage l.halted
+        HoldsUnlessHalted (D.SectorDevice.state l.device) l.memory l.pass l.halted
         × KeepsRun (D.SectorDevice.state l.device) l.memory l.pointers
-        × WaitsUnlessSaved l.memory l.upgraded l.saved };
+        × WaitsUnlessSaved l.memory l.upgraded l.saved
+        × WaitsForPass l.memory l.pass l.relocated };
 }
 
 impl<D: SectorDevice> Log<D> {
-    ghost use Rattle.lfs_log.specs.Cleaning.{ArePacked, Cleans, MayPass};
+    ghost use Rattle.lfs_log.specs.Cleaning.{ArePacked, HaltsRelocated, IsRelocated, MayClean, MayPass, Overfills, SavesRelocated, most_brought};
     ghost use Rattle.lfs_log.specs.Saving.{commit_orders, orders_for, pass_orders};
     ghost use Rattle.lfs_log.specs.Early.{full_chunk};
     ghost use Rattle.lfs_log.specs.Thresholds.{HasReserve, LacksReserve, reserve_of};
@@ -162,7 +166,8 @@ impl<D: SectorDevice> Log<D> {
                 halted: false,
                 totals: opened.totals,
                 counts,
-                before: opened.before,
+                pass: opened.pass,
+                relocated: false,
                 pointers: None,
             }),
             Err(_) => Err((MountFault::NoMemory, device.into_inner())),
@@ -466,6 +471,7 @@ impl<D: SectorDevice> Log<D> {
             return Err(LogFault::Halted);
         }
         drop_run(&mut self.pointers);
+        self.relocated = false;
         // A stage that fails may have brought blocks into memory, which a commit clears.
         self.saved = false;
         match stage_tight(
@@ -504,6 +510,7 @@ impl<D: SectorDevice> Log<D> {
             return Err(LogFault::Halted);
         }
         drop_run(&mut self.pointers);
+        self.relocated = false;
         let nameless = self.memory.map.is_hidden(number);
         let Ok(()) = remove_tight(&mut self.device, &mut self.memory, number, &mut self.counts)
         else {
@@ -593,6 +600,7 @@ impl<D: SectorDevice> Log<D> {
             return Err(LogFault::Full);
         }
         drop_run(&mut self.pointers);
+        self.relocated = false;
         match save(
             &mut self.device,
             &mut self.memory,
@@ -613,38 +621,36 @@ impl<D: SectorDevice> Log<D> {
         }
     }
 
-    /// A pass of the cleaner: all that lives in these segments goes elsewhere, the blocks of files
-    /// without a name and those of the tables too, and is saved. No block is left in them then, and
-    /// fewer were taken for it. They are 2 at least, and an eighth of all and one at most. It takes
-    /// no memory.
+    /// Brings all that lives in these segments into memory of its own, the blocks of files without a
+    /// name and those of the tables too, whole or not at all, for `commit_relocated`, which saves it
+    /// elsewhere. The files stay as they are, and a call that changes or saves some gives up what was
+    /// relocated. The segments are 2 at least, and an eighth of all and one at most. It takes no
+    /// memory.
     ///
     /// # Errors
     ///
-    /// `Full` where something is unsaved, fewer than an eighth of the segments are clean, one of
-    /// these is clean, wasn't there before the acknowledged checkpoint or is that of the last chunk,
-    /// no number is left, or their blocks, with the inodes and blocks of pointers above them and the
-    /// 48 of the tables, fill as many segments: nothing changed. `Device` where a call of the device failed before
-    /// anything was written: nothing changed. `Halted` where one failed later, or as the log was
-    /// written before.
-    pub fn clean(&mut self, victims: &[u16]) -> Result<(), LogFault>
+    /// With nothing changed: `Full` where something is unsaved, fewer than an eighth of the segments
+    /// are clean, one of these is clean, wasn't there before the acknowledged checkpoint or is that of
+    /// the last chunk, no number is left, or their blocks, with the inodes and blocks of pointers
+    /// above them and the 48 of the tables, fill as many segments. `Device` where a call of the
+    /// device failed. `Halted` once a write of the log failed.
+    pub fn relocate(&mut self, victims: &[u16]) -> Result<(), LogFault>
         requires { AreApart victims.now }
-        ensures done { OnOk result (Cleans D.SectorDevice.state self.old self.new victims.now) }
-        ensures totals { self.new.totals ≡ self.old.totals }
-        ensures full { IsErrOf result LogFault.Full → Reads D.SectorDevice.state self.old self.new }
+        ensures done { OnOk result (IsRelocated D.SectorDevice.state self.old self.new
+            victims.now) }
+        ensures kept { OnErr result (Reads D.SectorDevice.state self.old self.new) }
         ensures lacks { IsErrOf result LogFault.Full → MayPass self.old victims.now
             → self.old.number < 2 ^ 64 - 1
             → ArePacked D.SectorDevice.state self.old self.new victims.now }
-        ensures kept { IsErrOf result LogFault.Device
-            → Reads D.SectorDevice.state self.old self.new }
+        ensures crowds { IsErrOf result LogFault.Full → MayClean self.old.inner victims.now
+            → self.old.number < 2 ^ 64 - 1
+            → Overfills (D.state self.old.device) (D.state self.new.device) self.old.inner
+            victims.now (most_brought (length victims.now)) }
         ensures failed { IsErrOf result LogFault.Device
             → IsReadFault D.SectorDevice.state self.old self.new }
-        ensures halted { IsErrOf result LogFault.Halted → self.old.halted ≢ true
-            → Halts D.SectorDevice.state self.old self.new }
+        ensures halted { IsErrOf result LogFault.Halted → self.old.halted ≡ true }
         ensures still { self.old.halted ≡ true
             → (self.new ≡ self.old) × IsErrOf result LogFault.Halted }
-        ensures told { length (D.state self.new.device).told
-            ≤ length (D.state self.old.device).told
-            + pass_orders self.old.segments }
     {
         if self.halted {
             return Err(LogFault::Halted);
@@ -652,12 +658,12 @@ impl<D: SectorDevice> Log<D> {
         if self.number == u64::MAX || !may_clean(&self.memory, victims) {
             return Err(LogFault::Full);
         }
-        drop_run(&mut self.pointers);
+        self.relocated = false;
         let most = most_of(victims.len());
         match relocate(
             &mut self.device,
-            &mut self.memory,
-            &mut self.before,
+            &self.memory,
+            &mut self.pass,
             victims,
             most,
         ) {
@@ -665,17 +671,45 @@ impl<D: SectorDevice> Log<D> {
             Err(LiftFault::Full) => return Err(LogFault::Full),
             Err(LiftFault::Device) => return Err(LogFault::Device),
         }
-        let Ok(()) = save(
-            &mut self.device,
-            &mut self.memory,
-            self.version,
-            self.number,
-        ) else {
+        self.relocated = true;
+        Ok(())
+    }
+
+    /// Saves what was relocated, as a commit does, to segments that are clean. No block is left in
+    /// those that it came from, and fewer were taken for it. It takes no memory.
+    ///
+    /// # Errors
+    ///
+    /// `Full` where nothing was relocated, or no number is left: nothing changed. `Halted` where a
+    /// call of the device failed, here or as the log was written before.
+    pub fn commit_relocated(&mut self) -> Result<(), LogFault>
+        ensures done { OnOk result (SavesRelocated D.SectorDevice.state self.old self.new) }
+        ensures totals { self.new.totals ≡ self.old.totals }
+        ensures full { IsErrOf result LogFault.Full → self.new ≡ self.old }
+        ensures lacks { IsErrOf result LogFault.Full → self.old.number < 2 ^ 64 - 1
+            → self.old.relocated ≡ None }
+        ensures halted { IsErrOf result LogFault.Halted → self.old.halted ≢ true
+            → HaltsRelocated D.SectorDevice.state self.old self.new }
+        ensures still { self.old.halted ≡ true
+            → (self.new ≡ self.old) × IsErrOf result LogFault.Halted }
+        ensures other { IsErrOf result LogFault.Device → ⊥ }
+        ensures told { length (D.state self.new.device).told
+            ≤ length (D.state self.old.device).told + pass_orders self.old.segments }
+    {
+        if self.halted {
+            return Err(LogFault::Halted);
+        }
+        if self.number == u64::MAX || !self.relocated {
+            return Err(LogFault::Full);
+        }
+        drop_run(&mut self.pointers);
+        self.relocated = false;
+        let Ok(()) = save(&mut self.device, &mut self.pass, self.version, self.number) else {
             self.halted = true;
             self.saved = false;
             return Err(LogFault::Halted);
         };
-        self.memory.dirty.set_limit(MOST_UNSAVED);
+        take_tables(&mut self.memory, &mut self.pass);
         self.number += 1;
         self.upgraded = false;
         self.saved = true;

@@ -1,6 +1,6 @@
 //! Passes of the cleaner over a device in memory.
 use crate::devices::Probe::{Fail, Stop};
-use crate::log_steps::Act::{Commit, Empty, Fill, FillTo, Hide, Make};
+use crate::log_steps::Act::{Commit, CommitRelocated, Empty, Fill, FillTo, Hide, Make, Relocate};
 use crate::log_steps::Look::{Clean, Is, Number, Reads, Root, Unsaved};
 use crate::log_steps::Step::{Done, On, Refused, Sees};
 use crate::log_steps::{CAPACITIES, Step, check, prepared, run};
@@ -74,6 +74,45 @@ fn a_pass_takes_files_without_links(rt: HostRuntime) -> Result<(), Wrong> {
         Sees(Reads(2, 1, 8)),
         Sees(Reads(2, 2, 9)),
         Sees(Reads(3, 0, 5)),
+    ];
+    check(rt.alloc(), 64, &FIVE_SEGMENTS, &steps)
+}
+
+#[test]
+fn what_is_relocated_waits_for_its_commit(rt: HostRuntime) -> Result<(), Wrong> {
+    let steps = [
+        Refused(CommitRelocated, LogFault::Full),
+        Done(Relocate(1, 2)),
+        Sees(Number(5)),
+        Sees(Clean(59)),
+        Sees(Unsaved(0)),
+        Sees(Reads(2, 1, 8)),
+        Done(CommitRelocated),
+        Sees(Number(6)),
+        Sees(Clean(60)),
+        Sees(Unsaved(0)),
+        Sees(Reads(2, 0, 7)),
+        Sees(Reads(2, 1, 8)),
+        Sees(Reads(2, 2, 9)),
+        Sees(Reads(3, 0, 5)),
+        Refused(CommitRelocated, LogFault::Full),
+        // A change gives it up.
+        Done(Relocate(0, 3)),
+        Done(Fill(2, 3, 4)),
+        Refused(CommitRelocated, LogFault::Full),
+        Sees(Clean(60)),
+        Sees(Unsaved(2)),
+        Done(Commit),
+        Sees(Number(7)),
+        Sees(Reads(2, 3, 4)),
+        // So does a stop.
+        Done(Relocate(0, 3)),
+        On(Stop(Left::Bad)),
+        Refused(CommitRelocated, LogFault::Full),
+        Sees(Number(7)),
+        Sees(Reads(2, 0, 7)),
+        Sees(Reads(2, 3, 4)),
+        Sees(Root),
     ];
     check(rt.alloc(), 64, &FIVE_SEGMENTS, &steps)
 }

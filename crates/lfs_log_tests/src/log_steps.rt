@@ -31,6 +31,9 @@ pub enum Act {
     /// Full chunks of data blocks are written without a commit.
     WriteEarly,
     Commit,
+    /// What lives in two segments is relocated.
+    Relocate(u16, u16),
+    CommitRelocated,
     /// A pass of the cleaner over two segments.
     Empty(u16, u16),
 }
@@ -162,12 +165,18 @@ fn make_to(log: &mut Log<MemDevice>, alloc: Global, end: u16) -> Result<(), LogF
     Ok(())
 }
 
-/// A pass of the cleaner over two segments.
-fn empty(log: &mut Log<MemDevice>, one: u16, other: u16) -> Result<(), LogFault> {
+/// What lives in two segments is relocated.
+fn relocate(log: &mut Log<MemDevice>, one: u16, other: u16) -> Result<(), LogFault> {
     if one == other {
         return Err(LogFault::Full);
     }
-    log.clean(&[one, other])
+    log.relocate(&[one, other])
+}
+
+/// A pass of the cleaner over two segments.
+fn empty(log: &mut Log<MemDevice>, one: u16, other: u16) -> Result<(), LogFault> {
+    relocate(log, one, other)?;
+    log.commit_relocated()
 }
 
 fn carry_out(log: &mut Log<MemDevice>, alloc: Global, act: Act) -> Result<(), LogFault> {
@@ -179,6 +188,8 @@ fn carry_out(log: &mut Log<MemDevice>, alloc: Global, act: Act) -> Result<(), Lo
         Act::FillTo(end, byte) => fill_to(log, alloc, end, byte),
         Act::FillEdges => fill_edges(log, alloc),
         Act::MakeTo(end) => make_to(log, alloc, end),
+        Act::Relocate(one, other) => relocate(log, one, other),
+        Act::CommitRelocated => log.commit_relocated(),
         Act::Empty(one, other) => empty(log, one, other),
         _ => stage(log, alloc, act),
     }

@@ -1,5 +1,4 @@
-use Rattle.std.proofs.Common.{rules, ◌≡◌, ◌<◌, ◌≤◌, ◌+◌, ◌/◌, true, false, length, ◌∙◌, ap, arith}
-use Rattle.lfs_log.specs.segments.Table.{UsageTable}
+use Rattle.std.proofs.Common.{rules, ◌≡◌, ◌<◌, ◌≤◌, ◌+◌, ◌/◌, true, false, length, ◌∙◌, arith}
 use Rattle.lfs_cleaner.proofs.Rooms.{fault_then, halts_at_once, halts_then, halts_weaker, keeps_reads, keeps_then, keeps_weaker, read_fault}
 use Rattle.lfs_cleaner.proofs.RoomBounds.{may_pass, nothing_between, pass_more, passes_more, passes_most, passes_none, passes_suffice}
 use Rattle.lfs_log.specs.Saving.{pass_orders}

@@ -1,25 +1,41 @@
-use Rattle.std.proofs.Common.{rules}
-use Rattle.lfs_log.proofs.Cleaned.{limited_empties, limited_excused, overfills}
+use Rattle.std.proofs.Common.{rules, ◌∙◌, sym, ap}
+use Rattle.lfs_memory.specs.inodes.Blocks.{TableValue}
+use Rattle.lfs_memory.specs.declared.memory.LogMemory.{LogMemory}
+use Rattle.lfs_memory.specs.Present.{FailsFromDevice}
+use Rattle.lfs_log.specs.Cleaning.{Crowds, Empties}
+use Rattle.lfs_log.proofs.Cleaned.{by_tables, empties_beside, fails_beside, overfills}
 use Rattle.lfs_log.proofs.cleaning.relocate.Goals as goal
 
 pub returns-in-Ok-clause-done : goal.returns-in-Ok-clause-done
 returns-in-Ok-clause-done g c =
-    limited_empties c.args.memory.now c.set_limit.new.self c.set_limit.ensures.blocks (g.D.SectorDevice.state c.args.device.now)
-    (g.D.SectorDevice.state c.empty_segments.new.device)
-    c.empty_segments.new.memory c.args.victims.now c.in-Ok.ensures.done
+    let d = g.D.SectorDevice.state c.args.device.now in
+    let d' = g.D.SectorDevice.state c.empty_segments.new.device in
+    let none = c.set_limit.ensures.blocks ∙ ap (λ (t : TableValue). t.blocks) c.clear.ensures.empty ∙ sym c.requires.nothing in
+    empties_beside c.args.memory.now c.set_limit.new.self c.args.pass.now.chunk none c.requires.closed c.requires.ended d d'
+    c.empty_segments.new.memory c.args.victims.now
+    (by_tables (λ (v : LogMemory). Empties d d' v c.empty_segments.new.memory c.args.victims.now) c.args.memory.now c.copy_from.new.self
+    c.copy_from-2.new.self c.set_limit.new.self c.args.pass.now.chunk c.copy_from.ensures c.copy_from-2.ensures c.in-Ok.ensures.done)
 
 pub returns-in-Err-clause-reads : goal.returns-in-Err-clause-reads
-returns-in-Err-clause-reads g c = record {
-  looks = c.in-Err.ensures.reads.looks;
-  failed = λ is. limited_excused c.args.memory.now c.set_limit.new.self c.set_limit.ensures.blocks
-      (g.D.SectorDevice.state c.args.device.now) (g.D.SectorDevice.state c.empty_segments.new.device)
-      (c.in-Err.ensures.reads.failed (search rules));
-  no_failure = tt;
-}
+returns-in-Err-clause-reads g c =
+    let d = g.D.SectorDevice.state c.args.device.now in
+    let d' = g.D.SectorDevice.state c.empty_segments.new.device in
+    let none = c.set_limit.ensures.blocks ∙ ap (λ (t : TableValue). t.blocks) c.clear.ensures.empty ∙ sym c.requires.nothing in
+    record {
+      looks = c.in-Err.ensures.reads.looks;
+      failed = λ is. fails_beside c.args.memory.now c.set_limit.new.self c.args.pass.now.chunk none c.requires.closed c.requires.ended d d'
+          (by_tables (FailsFromDevice d d') c.args.memory.now c.copy_from.new.self c.copy_from-2.new.self c.set_limit.new.self
+          c.args.pass.now.chunk c.copy_from.ensures c.copy_from-2.ensures (c.in-Err.ensures.reads.failed (search rules)));
+      no_failure = tt;
+    }
 
 pub returns-in-Err-clause-full : goal.returns-in-Err-clause-full
 returns-in-Err-clause-full g c is =
-    let over = c.in-Err.ensures.full (search rules) in
-    overfills (g.D.SectorDevice.state c.args.device.now) (g.D.SectorDevice.state c.empty_segments.new.device) c.args.memory.now
-    c.set_limit.new.self c.args.most c.empty_segments.new.memory
-    c.set_limit.ensures.blocks c.set_limit.ensures.limit c.set_limit.ensures.room c.args.victims.now over
+    let d = g.D.SectorDevice.state c.args.device.now in
+    let d' = g.D.SectorDevice.state c.empty_segments.new.device in
+    let none = c.set_limit.ensures.blocks ∙ ap (λ (t : TableValue). t.blocks) c.clear.ensures.empty ∙ sym c.requires.nothing in
+    overfills c.args.memory.now c.set_limit.new.self c.args.pass.now.chunk none c.requires.closed c.requires.ended d d' c.args.most
+    c.empty_segments.new.memory c.args.victims.now c.set_limit.ensures.limit
+    (by_tables (λ (v : LogMemory). Crowds d d' v c.empty_segments.new.memory c.args.victims.now) c.args.memory.now c.copy_from.new.self
+    c.copy_from-2.new.self c.set_limit.new.self c.args.pass.now.chunk c.copy_from.ensures c.copy_from-2.ensures
+    (c.in-Err.ensures.full (search rules)))

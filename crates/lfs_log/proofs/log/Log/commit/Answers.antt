@@ -1,11 +1,10 @@
-use Rattle.std.proofs.Common.{◌+◌, true, false, refl, subst}
+use Rattle.std.proofs.Common.{None, ◌+◌, true, false, refl, subst}
 use Rattle.lfs_log.specs.Versions.{number_of}
-use Rattle.lfs_log.specs.LogState.{Saves, Halts, LogState}
-use Rattle.lfs_log.specs.Held.{Held, seen}
+use Rattle.lfs_log.specs.LogState.{Saves, Halts, Holds, LogState}
+use Rattle.lfs_log.specs.Held.{Held, relocated_by, seen}
 use Rattle.lfs_log.proofs.log.Log.commit.Goals as goal
 use Rattle.lfs_log.proofs.Volumes.{saves, halts}
 
--- src/log.rt:168:5
 pub returns-in-Ok-clause-done : goal.returns-in-Ok-clause-done
 returns-in-Ok-clause-done g c =
     let before : Held g.row.D.Denot = record {
@@ -17,22 +16,20 @@ returns-in-Ok-clause-done g c =
       saved = c.self.inside.saved;
       halted = c.self.inside.halted;
       totals = c.self.inside.totals;
+      relocated = relocated_by c.self.inside.relocated c.self.inside.pass;
     } in
-    let after : Held g.row.D.Denot = record {
+    let after : Held g.row.D.Denot = record before {
       device = c.save.new.device;
       memory = c.save.new.memory;
       number = c.self.inside.number + 1;
-      version = number_of c.self.inside.version;
       upgraded = false;
       saved = true;
-      halted = c.self.inside.halted;
-      totals = c.self.inside.totals;
+      relocated = None;
     } in
     subst (λ (h : LogState g.row.D.Denot). Saves g.D.SectorDevice.state h (seen after)) c.self.view_is
     (saves g.D.SectorDevice.state before after (c.self.invariant.0 c.if-self.false).running.few c.in-Ok.ensures.done refl refl refl refl
     c.if-self.false)
 
--- src/log.rt:168:5
 pub returns-in-Err-clause-halted : goal.returns-in-Err-clause-halted
 returns-in-Err-clause-halted g c is ne =
     let before : Held g.row.D.Denot = record {
@@ -44,16 +41,15 @@ returns-in-Err-clause-halted g c is ne =
       saved = c.self.inside.saved;
       halted = c.self.inside.halted;
       totals = c.self.inside.totals;
+      relocated = relocated_by c.self.inside.relocated c.self.inside.pass;
     } in
-    let after : Held g.row.D.Denot = record {
+    let after : Held g.row.D.Denot = record before {
       device = c.save.new.device;
       memory = c.save.new.memory;
-      number = c.self.inside.number;
-      version = number_of c.self.inside.version;
-      upgraded = c.self.inside.upgraded;
       saved = false;
       halted = true;
-      totals = c.self.inside.totals;
+      relocated = None;
     } in
     subst (λ (h : LogState g.row.D.Denot). Halts g.D.SectorDevice.state h (seen after)) c.self.view_is
-    (halts g.D.SectorDevice.state before after c.in-Err.ensures.stopped refl refl refl)
+    (halts g.D.SectorDevice.state before after c.self.inside.memory (Holds g.D.SectorDevice.state (seen before))
+    (λ k m0 m is. (is, is.log)) c.in-Err.ensures.stopped refl refl refl)

@@ -1,7 +1,7 @@
 use Rattle.std.proofs.Common.{subst}
 use Rattle.lfs_log.specs.Versions.{number_of}
 use Rattle.lfs_log.specs.LogState.{IsVacant, HasAll, LogState}
-use Rattle.lfs_log.specs.Held.{Held}
+use Rattle.lfs_log.specs.Held.{Held, relocated_by}
 use Rattle.lfs_memory.proofs.Going.{some_then, none_then}
 use Rattle.lfs_log.proofs.Volumes.{is_vacant, has_all}
 use Rattle.lfs_log.proofs.log.Log.least_free.Goals as goal
@@ -17,6 +17,7 @@ returns-clause-some g c =
       saved = c.self.inside.saved;
       halted = c.self.inside.halted;
       totals = c.self.inside.totals;
+      relocated = relocated_by c.self.inside.relocated c.self.inside.pass;
     } in
     some_then c.least_free.result _ _
     (λ n free. subst (λ (h : LogState g.row.D.Denot). IsVacant g.D.SectorDevice.state h n) c.self.view_is
@@ -33,6 +34,7 @@ returns-clause-none g c =
       saved = c.self.inside.saved;
       halted = c.self.inside.halted;
       totals = c.self.inside.totals;
+      relocated = relocated_by c.self.inside.relocated c.self.inside.pass;
     } in
     none_then c.least_free.result _ _
     (λ all.

@@ -1,7 +1,7 @@
-use Rattle.std.proofs.Common.{false, refl, subst}
+use Rattle.std.proofs.Common.{None, false, refl, subst}
 use Rattle.lfs_log.specs.Versions.{number_of}
 use Rattle.lfs_log.specs.LogState.{IsStaged, IsRefused, IsStageFault, LogState}
-use Rattle.lfs_log.specs.Held.{Held, seen}
+use Rattle.lfs_log.specs.Held.{Held, relocated_by, seen}
 use Rattle.lfs_log.proofs.Volumes.{is_staged, is_refused, is_stage_fault}
 use Rattle.lfs_log.proofs.log.Log.stage.Goals as goal
 
@@ -16,16 +16,16 @@ returns-in-Ok-clause-done g c =
       saved = c.self.inside.saved;
       halted = c.self.inside.halted;
       totals = c.self.inside.totals;
+      relocated = relocated_by c.self.inside.relocated c.self.inside.pass;
     } in
-    let after : Held g.row.D.Denot = record {
+    let after : Held g.row.D.Denot = record before {
       device = c.stage_tight.new.device;
       memory = c.stage_tight.new.memory;
-      number = c.self.inside.number;
       version = number_of c.version_after-self-inside.result;
       upgraded = c.is_raised_after-self-inside.result;
       saved = false;
-      halted = c.self.inside.halted;
       totals = c.args.totals;
+      relocated = None;
     } in
     let go = c.in-Ok.ensures.done in
     subst (λ (h : LogState g.row.D.Denot). IsStaged g.D.SectorDevice.state h (seen after) c.args.changes.now) c.self.view_is
@@ -43,16 +43,13 @@ returns-in-Err-clause-refused g c =
       saved = c.self.inside.saved;
       halted = c.self.inside.halted;
       totals = c.self.inside.totals;
+      relocated = relocated_by c.self.inside.relocated c.self.inside.pass;
     } in
-    let after : Held g.row.D.Denot = record {
+    let after : Held g.row.D.Denot = record before {
       device = c.stage_tight.new.device;
       memory = c.stage_tight.new.memory;
-      number = c.self.inside.number;
-      version = number_of c.self.inside.version;
-      upgraded = c.self.inside.upgraded;
       saved = false;
-      halted = c.self.inside.halted;
-      totals = c.self.inside.totals;
+      relocated = None;
     } in
     let go = c.in-Err.ensures.refused in
     subst (λ (h : LogState g.row.D.Denot). IsRefused g.D.SectorDevice.state h (seen after) c.args.changes.now) c.self.view_is
@@ -69,16 +66,13 @@ returns-in-Err-clause-failed g c is =
       saved = c.self.inside.saved;
       halted = c.self.inside.halted;
       totals = c.self.inside.totals;
+      relocated = relocated_by c.self.inside.relocated c.self.inside.pass;
     } in
-    let after : Held g.row.D.Denot = record {
+    let after : Held g.row.D.Denot = record before {
       device = c.stage_tight.new.device;
       memory = c.stage_tight.new.memory;
-      number = c.self.inside.number;
-      version = number_of c.self.inside.version;
-      upgraded = c.self.inside.upgraded;
       saved = false;
-      halted = c.self.inside.halted;
-      totals = c.self.inside.totals;
+      relocated = None;
     } in
     subst (λ (h : LogState g.row.D.Denot). IsStageFault g.D.SectorDevice.state h (seen after) c.args.changes.now) c.self.view_is
     (is_stage_fault g.D.SectorDevice.state before after c.args.changes.now (c.in-Err.ensures.ends.failed is))

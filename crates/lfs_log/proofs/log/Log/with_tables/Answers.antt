@@ -1,4 +1,4 @@
-use Rattle.std.proofs.Common.{◌≤◌, ◌*◌, true, ℕ, false, length, refl, sym, ap, subst}
+use Rattle.std.proofs.Common.{None, ◌≤◌, ◌*◌, true, ℕ, false, length, refl, sym, ap, subst}
 use Rattle.lfs_memory.specs.segments.Early.{AreUntaken}
 use Rattle.lfs_memory.specs.segments.Table.{clean_in}
 use Rattle.lfs_verify.proofs.Takes.{looks_none}
@@ -26,6 +26,7 @@ returns-in-Ok-open_memory-clause-opened g c =
       saved = true;
       halted = false;
       totals = opened.totals;
+      relocated = None;
     } in
     let nothing : AreAllSaved (seen after) =
     record { blocks = ap length is.dirty; version = refl; sectors = subst AreUntaken (sym told.usage) c.requires.loaded.usage.untaken } in
@@ -55,11 +56,12 @@ invariant_of-result g c =
     let opened = c.in-Ok-open_memory.opened in
     let told = c.in-Ok-open_memory.ensures in
     let is = told.opened d.size c.requires.loaded in (
-      (λ on. ready d opened.memory opened.before.usage is told.saved),
+      (λ on. ready d opened.memory opened.pass is told.pass),
       tt,
       (λ all. record {
         blocks = is.dirty;
         version = refl;
         sectors = subst AreUntaken (sym told.usage) c.requires.loaded.usage.untaken;
       }),
+      (λ on. absurd (cc)),
     )

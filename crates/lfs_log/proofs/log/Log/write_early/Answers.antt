@@ -4,8 +4,8 @@ use Rattle.lfs_memory.specs.declared.memory.LogMemory.{LogMemory}
 use Rattle.lfs_log.specs.Versions.{number_of}
 use Rattle.lfs_log.specs.Thresholds.{reserve_of}
 use Rattle.lfs_log.specs.LogState.{Halts, WritesEarly, LogState}
-use Rattle.lfs_log.specs.Held.{Held, seen}
-use Rattle.lfs_log.proofs.EarlyWrites.{early_halts, early_waits, writes_early}
+use Rattle.lfs_log.specs.Held.{Held, relocated_by, seen}
+use Rattle.lfs_log.proofs.EarlyWrites.{early_halts, early_ready, early_waits, writes_early}
 use Rattle.lfs_log.proofs.log.Log.write_early.Goals as goal
 
 pub returns-in-Ok-clause-done : goal.returns-in-Ok-clause-done
@@ -20,6 +20,7 @@ returns-in-Ok-clause-done g c =
       saved = c.self.inside.saved;
       halted = c.self.inside.halted;
       totals = c.self.inside.totals;
+      relocated = relocated_by c.self.inside.relocated c.self.inside.pass;
     } in
     let before = with_two c.self.inside.device c.self.inside.memory in
     let after = with_two c.write_chunks.new.device c.write_chunks.new.memory in
@@ -43,25 +44,32 @@ returns-in-Err-clause-halted g c is ne =
       saved = c.self.inside.saved;
       halted = c.self.inside.halted;
       totals = c.self.inside.totals;
+      relocated = relocated_by c.self.inside.relocated c.self.inside.pass;
     } in
-    let after : Held g.row.D.Denot =
-    record {
+    let after : Held g.row.D.Denot = record before {
       device = c.write_chunks.new.device;
       memory = c.write_chunks.new.memory;
-      number = c.self.inside.number;
-      version = number_of c.self.inside.version;
-      upgraded = c.self.inside.upgraded;
       saved = false;
       halted = true;
-      totals = c.self.inside.totals;
     } in
     subst (λ (h : LogState g.row.D.Denot). Halts g.D.SectorDevice.state h (seen after)) c.self.view_is
     (early_halts g.D.SectorDevice.state before after c.in-Err.ensures.stopped refl refl refl)
+
+pub invariant_of-self-in-Err : goal.invariant_of-self-in-Err
+invariant_of-self-in-Err g c = (
+  (λ on. absurd (cc)),
+  rw c.drop_run.ensures tt,
+  (λ on. absurd (cc)),
+  early_ready c.self.inside.memory c.write_chunks.new.memory (λ few. (c.write_chunks.ensures.idle few).1) c.self.inside.pass
+      c.self.inside.relocated c.self.invariant.3,
+)
 
 pub invariant_of-self : goal.invariant_of-self
 invariant_of-self g c = (
   (λ on. search (rules, arith)),
   rw c.drop_run.ensures tt,
-  early_waits c.self.inside.memory c.write_chunks.new.memory c.self.inside.upgraded c.self.inside.saved c.self.invariant.2
-      (λ few. (c.write_chunks.ensures.idle few).1),
+  early_waits c.self.inside.memory c.write_chunks.new.memory (λ few. (c.write_chunks.ensures.idle few).1) c.self.inside.upgraded
+      c.self.inside.saved c.self.invariant.2,
+  early_ready c.self.inside.memory c.write_chunks.new.memory (λ few. (c.write_chunks.ensures.idle few).1) c.self.inside.pass
+      c.self.inside.relocated c.self.invariant.3,
 )
