@@ -52,8 +52,7 @@ fn write_map_block<D: SectorDevice>(
     Ok(())
 }
 
-/// Saves a block of the inode map, if it is to be written. One that would show no inode isn't
-/// stored.
+/// Saves a block of the inode map that is to be written. One that would show no inode isn't stored.
 fn save_map_block<D: SectorDevice>(
     device: &mut D,
     memory: &mut LogMemory,
@@ -61,6 +60,7 @@ fn save_map_block<D: SectorDevice>(
     age: u32,
 ) -> Result<(), DeviceFault>
     requires index { index < MAP_BLOCKS }
+    requires waits { block_in memory.old.map index ≡ 1 }
     requires empty { (x : Entry) → blocks_of memory.old.dirty x ≡ None }
     requires room { 0 < room_of memory.old }
     requires memory { IsMemory memory.old }
@@ -73,9 +73,6 @@ fn save_map_block<D: SectorDevice>(
     ensures long { OnOk result (IsMap memory.new.map) }
     ensures dirty { memory.new.dirty ≡ memory.old.dirty }
 {
-    if memory.map.block_address(index as usize) != 1 {
-        return Ok(());
-    }
     let Some(bytes) = memory.map.encode(index as usize) else {
         memory.map.set_block_address(index as usize, 0);
         return Ok(());
@@ -101,6 +98,9 @@ pub fn save_map<D: SectorDevice>(
     ensures dirty { memory.new.dirty ≡ memory.old.dirty }
 {
     for index in 0..MAP_BLOCKS {
+        if memory.map.block_address(index as usize) != 1 {
+            continue;
+        }
         save_map_block(device, memory, index, age)?;
     }
     Ok(())

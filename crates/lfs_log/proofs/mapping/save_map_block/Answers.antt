@@ -1,14 +1,8 @@
 use Rattle.std.proofs.Common.{rules, ap, arith}
 use Rattle.lfs_memory.specs.inodes.MapValue.{MapValue}
 use Rattle.lfs_log.proofs.MapSteps.{drop_goes}
-use Rattle.lfs_log.proofs.SavedBlocks.{saves_at_most, saves_none, saving_done, saving_failed, sealed_then, stops_sealing}
+use Rattle.lfs_log.proofs.SavedBlocks.{saving_done, saving_failed, sealed_then, stops_sealing}
 use Rattle.lfs_log.proofs.mapping.save_map_block.Goals as goal
-
-pub returns-then-block_address-ne1-clause-saves : goal.returns-then-block_address-ne1-clause-saves
-returns-then-block_address-ne1-clause-saves g c =
-    saving_done (saves_at_most 1 1 (omega arith) (omega arith)
-    (saves_none (g.D.SectorDevice.state c.args.device.now) c.args.memory.now
-    (g.met.D.SectorDevice.lawful c.args.device.now) c.requires.memory))
 
 pub returns-in_default-clause-saves : goal.returns-in_default-clause-saves
 returns-in_default-clause-saves g c =
