@@ -629,11 +629,11 @@ impl<D: SectorDevice> Log<D> {
     ///
     /// # Errors
     ///
-    /// With nothing changed: `Full` where something is unsaved, fewer than an eighth of the segments
-    /// are clean, one of these is clean, wasn't there before the acknowledged checkpoint or is that of
-    /// the last chunk, no number is left, or their blocks, with the inodes and blocks of pointers
-    /// above them and the 48 of the tables, fill as many segments. `Device` where a call of the
-    /// device failed. `Halted` once a write of the log failed.
+    /// With nothing changed: `Full` where blocks of files wait for a commit, fewer than an eighth of
+    /// the segments are clean, one of these is clean, wasn't there before the acknowledged checkpoint
+    /// or is that of the last chunk, no number is left, or their blocks, with the inodes and blocks
+    /// of pointers above them and the 48 of the tables, fill as many segments. `Device` where a call
+    /// of the device failed. `Halted` once a write of the log failed.
     pub fn relocate(&mut self, victims: &[u16]) -> Result<(), LogFault>
         requires { AreApart victims.now }
         ensures done { OnOk result (IsRelocated D.SectorDevice.state self.old self.new
