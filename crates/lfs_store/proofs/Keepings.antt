@@ -7,7 +7,10 @@ use Rattle.lfs_files.specs.declared.fault.LogFault.TheVariants.{Full, Halted}
 use Rattle.lfs_cleaner.specs.log.LogState.{LogState, Reads}
 use Rattle.lfs_store.specs.declared.draft.Draft.{Draft}
 use Rattle.lfs_store.specs.declared.store.Store.{Store}
-use Rattle.lfs_store.specs.Keeping.{DraftsUncounted, OnlyCounts, ReadsLog, RedraftsStore, RedraftsUncounted}
+use Rattle.lfs_files.specs.Files as files
+use Rattle.lfs_store.specs.Keeping.{DraftsUncounted, OnlyCounts, ReadsLog, RedraftsUncounted}
+use Rattle.lfs_store.specs.Seen.{files_of}
+use Rattle.lfs_store.proofs.StoreSeen.{seen_redraft}
 use Rattle.lfs_store.specs.Reading.{ReadsStore}
 use Rattle.lfs_cleaner.proofs.of_log.LogReads.{fault_more, reads_none, reads_more}
 
@@ -37,21 +40,26 @@ module _ {D : Type 0} (state : D → DeviceState) where
   pub reads_uncounted : (a b : Store D) (d : Draft) → ReadsStore state a b → RedraftsUncounted state a (record b { draft = d })
   reads_uncounted a b d one = record { reads = one.log; drafted = one.drafted }
 
+  -- the draft changes, and the log is no more than read
+  pub drafts_redrafts : (a b : Store D) → Reads state a.log b.log → files.Redrafts (files_of state a) (files_of state b)
+  drafts_redrafts a b reads = seen_redraft state a.log b.log a.draft b.draft a.drafted b.drafted reads
+
+  -- the log stays
+  pub same_redrafts : (a b : Store D) → b.log ≡ a.log → files.Redrafts (files_of state a) (files_of state b)
+  same_redrafts a b same = drafts_redrafts a b (subst (Reads state a.log) (sym same) (reads_none state a.log))
+
   -- a file is measured, changed and measured again
-  pub reads_redrafts : (a b : Store D) → ReadsStore state a b → RedraftsStore state a b
-  reads_redrafts a b one = record { reads = one.log }
+  pub reads_redrafts : (a b : Store D) → ReadsStore state a b → files.Redrafts (files_of state a) (files_of state b)
+  reads_redrafts a b one = drafts_redrafts a b one.log
 
   pub measured_redrafts : (a b c : Store D) → IsLawful (state a.log.device) → ReadsStore state a b → RedraftsUncounted state b c
-      → RedraftsStore state a c
-  measured_redrafts a b c lawful one two = record {
-    reads = reads_more state a.log b.log c.log lawful one.log two.reads;
-  }
+      → files.Redrafts (files_of state a) (files_of state c)
+  measured_redrafts a b c lawful one two = drafts_redrafts a c (reads_more state a.log b.log c.log lawful one.log two.reads)
 
   pub counted_redrafts : (a b c d : Store D) → IsLawful (state a.log.device) → ReadsStore state a b → RedraftsUncounted state b c
-      → OnlyCounts state c d → RedraftsStore state a d
-  counted_redrafts a b c d lawful one two three =
-      let change = measured_redrafts a b c lawful one two in
-      record { reads = reads_more state a.log c.log d.log lawful change.reads three.reads }
+      → OnlyCounts state c d → files.Redrafts (files_of state a) (files_of state d)
+  counted_redrafts a b c d lawful one two three = drafts_redrafts a d
+      (reads_more state a.log c.log d.log lawful (reads_more state a.log b.log c.log lawful one.log two.reads) three.reads)
 
   -- ---- a log that is only read
   pub looked_done : {T : Type 0} (h h' : LogState D) (x : T) → Reads state h h' → ReadsLog state h h' (Ok x)

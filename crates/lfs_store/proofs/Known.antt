@@ -2,9 +2,7 @@
 use Rattle.std.proofs.Common.{◌≡◌, ◌≤◌, ◌+◌, ◌*◌, ◌/◌, ℕ, Bool, true, false, cond, length, sym, ap, subst, arith}
 use Rattle.lfs_model.specs.Device.{DeviceState}
 use Rattle.lfs_model.specs.Stands.{LogMap}
-use Rattle.lfs_files.specs.Files as files
 use Rattle.lfs_cleaner.specs.log.LogState.{LogState, Reads, commits_due}
-use Rattle.lfs_cleaner.specs.log.memory.Batch.{is_lost}
 use Rattle.lfs_cleaner.specs.log.memory.Present.{Looks}
 use Rattle.lfs_cleaner.specs.log.memory.declared.batch.Loss.{Loss}
 use Rattle.lfs_cleaner.specs.Room.{most_checkpoints}
@@ -22,11 +20,8 @@ pub empty_draft : (d : Draft) (m : LogMap) → IsEmpty d → (with_draft d m ≡
 empty_draft d m none = draft_empty d.changes m none
 
 -- nothing is lost by it
-pub empty_loses : (d : Draft) (n : ℕ) → IsEmpty d → IsApart d.changes.loss n
-empty_loses d n none = subst (λ (x : Loss). IsApart x n) (sym none.loss) (nothing_apart n)
-
-pub empty_apart : (d : Draft) (n : ℕ) → IsEmpty d → files.IsApart (is_lost d.changes.loss) n
-empty_apart d n none = let apart = empty_loses d n none in record { inode = apart.inode; above = apart.above }
+pub empty_apart : (d : Draft) (n : ℕ) → IsEmpty d → IsApart d.changes.loss n
+empty_apart d n none = subst (λ (x : Loss). IsApart x n) (sym none.loss) (nothing_apart n)
 
 -- ---- how many blocks of memory a draft asks for
 

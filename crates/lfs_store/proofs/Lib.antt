@@ -31,6 +31,7 @@ pub mod Shrunken
 pub mod Upgrades
 pub mod StoreSeen
 pub mod StoreMade
+pub mod Between
 pub mod Known
 pub use Rattle.lfs_cleaner.proofs.of_log as of_log
 pub use Rattle.lfs_cleaner.proofs as of_cleaner

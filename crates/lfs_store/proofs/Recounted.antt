@@ -1,6 +1,6 @@
 -- The totals of a draft that writes, cuts, makes or removes one file.
 use Rattle.std.specs.Int.{div_ceil}
-use Rattle.std.proofs.Common.{◌≡◌, ◌<◌, ◌≤◌, ◌⊎◌, ⊎_elim, ◌+◌, ◌/◌, nat_lt, ℕ, false, length, List, [], ◌∷◌, Option, Some, None, refl, sym}
+use Rattle.std.proofs.Common.{◌≡◌, ◌<◌, ◌≤◌, ◌⊎◌, ⊎_elim, ◌+◌, ◌/◌, ℕ, false, length, List, [], ◌∷◌, Option, Some, None, refl, sym}
 use Rattle.std.proofs.Common.{◌∙◌, ap, subst, arith}
 use Rattle.lfs_model.specs.Device.{DeviceState, IsLawful}
 use Rattle.lfs_model.specs.Encodes.{IsLogMap}
@@ -12,23 +12,22 @@ use Rattle.lfs_cleaner.specs.log.memory.declared.changes.Changes.{Changes}
 use Rattle.lfs_cleaner.specs.log.memory.files.declared.header.Header as headers
 use Rattle.lfs_cleaner.specs.log.memory.Batch.{IsNoChange, staged}
 use Rattle.lfs_cleaner.specs.log.memory.Changing.{with_header}
-use Rattle.lfs_cleaner.specs.log.memory.Present.{as_header}
 use Rattle.lfs_cleaner.specs.log.memory.Removing.{without_file}
 use Rattle.lfs_cleaner.proofs.of_log.of_memory.LogMaps.{is_with_header}
 use Rattle.lfs_cleaner.proofs.of_log.of_memory.Presents.{looks_then}
+use Rattle.lfs_cleaner.proofs.of_log.of_memory.Removed.{is_without}
 use Rattle.lfs_cleaner.specs.log.LogState.{LogState, Reads, Alters, IsKept, IsRemoved}
 use Rattle.lfs_cleaner.specs.log.segments.Early.{AreUntaken}
 use Rattle.lfs_store.specs.declared.totals.Measure.{Measure}
 use Rattle.lfs_cleaner.specs.log.verify.declared.totals.BlockTotals.{BlockTotals}
 use Rattle.lfs_store.specs.Measuring.{Measures}
-use Rattle.lfs_store.specs.Making.{Makes, SetsLinks, DraftsRemoval, relinked}
-use Rattle.lfs_store.specs.Recounting.{AreTotals, Recounts, Remeasures, Counts, CountsMade, CountsRelinked, CountsGone}
+use Rattle.lfs_store.specs.Recounting.{AreTotals, Recounts, Remeasures, Counts, CountsGone}
 use Rattle.lfs_model.specs.Totals.{HasMeasure, meta_of_file, data_in, meta_in}
 use Rattle.lfs_store.specs.Writing.{Writes, SetsLen}
 use Rattle.lfs_store.proofs.Apart.{no_change}
 use Rattle.lfs_store.proofs.Leaves.{beside_none}
 use Rattle.lfs_cleaner.proofs.of_log.LogReads.{held_still}
-use Rattle.lfs_store.proofs.Makings.{changed_header, without_header, without_changed}
+use Rattle.lfs_store.proofs.Makings.{changed_header, without_changed}
 use Rattle.lfs_store.proofs.Measures.{nothing_stored, stored_nothing}
 use Rattle.lfs_store.proofs.Recountings.{counts, recounted, same_high}
 use Rattle.lfs_store.proofs.Summing.{stored_all, totals_of_change}
@@ -56,35 +55,29 @@ no_measure m n from to none gone = record {
 }
 
 -- ---- a file is made
-pub made_counts : (c c' : Changes) (n : ℕ) (head : headers.Header) (old new : BlockTotals) → 1 ≤ n → n ≤ 4095 → Makes c c' n head
+pub made_counts : (a b : LogMap) (n : ℕ) (head : Header) (old new : BlockTotals) → 1 ≤ n → n ≤ 4095 → with_header a n (Some head) ≡ b
+    → IsLogMap a → a.header n ≡ None
     → Recounts old new (record { data_blocks = 0; meta_blocks = 0 }) (record { data_blocks = 0; meta_blocks = 1 })
-    → CountsMade c c' n old new
-made_counts c c' n head old new some few makes recounts m map gone are =
-    recounted (staged c m) (staged c' m) n 0 0 old new (record { data_blocks = 0; meta_blocks = 0 })
-    (record { data_blocks = 0; meta_blocks = 1 }) changed some few (omega arith) (omega arith)
-    (λ i out. same n i) (no_measure (staged c m) n 0 0 none gone)
+    → AreTotals a old → AreTotals b new
+made_counts a b n head old new some few is map gone recounts are = subst (λ (x : LogMap). AreTotals x new) is
+    (recounted a over n 0 0 old new (record { data_blocks = 0; meta_blocks = 0 })
+    (record { data_blocks = 0; meta_blocks = 1 }) (changed_header a n (Some head)) some few (omega arith) (omega arith)
+    (λ i out. refl) (no_measure a n 0 0 none gone)
     (record {
-      stored = sym (stored_nothing (staged c' m) n 0 0 (λ i le lt. none' i));
-      above = (let none = beside_none (staged c' m) n none' 0 0 in let one = above in omega (arith, none, one));
-    }) recounts are
+      stored = sym (stored_nothing over n 0 0 (λ i le lt. none i));
+      above = (let none = beside_none over n none 0 0 in let one = above in omega (arith, none, one));
+    }) recounts are)
   where
-    same : (k i : ℕ) → (staged c' m).block k i ≡ (staged c m).block k i
-    same k i = ap (λ (x : LogMap). x.block k i) (makes.map m)
+    over : LogMap
+    over = with_header a n (Some head)
 
-    none : (i : ℕ) → is_stored (staged c m) n i ≡ false
-    none = nothing_stored (staged c m) n map gone
+    none : (i : ℕ) → is_stored a n i ≡ false
+    none = nothing_stored a n map gone
 
-    none' : (i : ℕ) → is_stored (staged c' m) n i ≡ false
-    none' i = ap (λ (b : List ℕ). nat_lt 0 (length b)) (same n i) ∙ none i
-
-    changed : IsChangedAt (staged c m) n (staged c' m)
-    changed = subst (IsChangedAt (staged c m) n) (sym (makes.map m)) (changed_header (staged c m) n (Some (as_header head)))
-
-    above : 1 ≡ meta_of_file (staged c' m) n
+    above : 1 ≡ meta_of_file over n
     above =
-        ap (λ (k : ℕ). 1 + k) (sym (inode_alone (staged c' m) n none'))
-        ∙ ap (λ (o : Option Header). meta_by o (pointers (stored_blocks (staged c' m) n)))
-        (sym (ap (λ (x : LogMap). x.header n) (makes.map m) ∙ (is_with_header (staged c m) n (Some (as_header head))).own))
+        ap (λ (k : ℕ). 1 + k) (sym (inode_alone over n none))
+        ∙ ap (λ (o : Option Header). meta_by o (pointers (stored_blocks over n))) (sym (is_with_header a n (Some head)).own)
 
 -- ---- a file has other links
 
@@ -115,12 +108,6 @@ relinked_totals m n h h' t some few there are =
     others : (a b x y : ℕ) → b + x ≡ a + y → x ≡ y → a ≡ b
     others a b x y e same = omega (arith, e, same)
 
-pub relinked_counts : (c c' : Changes) (n : ℕ) (head : headers.Header) (links : ℕ) (t : BlockTotals) → 1 ≤ n → n ≤ 4095
-    → SetsLinks c c' n head links → CountsRelinked c c' n head t
-relinked_counts c c' n head links t some few sets m there are =
-    subst (λ (x : LogMap). AreTotals x t) (sym (sets.map m))
-    (relinked_totals (staged c m) n (as_header head) (as_header (relinked head links)) t some few there are)
-
 -- ---- over a log
 module _ {D : Type 0} (state : D → DeviceState) (h a b h' : LogState D) (c c' : Changes) (n : ℕ) (before : Measure) (old new : BlockTotals)
     (some : 1 ≤ n) (few : n ≤ 4095)
@@ -150,17 +137,6 @@ module _ {D : Type 0} (state : D → DeviceState) (h a b h' : LogState D) (c c' 
             out,
       )))
 
-  pub remove_counts : IsNoChange c → Measures state h a c n 0 16624 before → DraftsRemoval c' n
-      → Remeasures state b h' c' n 0 16624 before old new → Counts state h h' c c' old new
-  remove_counts none measured removes again =
-      counts state h a b h' c c' n 0 16624 before old new some few (omega arith) (omega arith) first measured next last again
-      (λ k m0 m keeps is map map'. (
-        subst (λ (x : LogMap). IsChangedAt x n (staged c' m)) (sym (no_change c m none))
-            (subst (IsChangedAt m n) (sym (removes.map m)) (without_changed m n)),
-        λ i out. ⊎_elim (λ (lt : i < 0). absurd (omega (arith, lt)))
-            (λ (high : 16624 ≤ i). same_high (staged c m) (staged c' m) n i map map' high) out,
-      ))
-
 module _ {D : Type 0} (state : D → DeviceState) where
   -- ---- a file goes at once
   pub gone_counts : (h a h' : LogState D) (c : Changes) (n : ℕ) (before : Measure) (old new : BlockTotals) → 1 ≤ n → n ≤ 4095 → IsNoChange c
@@ -169,7 +145,7 @@ module _ {D : Type 0} (state : D → DeviceState) where
   gone_counts h a h' c n before old new some few none first measured alters recounts k m0 m keeps is map map' are =
       let same = no_change c m none in
       let was = measured k m0 m (alters.looks.carries.kept_before keeps) is (subst IsLogMap (sym same) map) in
-      let gone = without_header m n in
+      let gone = (is_without m n).header in
       recounted m (without_file n m) n 0 16624 old new before (record { data_blocks = 0; meta_blocks = 0 }) (without_changed m n) some few
       (omega arith) (omega arith)
       (λ i out.

@@ -1,131 +1,183 @@
--- What calls of a store that make files, relink and remove them are to the layers above, and reads of bytes.
-use Rattle.std.proofs.Common.{◌≡◌, ◌-◌, ℕ, List, Some, length, refl, sym, ◌∙◌, ap, subst}
-use Rattle.lfs_model.specs.Bytes.{part}
-use Rattle.lfs_model.specs.Changing.{IsWithHeader}
-use Rattle.lfs_model.specs.Cutting.{IsWithoutFile}
+-- What calls of a store that make files, relink and remove them are to the layers above.
+use Rattle.std.proofs.Common.{◌≡◌, ◌<◌, ◌≤◌, ◌==◌, ℕ, length, Some, None, refl, sym, ◌∙◌, ap, ap₂, subst, arith}
+use Rattle.std.proofs.lemmas.Bool.{ne_eqb}
 use Rattle.lfs_model.specs.Device.{DeviceState}
-use Rattle.lfs_model.specs.Encodes.{IsLogMap}
-use Rattle.lfs_model.specs.Inode.{IsForm}
+use Rattle.lfs_model.specs.Entry as entry
+use Rattle.lfs_model.specs.Memory.{is_unlinked}
 use Rattle.lfs_model.specs.Stands.{LogMap}
-use Rattle.lfs_model.specs.TreeOf.{object}
+use Rattle.lfs_model.proofs.ObjectMaps.{object_lost}
 use Rattle.lfs_files.specs.declared.header.Header.{Header}
 use Rattle.lfs_files.specs.Files as files
 use Rattle.lfs_files.specs.Files.{FilesState}
-use Rattle.lfs_files.specs.Headers.{as_header, relinked}
+use Rattle.lfs_files.specs.Headers.{FitsHeader, as_header, reformed, relinked}
 use Rattle.lfs_files.specs.Making as files_made
+use Rattle.lfs_cleaner.specs.log.memory.declared.batch.LastLink.{LastLink}
+use Rattle.lfs_cleaner.specs.log.memory.declared.batch.Removal.{Removal}
 use Rattle.lfs_cleaner.specs.log.memory.declared.batch.Loss.{Loss}
+use Rattle.lfs_cleaner.specs.log.memory.declared.batch.Loss.TheVariants.{Link, File}
 use Rattle.lfs_cleaner.specs.log.memory.Batch.{IsNoChange, is_lost, staged}
-use Rattle.lfs_cleaner.specs.log.LogState.{LogState, Reads}
+use Rattle.lfs_cleaner.specs.log.memory.Changing.{header_with, with_header}
+use Rattle.lfs_cleaner.specs.log.memory.Removing.{without_file}
+use Rattle.lfs_cleaner.specs.log.LogState.{LogState}
 use Rattle.lfs_cleaner.specs.log.verify.declared.totals.BlockTotals.{BlockTotals}
+use Rattle.lfs_cleaner.proofs.of_log.of_memory.LogMaps.{is_with_header}
 use Rattle.lfs_cleaner.proofs.of_log.of_memory.Removed.{is_without}
 use Rattle.lfs_store.specs.declared.draft.Draft.{Draft}
-use Rattle.lfs_store.specs.Making as making
-use Rattle.lfs_store.specs.Reading.{ReadsPart}
-use Rattle.lfs_store.specs.Recounting as counts
-use Rattle.lfs_store.specs.Seen.{HasMap, StagedLog, counted_of, state_of}
-use Rattle.lfs_store.proofs.Apart.{no_change}
-use Rattle.lfs_cleaner.proofs.of_log.LogReads.{held_still, reads_none}
-use Rattle.lfs_store.proofs.Writings.{header_put}
+use Rattle.lfs_store.specs.Drafting.{IsApart, LosesOnly, PutsHeader}
+use Rattle.lfs_store.specs.Recounting.{AreTotals, Recounts}
+use Rattle.lfs_store.specs.Seen.{HasMap, StagedLog, state_of}
+use Rattle.lfs_store.proofs.Apart.{file_apart, link_apart, no_change}
+use Rattle.lfs_store.proofs.Growths.{room_few}
+use Rattle.lfs_store.proofs.Makings.{headed_map, made_map, without_changed}
+use Rattle.lfs_store.proofs.Recounted.{made_counts, relinked_totals}
+use Rattle.lfs_store.proofs.Writings.{takes_header}
 
-module _ {D : Type 0} (state : D → DeviceState) (h h' : LogState D) (d d' : Draft) (u u' : BlockTotals) where
+module _ {D : Type 0} (state : D → DeviceState) (h : LogState D) (d d' : Draft) (u u' : BlockTotals) where
   abbrev S : FilesState StagedLog Draft
   S = state_of state h d u
 
   abbrev S' : FilesState StagedLog Draft
-  S' = state_of state h' d' u'
-
-  -- ---- reading
-  pub seen_part : (n from to : ℕ) (bytes : List ℕ) → ReadsPart state h h' d.changes n from to bytes → files.TellsPart S S' n from to bytes
-  seen_part n from to bytes answer m m' keeps is head few =
-      subst (λ (x : LogMap). bytes ≡ part (object x n head) from (to - from)) (sym is.draft)
-      (answer is.checkpoint is.acknowledged m keeps is.holds head few)
-
-  -- ---- calls that change the draft alone
-  pub same_log : h' ≡ h → Reads state h h'
-  same_log same = subst (Reads state h) (sym same) (reads_none state h)
+  S' = state_of state h d' u'
 
   -- the log map with the new draft
-  has_staged : Reads state h h' → (m m' : LogMap) → HasMap state h d.changes m m' → HasMap state h' d'.changes m (staged d'.changes m)
-  has_staged reads m m' has = record {
-    checkpoint = has.checkpoint;
-    acknowledged = has.acknowledged;
-    holds = held_still state h h' has.checkpoint has.acknowledged m reads has.holds;
-    draft = refl;
-  }
+  became : (m m' x : LogMap) → HasMap state h d.changes m m' → x ≡ staged d'.changes m → HasMap state h d'.changes m x
+  became m m' x has draft =
+      record { checkpoint = has.checkpoint; acknowledged = has.acknowledged; holds = has.holds; draft = draft }
+
+  at : (n : ℕ) (m m' : LogMap) → HasMap state h d.changes m m' → (staged d.changes m).header n ≡ m'.header n
+  at n m m' has = ap (λ (x : LogMap). x.header n) (sym has.draft)
 
   -- a header drafted by itself
-  with_head : (m m' : LogMap) → HasMap state h d.changes m m' → (n : ℕ) (head : Header)
-      → IsWithHeader (staged d.changes m) n (Some (as_header head)) (staged d'.changes m)
-      → IsWithHeader m' n (Some (as_header head)) (staged d'.changes m)
-  with_head m m' has n head =
-      subst (λ (x : LogMap). IsWithHeader x n (Some (as_header head)) (staged d'.changes m)) (sym has.draft)
+  abbrev Puts : ℕ → Header → Type 0
+  Puts n head = (m : LogMap) → staged d'.changes m ≡ with_header (staged d.changes m) n (Some (as_header head))
+
+  put : (n : ℕ) (head : Header) → Puts n head → (m m' : LogMap) → HasMap state h d.changes m m'
+      → with_header m' n (Some (as_header head)) ≡ staged d'.changes m
+  put n head puts m m' has = ap (λ (x : LogMap). with_header x n (Some (as_header head))) has.draft ∙ sym (puts m)
+
+  pub header_counts : (n : ℕ) (old head : Header) → 1 ≤ n → n ≤ 4095 → u' ≡ u → Puts n head → files.CountsReformed S S' n old
+  header_counts n old head some few same puts m a b has has' there are =
+      subst (λ (x : LogMap). AreTotals x u') (put n head puts m a has ∙ sym has'.draft)
+      (relinked_totals a n (as_header old) (as_header head) u' some few there
+      (subst (λ (t : BlockTotals). AreTotals a t) (sym same) are))
+
+  -- ---- another form
+  pub reforms : (n : ℕ) (head : Header) (form size : ℕ) → PutsHeader d.changes d'.changes n (reformed head form size)
+      → files.Reforms S S' n head form size
+  reforms n head form size puts = record {
+    lost = λ y. ap (λ (x : Loss). is_lost x y) puts.loss;
+    headers = puts.few;
+    blocks = ap length (ap (λ v. v.items) puts.blocks);
+    asked = λ none empty. room_few d'.changes 1 0 (let few = puts.few in omega (arith, few, none))
+        (let same = ap length (ap (λ v. v.items) puts.blocks) in omega (arith, same, empty));
+    fits = λ m m' has fits takes. puts.fits m fits
+        (takes_header d.changes m n head (reformed head form size) (at n m m' has ∙ takes.there) refl takes.apart.inode takes.header);
+    file = λ m m' has. record {
+      map = with_header m' n (Some (as_header (reformed head form size)));
+      has = became m m' _ has (put n (reformed head form size) puts.map m m' has);
+      file = is_with_header m' n (Some (as_header (reformed head form size)));
+    };
+  }
 
   -- ---- a file is made
-  pub seen_made : (n : ℕ) (head : Header) → Reads state h h' → making.Makes d.changes d'.changes n head → files_made.Makes S S' n head
-  seen_made n head reads is = record {
-    lost = λ y. ap (λ (x : Loss). is_lost x y) is.loss;
-    headers = is.few;
-    blocks = ap length (ap (λ v. v.items) is.blocks);
-    fits = λ m m' has fits takes. is.fits m fits (ap (λ (x : LogMap). x.header n) (sym has.draft) ∙ takes.free) takes.apart takes.header;
+  pub makes : (n : ℕ) (head : Header) → 1 ≤ n → head.size ≤ 8511488 → PutsHeader d.changes d'.changes n head
+      → files_made.Makes S S' n head
+  makes n head some few puts = record {
+    lost = λ y. ap (λ (x : Loss). is_lost x y) puts.loss;
+    headers = puts.few;
+    blocks = ap length (ap (λ v. v.items) puts.blocks);
+    fits = λ m m' has fits takes. puts.fits m fits record {
+      header = takes.header;
+      name = λ there. (let never : None ≡ Some there.0 = sym (at n m m' has ∙ takes.free) ∙ there.1 in absurd (cc));
+      apart = takes.apart;
+    };
     has = λ m m' has. record {
-      map = staged d'.changes m;
-      has = has_staged reads m m' has;
-      file = with_head m m' has n head (header_put (staged d.changes m) (staged d'.changes m) n head (is.map m));
-      keeps = λ whole free form. is.keeps m (subst IsLogMap has.draft whole) (ap (λ (x : LogMap). x.header n) (sym has.draft) ∙ free)
-          (subst (λ (x : LogMap). IsForm x.version head.kind head.form) has.draft form);
+      map = with_header m' n (Some (as_header head));
+      has = became m m' _ has (put n head puts.map m m' has);
+      file = is_with_header m' n (Some (as_header head));
+      keeps = λ whole free form. made_map m' n (as_header head) whole free some few form;
     };
   }
 
-  pub seen_counts_made : (n : ℕ) → counts.CountsMade d.changes d'.changes n u u' → files_made.CountsMade S S' n
-  seen_counts_made n is m a b has has' whole free are =
-      subst (λ (x : LogMap). files.AreCounted x (counted_of u')) (sym has'.draft)
-      (is m (subst IsLogMap has.draft whole) (ap (λ (x : LogMap). x.header n) (sym has.draft) ∙ free)
-      (subst (λ (x : LogMap). files.AreCounted x (counted_of u)) has.draft are))
+  pub counts_made : (n : ℕ) (head : Header) → 1 ≤ n → n ≤ 4095 → PutsHeader d.changes d'.changes n head
+      → Recounts u u' (record { data_blocks = 0; meta_blocks = 0 }) (record { data_blocks = 0; meta_blocks = 1 })
+      → files_made.CountsMade S S' n
+  counts_made n head some few puts recounts m a b has has' whole free are =
+      made_counts a b n (as_header head) u u' some few (put n head puts.map m a has ∙ sym has'.draft) whole free recounts are
 
   -- ---- its links
-  pub seen_relinked : (n : ℕ) (head : Header) (links : ℕ) → Reads state h h' → making.SetsLinks d.changes d'.changes n head links
+  relinked_map : (n : ℕ) (head : Header) (links : ℕ) → Puts n (relinked head links) → (m m' : LogMap) → HasMap state h d.changes m m'
+      → files_made.HasRelinked S' m m' n head links
+  relinked_map n head links puts m m' has = record {
+    map = with_header m' n (Some (as_header (relinked head links)));
+    has = became m m' _ has (put n (relinked head links) puts m m' has);
+    file = is_with_header m' n (Some (as_header (relinked head links)));
+    keeps = λ whole there. headed_map m' n (as_header head) (as_header (relinked head links)) whole there refl refl refl;
+  }
+
+  pub relinks : (n : ℕ) (head : Header) (links : ℕ) → 1 ≤ links → PutsHeader d.changes d'.changes n (relinked head links)
       → files_made.SetsLinks S S' n head links
-  seen_relinked n head links reads is = record {
-    lost = λ some y. ap (λ (x : Loss). is_lost x y) (is.loss some);
-    apart = λ k was. let now = is.apart k record { inode = was.inode; above = was.above } in
-        record { inode = now.inode; above = now.above };
-    headers = is.few;
-    blocks = ap length is.blocks;
-    fits = λ m m' has fits takes.
-        is.fits m fits (ap (λ (x : LogMap). x.header n) (sym has.draft) ∙ takes.there) takes.linked takes.apart takes.header;
-    has = λ m m' has. record {
-      map = staged d'.changes m;
-      has = has_staged reads m m' has;
-      file = with_head m m' has n (relinked head links)
-          (header_put (staged d.changes m) (staged d'.changes m) n (relinked head links) (is.map m));
-      keeps = λ whole there.
-          is.keeps m (subst IsLogMap has.draft whole) (ap (λ (x : LogMap). x.header n) (sym has.draft) ∙ there);
-    };
+  relinks n head links some puts = record {
+    lost = λ _ y. ap (λ (x : Loss). is_lost x y) puts.loss;
+    apart = λ k was. subst (λ (x : Loss). IsApart x k) (sym puts.loss) was;
+    headers = puts.few;
+    blocks = ap length (ap (λ v. v.items) puts.blocks);
+    fits = λ m m' has fits takes. puts.fits m fits
+        (takes_header d.changes m n head (relinked head links) (at n m m' has ∙ takes.there)
+        (both_linked links head.links some takes.linked)
+        takes.apart takes.header);
+    has = relinked_map n head links puts.map;
   }
+    where
+      both_linked : (a b : ℕ) → 1 ≤ a → 0 < b → (a == 0) ≡ (b == 0)
+      both_linked a b some linked = ne_eqb a 0 (λ e. omega (arith, e, some)) ∙ sym (ne_eqb b 0 (λ e. omega (arith, e, linked)))
 
-  pub seen_counts_relinked : (n : ℕ) (head : Header) → u' ≡ u → counts.CountsRelinked d.changes d'.changes n head u'
-      → files_made.CountsRelinked S S' n head
-  seen_counts_relinked n head same is m a b has has' there are =
-      subst (λ (x : LogMap). files.AreCounted x (counted_of u')) (sym has'.draft)
-      (is m (ap (λ (x : LogMap). x.header n) (sym has.draft) ∙ there)
-      (subst (λ (t : BlockTotals). files.AreCounted (staged d.changes m) (counted_of t)) (sym same)
-      (subst (λ (x : LogMap). files.AreCounted x (counted_of u)) has.draft are)))
-
-  -- ---- it goes
-  pub seen_removed : (n : ℕ) → IsNoChange d.changes → Reads state h h' → making.DraftsRemoval d'.changes n → files_made.Removes S S' n
-  seen_removed n none reads is = record {
-    headers = ap length is.headers;
-    blocks = ap length is.blocks;
-    apart = λ k ne. let now = is.apart k ne in record { inode = now.inode; above = now.above };
-    fits = is.fits;
-    has = λ m m' has. record {
-      map = staged d'.changes m;
-      has = has_staged reads m m' has;
-      file = subst (λ (x : LogMap). IsWithoutFile x n (staged d'.changes m)) (sym (was m m' has))
-          (subst (IsWithoutFile m n) (sym (is.map m)) (is_without m n));
-      keeps = λ whole. is.keeps m (subst IsLogMap (was m m' has) whole);
-    };
-  }
+  module _ (none : IsNoChange d.changes) (headers : d'.changes.headers ≡ d.changes.headers) (blocks : d'.changes.blocks ≡ d.changes.blocks)
     where
       was : (m m' : LogMap) → HasMap state h d.changes m m' → m' ≡ m
       was m m' has = has.draft ∙ no_change d.changes m none
+
+      -- the last of them is lost
+      module _ (n : ℕ) (head : Header) (l : LastLink) (number : l.number ≡ n)
+          (same : header_with l.kind l.form 0 l.size ≡ as_header (relinked head 0)) (only : LosesOnly d'.changes (Link l)) where
+        pub link_put : Puts n (relinked head 0)
+        link_put m =
+            only.map m
+            ∙ ap (λ (k : ℕ). with_header m k (Some (header_with l.kind l.form 0 l.size))) number
+            ∙ ap (λ (x : entry.Header). with_header m n (Some x)) same
+            ∙ ap (λ (a : LogMap). with_header a n (Some (as_header (relinked head 0)))) (sym (no_change d.changes m none))
+
+        pub loses_link : d'.changes.loss ≡ Link l → files_made.SetsLinks S S' n head 0
+        loses_link lost = record {
+          lost = λ never. absurd (omega (arith, never));
+          apart = λ k _. subst (λ (x : Loss). IsApart x k) (sym lost) (link_apart l k);
+          headers = let same = ap length (ap (λ v. v.items) headers) in omega (arith, same);
+          blocks = ap length (ap (λ v. v.items) blocks);
+          fits = λ m m' has fits takes. (
+              let there = ap m.header number ∙ sym (ap (λ (x : LogMap). x.header n) (was m m' has)) ∙ takes.there in
+              let linked = takes.linked in
+              only.fits m (
+                subst (λ (x : entry.Header). FitsHeader x.kind x.form x.links x.size) (sym same) takes.header,
+                (as_header head, there),
+                ap is_unlinked there ∙ ne_eqb head.links 0 (λ e. omega (arith, e, linked)),
+              ));
+          has = relinked_map n head 0 link_put;
+        }
+
+      -- ---- it goes
+      pub removes : (n : ℕ) (r : Removal) → r.number ≡ n → d'.changes.loss ≡ File r → LosesOnly d'.changes (File r)
+          → files_made.Removes S S' n
+      removes n r number lost only = record {
+        headers = ap length (ap (λ v. v.items) headers ∙ none.headers);
+        blocks = ap length (ap (λ v. v.items) blocks ∙ none.blocks);
+        apart = λ k ne. subst (λ (x : Loss). IsApart x k) (sym lost) (file_apart r k (λ e. ne (e ∙ number)));
+        fits = λ m. only.fits m tt;
+        has = λ m m' has. record {
+          map = without_file n m';
+          has = became m m' _ has (ap₂ without_file (sym number) (was m m' has) ∙ sym (only.map m));
+          file = is_without m' n;
+          keeps = λ whole other. (
+              let gone = is_without m' n in
+              object_lost m' (without_file n m') n whole (without_changed m' n) gone.header gone.block other);
+        };
+      }

@@ -1,28 +1,28 @@
 -- What calls of a store are to the layers above.
 use Rattle.std.specs.Prelude.{max, IfErr, IfOk, IsFalse, OnOk}
-use Rattle.std.proofs.Common.{◌≡◌, ◌≤◌, ◌+◌, ◌*◌, ℕ, Bool, List, Option, Some, Result, Ok, Err, length, refl, sym, ◌∙◌, ap, ap₂, subst}
+use Rattle.std.proofs.Common.{◌≡◌, ◌≤◌, ◌+◌, ◌-◌, ◌*◌, ℕ, Bool, List, Option, Result, Ok, Err, length, refl, sym, ◌∙◌, ap, ap₂, subst}
 use Rattle.std.proofs.Common.{arith}
-use Rattle.lfs_model.specs.Changing.{IsWithHeader}
+use Rattle.lfs_model.specs.Bytes.{part}
 use Rattle.lfs_model.specs.Cutting.{is_past}
 use Rattle.lfs_model.specs.Device.{DeviceState}
 use Rattle.lfs_model.specs.Encodes.{IsLogMap}
 use Rattle.lfs_model.specs.Fields.{zeros}
 use Rattle.lfs_model.specs.Stands.{LogMap}
 use Rattle.lfs_model.specs.Tree.{slot_len}
+use Rattle.lfs_model.specs.TreeOf.{object}
 use Rattle.lfs_files.specs.declared.header.Header.{Header}
 use Rattle.lfs_files.specs.Files as files
 use Rattle.lfs_files.specs.Files.{FilesState, asked_by_directory, HasShrunk, HasSized, HasWritten, HoldsBlock, SizesFile, TakesShrink}
 use Rattle.lfs_files.specs.Files.{TakesWrite, WritesFile}
-use Rattle.lfs_files.specs.Headers.{HeaderAnswer, as_header, reformed, resized}
+use Rattle.lfs_files.specs.Headers.{HeaderAnswer, resized}
 use Rattle.lfs_cleaner.specs.log.memory.declared.batch.Loss.{Loss}
 use Rattle.lfs_cleaner.specs.log.memory.Batch.{FitsBatch, IsNoChange, is_lost, room_for, staged}
 use Rattle.lfs_cleaner.specs.log.LogState as held
 use Rattle.lfs_cleaner.specs.log.LogState.{LogState, Holds, IsReadFault}
 use Rattle.lfs_store.specs.declared.draft.Draft.{Draft}
 use Rattle.lfs_cleaner.specs.log.verify.declared.totals.BlockTotals.{BlockTotals}
-use Rattle.lfs_store.specs.Drafting.{PutsHeader}
 use Rattle.lfs_store.specs.Growing.{IsLone}
-use Rattle.lfs_store.specs.Reading.{ReadsHeader, ReadsBlock}
+use Rattle.lfs_store.specs.Reading.{ReadsHeader, ReadsBlock, ReadsPart}
 use Rattle.lfs_store.specs.Recounting.{AreTotals}
 use Rattle.lfs_store.specs.Recounting as counts
 use Rattle.lfs_store.specs.Seen.{HasMap, StagedLog, counted_of, state_of}
@@ -30,10 +30,8 @@ use Rattle.lfs_store.specs.Shrinking as shrinking
 use Rattle.lfs_store.specs.Writing as writing
 use Rattle.lfs_cleaner.proofs.of_log.Unsaved.{none_left}
 use Rattle.lfs_store.proofs.Apart.{no_change}
-use Rattle.lfs_store.proofs.Growths.{room_few}
-use Rattle.lfs_store.proofs.Recounted.{relinked_totals}
 use Rattle.lfs_cleaner.proofs.of_log.LogReads.{held_still}
-use Rattle.lfs_store.proofs.Writings.{block_read, header_put, takes_header}
+use Rattle.lfs_store.proofs.Writings.{block_read}
 
 module _ {D : Type 0} (state : D → DeviceState) (h h' : LogState D) (d d' : Draft) (u u' : BlockTotals) where
   abbrev S : FilesState StagedLog Draft
@@ -109,6 +107,11 @@ module _ {D : Type 0} (state : D → DeviceState) (h h' : LogState D) (d d' : Dr
   seen_block_then n i out (Ok stored) long blank answer = seen_block n i out stored long blank answer
   seen_block_then n i out (Err e) long blank answer = record {}
 
+  pub seen_part : (n from to : ℕ) (bytes : List ℕ) → ReadsPart state h h' d.changes n from to bytes → files.TellsPart S S' n from to bytes
+  seen_part n from to bytes answer m m' keeps is head few =
+      subst (λ (x : LogMap). bytes ≡ part (object x n head) from (to - from)) (sym is.draft)
+      (answer is.checkpoint is.acknowledged m keeps is.holds head few)
+
   -- ---- changing the draft
   pub seen_redraft : held.Reads state h h' → files.Redrafts S S'
   seen_redraft reads = record {
@@ -158,39 +161,6 @@ module _ {D : Type 0} (state : D → DeviceState) (h h' : LogState D) (d d' : Dr
     headers = lone.headers;
     blocks = let none = lone.blocks in none_left d.changes.blocks.items (omega (arith, none));
   } lone.few
-
-  pub seen_reformed : (n : ℕ) (head : Header) (form size : ℕ) → held.Reads state h h'
-      → PutsHeader d.changes d'.changes n (reformed head form size) → files.Reforms S S' n head form size
-  seen_reformed n head form size reads is = record {
-    lost = λ y. ap (λ (x : Loss). is_lost x y) is.loss;
-    headers = is.few;
-    blocks = ap length (ap (λ v. v.items) is.blocks);
-    asked = λ none empty. room_few d'.changes 1 0 (let few = is.few in omega (arith, few, none))
-        (let same = ap length (ap (λ v. v.items) is.blocks) in omega (arith, same, empty));
-    fits = λ m m' has fits takes. is.fits m fits
-        (takes_header d.changes m n head (reformed head form size) (ap (λ (x : LogMap). x.header n) (sym has.draft) ∙ takes.there) refl
-        takes.apart.inode takes.header);
-    file = λ m m' has. record {
-      map = staged d'.changes m;
-      has = record {
-        checkpoint = has.checkpoint;
-        acknowledged = has.acknowledged;
-        holds = held_still state h h' has.checkpoint has.acknowledged m reads has.holds;
-        draft = refl;
-      };
-      file = subst (λ (x : LogMap). IsWithHeader x n (Some (as_header (reformed head form size))) (staged d'.changes m)) (sym has.draft)
-          (header_put (staged d.changes m) (staged d'.changes m) n (reformed head form size) (is.map m));
-    };
-  }
-
-  pub seen_counts_reformed : (n : ℕ) (head : Header) (form size : ℕ) → 1 ≤ n → n ≤ 4095 → u' ≡ u
-      → PutsHeader d.changes d'.changes n (reformed head form size) → files.CountsReformed S S' n head
-  seen_counts_reformed n head form size some few same is m a b has has' there are =
-      let was : AreTotals (staged d.changes m) u = subst (λ (x : LogMap). AreTotals x u) has.draft are in
-      let at : (staged d.changes m).header n ≡ Some (as_header head) = ap (λ (x : LogMap). x.header n) (sym has.draft) ∙ there in
-      let now : AreTotals (staged d'.changes m) u = subst (λ (x : LogMap). AreTotals x u) (sym (is.map m))
-      (relinked_totals (staged d.changes m) n (as_header head) (as_header (reformed head form size)) u some few at was) in
-      subst (λ (t : BlockTotals). AreTotals b t) (sym same) (subst (λ (x : LogMap). AreTotals x u) (sym has'.draft) now)
 
   pub seen_shrunk : (n : ℕ) (head : Header) (len : ℕ) → held.Reads state h h' → shrinking.Shrinks state h h' d.changes d'.changes n head len
       → files.Shrinks S S' n head len

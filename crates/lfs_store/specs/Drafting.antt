@@ -5,6 +5,7 @@ use Rattle.lfs_model.specs.Encodes.{HasInode}
 use Rattle.lfs_model.specs.Entry.{Data, Inode}
 use Rattle.lfs_model.specs.Memory.{parent, is_nameless}
 use Rattle.lfs_model.specs.Stands.{LogMap}
+use Rattle.lfs_files.specs.Files as files
 use Rattle.lfs_cleaner.specs.log.memory.declared.batch.BlockEdit.{BlockEdit}
 use Rattle.lfs_cleaner.specs.log.memory.declared.batch.HeaderEdit.{HeaderEdit}
 use Rattle.lfs_cleaner.specs.log.memory.declared.batch.Cut.{Cut}
@@ -89,9 +90,8 @@ pub record TakesBlock (c : Changes) (m : LogMap) (n i : ℕ) : Type 0 where
   pub within : IsWithin m n i
 
 -- What is lost is apart from file n: from its inode, and from each block that may be above one of its data blocks.
-pub record IsApart (x : Loss) (n : ℕ) : Type 0 where
-  pub inode : is_lost x (Inode n) ≡ false
-  pub above : (i : ℕ) → is_lost x (parent (Data n i)) ≡ false
+abbrev pub IsApart : Loss → ℕ → Type 0
+IsApart x n = files.IsApart (is_lost x) n
 
 -- Nothing is apart from all files, and so is a last link;
 abbrev pub NothingApart : Type 0

@@ -22,11 +22,7 @@ module _ {D : Type 0} (old new : Store D) where
     pub drafted : new.drafted ≡ old.drafted
 
 module _ {D : Type 0} (state : D → DeviceState) (old new : Store D) where
-  -- A call that changes the draft, and what it counts, by what it reads in the log.
-  pub record RedraftsStore : Type 0 where
-    pub reads : Reads state old.log new.log
-
-  -- One that doesn't count what it changes.
+  -- A call that changes the draft by what it reads in the log, and doesn't count what it changes.
   pub record RedraftsUncounted : Type 0 where
     pub reads : Reads state old.log new.log
     pub drafted : new.drafted ≡ old.drafted

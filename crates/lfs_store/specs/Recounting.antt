@@ -1,13 +1,11 @@
 -- The totals of a store as its draft changes one file, whose measure is taken before and after.
-use Rattle.std.specs.Prelude.{◌≡◌, ◌<◌, ◌≤◌, ◌+◌, ◌^◌, ℕ, Some, None}
+use Rattle.std.specs.Prelude.{◌≡◌, ◌<◌, ◌≤◌, ◌+◌, ◌^◌, ℕ}
 use Rattle.lfs_model.specs.Checkpoint.{CheckpointValue}
 use Rattle.lfs_model.specs.Device.{DeviceState}
 use Rattle.lfs_model.specs.Encodes.{IsLogMap}
 use Rattle.lfs_model.specs.Stands.{LogMap, StandsLog}
 use Rattle.lfs_cleaner.specs.log.memory.declared.changes.Changes.{Changes}
-use Rattle.lfs_cleaner.specs.log.memory.files.declared.header.Header.{Header}
 use Rattle.lfs_cleaner.specs.log.memory.Batch.{staged}
-use Rattle.lfs_cleaner.specs.log.memory.Present.{as_header}
 use Rattle.lfs_cleaner.specs.log.memory.Removing.{without_file}
 use Rattle.lfs_cleaner.specs.log.LogState.{LogState, Holds}
 use Rattle.lfs_store.specs.declared.totals.Measure.{Measure}
@@ -29,15 +27,6 @@ AreTotals m t = IsCounted m t.data_blocks t.meta_blocks
 pub record Recounts (old new : BlockTotals) (before after : Measure) : Type 0 where
   pub stored : Replaces old.data_blocks before.data_blocks after.data_blocks new.data_blocks
   pub above : Replaces old.meta_blocks before.meta_blocks after.meta_blocks new.meta_blocks
-
--- A file is made where none was: its inode is one block more.
-abbrev pub CountsMade : Changes → Changes → ℕ → BlockTotals → BlockTotals → Type 0
-CountsMade c c' n old new = (m : LogMap) → IsLogMap (staged c m) → (staged c m).header n ≡ None → AreTotals (staged c m) old
-    → AreTotals (staged c' m) new
-
--- A file has other links: the totals stay.
-abbrev pub CountsRelinked : Changes → Changes → ℕ → Header → BlockTotals → Type 0
-CountsRelinked c c' n h t = (m : LogMap) → (staged c m).header n ≡ Some (as_header h) → AreTotals (staged c m) t → AreTotals (staged c' m) t
 
 -- The version of the layout is raised: the totals stay.
 abbrev pub CountsUpgraded : Draft → Type 0

@@ -2,8 +2,11 @@
 ghost use Rattle.std.specs.Prelude.{◌≡◌, ◌≤◌, true, IfSome, IfNone, IfErr, OnOk, OnErr, IsErrOf};
 ghost use Rattle.lfs_model.specs.Image.{new_form};
 ghost use Rattle.lfs_cleaner.specs.log.memory.Batch.{IsNoChange};
-ghost use Rattle.lfs_store.specs.Recounting.{CountsMade, CountsRelinked, CountsUpgraded};
-ghost use Rattle.lfs_store.specs.Making.{Makes, SetsLinks, DraftsRemoval, DraftsUpgrade, first_links, first_header};
+ghost use Rattle.lfs_files.specs.Files.{Counts, Redrafts};
+ghost use Rattle.lfs_files.specs.Headers.{first_links, first_header};
+ghost use Rattle.lfs_files.specs.Making.{CountsMade, CountsRelinked, Makes, Removes, SetsLinks};
+ghost use Rattle.lfs_store.specs.Recounting.{CountsUpgraded};
+ghost use Rattle.lfs_store.specs.Making.{DraftsUpgrade};
 
 use crate::recounting::recounted;
 use crate::store::Store;
@@ -27,8 +30,9 @@ fn first_links(kind: Kind) -> u32
 impl<D: SectorDevice> Store<D> {
     ghost use Rattle.lfs_cleaner.specs.log.LogState.{IsReadFault, IsVacant, HasAll, IsRemoved, IsKept};
     ghost use Rattle.lfs_store.specs.Accepting.{Forgets};
-    ghost use Rattle.lfs_store.specs.Keeping.{DraftsUncounted, OnlyDrafts, RedraftsStore};
-    ghost use Rattle.lfs_store.specs.Recounting.{Counts, CountsGone};
+    ghost use Rattle.lfs_store.specs.Keeping.{DraftsUncounted, OnlyDrafts};
+    ghost use Rattle.lfs_store.specs.Recounting.{CountsGone};
+    ghost use Rattle.lfs_store.specs.Seen.{files_of};
 
     /// The least number that no file has in the log.
     pub fn least_free(&self) -> Option<FileNumber>
@@ -63,10 +67,10 @@ impl<D: SectorDevice> Store<D> {
         form: u8,
     ) -> Result<(), StoreFault>
         ensures keeps { OnlyDrafts self.old self.new }
-        ensures done { OnOk result (Makes self.old.draft.changes self.new.draft.changes number.value
-            (first_header kind form 0)) }
-        ensures counted { OnOk result (CountsMade self.old.draft.changes self.new.draft.changes
-            number.value self.old.drafted self.new.drafted) }
+        ensures done { OnOk result (Makes (files_of D.SectorDevice.state self.old)
+            (files_of D.SectorDevice.state self.new) number.value (first_header kind form 0)) }
+        ensures counted { OnOk result (CountsMade (files_of D.SectorDevice.state self.old)
+            (files_of D.SectorDevice.state self.new) number.value) }
         ensures failed { IfErr result (λ fault. fault ≡ StoreFault.NoMemory) }
     {
         self.make(number, kind, form, 0)
@@ -81,10 +85,11 @@ impl<D: SectorDevice> Store<D> {
     pub(crate) fn create_link(&mut self, number: FileNumber, size: u32) -> Result<(), StoreFault>
         requires most { size ≤ LONGEST_PATH }
         ensures keeps { OnlyDrafts self.old self.new }
-        ensures done { OnOk result (Makes self.old.draft.changes self.new.draft.changes number.value
+        ensures done { OnOk result (Makes (files_of D.SectorDevice.state self.old)
+            (files_of D.SectorDevice.state self.new) number.value
             (first_header Kind.Link 0 size)) }
-        ensures counted { OnOk result (CountsMade self.old.draft.changes self.new.draft.changes
-            number.value self.old.drafted self.new.drafted) }
+        ensures counted { OnOk result (CountsMade (files_of D.SectorDevice.state self.old)
+            (files_of D.SectorDevice.state self.new) number.value) }
         ensures failed { IfErr result (λ fault. fault ≡ StoreFault.NoMemory) }
     {
         self.make(number, Kind::Link, FIRST_FORM, size)
@@ -100,10 +105,11 @@ impl<D: SectorDevice> Store<D> {
     ) -> Result<(), StoreFault>
         requires most { size ≤ LARGEST_FILE }
         ensures keeps { OnlyDrafts self.old self.new }
-        ensures done { OnOk result (Makes self.old.draft.changes self.new.draft.changes number.value
+        ensures done { OnOk result (Makes (files_of D.SectorDevice.state self.old)
+            (files_of D.SectorDevice.state self.new) number.value
             (first_header kind form size)) }
-        ensures counted { OnOk result (CountsMade self.old.draft.changes self.new.draft.changes
-            number.value self.old.drafted self.new.drafted) }
+        ensures counted { OnOk result (CountsMade (files_of D.SectorDevice.state self.old)
+            (files_of D.SectorDevice.state self.new) number.value) }
         ensures failed { IfErr result (λ fault. fault ≡ StoreFault.NoMemory) }
     {
         let header = Header {
@@ -136,10 +142,10 @@ impl<D: SectorDevice> Store<D> {
     ) -> Result<(), StoreFault>
         requires last { links ≡ 0 → IsNoChange self.old.draft.changes }
         ensures keeps { DraftsUncounted self.old self.new }
-        ensures done { OnOk result (SetsLinks self.old.draft.changes self.new.draft.changes
-            number.value header links) }
-        ensures counted { OnOk result (CountsRelinked self.old.draft.changes self.new.draft.changes
-            number.value header self.new.drafted) }
+        ensures done { OnOk result (SetsLinks (files_of D.SectorDevice.state self.old)
+            (files_of D.SectorDevice.state self.new) number.value header links) }
+        ensures counted { OnOk result (CountsRelinked (files_of D.SectorDevice.state self.old)
+            (files_of D.SectorDevice.state self.new) number.value header) }
         ensures failed { IfErr result (λ fault. fault ≡ StoreFault.NoMemory) }
     {
         if links == 0 {
@@ -153,8 +159,10 @@ impl<D: SectorDevice> Store<D> {
     fn lose_link(&mut self, number: FileNumber, header: Header)
         requires empty { IsNoChange self.old.draft.changes }
         ensures keeps { DraftsUncounted self.old self.new }
-        ensures done { SetsLinks self.old.draft.changes self.new.draft.changes number.value
-            header 0 }
+        ensures done { SetsLinks (files_of D.SectorDevice.state self.old)
+            (files_of D.SectorDevice.state self.new) number.value header 0 }
+        ensures counted { CountsRelinked (files_of D.SectorDevice.state self.old)
+            (files_of D.SectorDevice.state self.new) number.value header }
     {
         self.draft.lose(Loss::Link(LastLink {
             number: number.value,
@@ -168,8 +176,10 @@ impl<D: SectorDevice> Store<D> {
     fn relink(&mut self, number: FileNumber, header: Header, links: u32) -> Result<(), StoreFault>
         requires linked { 1 ≤ links }
         ensures keeps { DraftsUncounted self.old self.new }
-        ensures done { OnOk result (SetsLinks self.old.draft.changes self.new.draft.changes
-            number.value header links) }
+        ensures done { OnOk result (SetsLinks (files_of D.SectorDevice.state self.old)
+            (files_of D.SectorDevice.state self.new) number.value header links) }
+        ensures counted { OnOk result (CountsRelinked (files_of D.SectorDevice.state self.old)
+            (files_of D.SectorDevice.state self.new) number.value header) }
         ensures failed { IfErr result (λ fault. fault ≡ StoreFault.NoMemory) }
     {
         let header = Header {
@@ -201,10 +211,12 @@ impl<D: SectorDevice> Store<D> {
     /// As those of `header`. What the draft holds then is of no use.
     pub(crate) fn remove(&mut self, number: FileNumber) -> Result<(), LogFault>
         requires empty { IsNoChange self.old.draft.changes }
-        ensures redrafts { RedraftsStore D.SectorDevice.state self.old self.new }
-        ensures done { OnOk result (DraftsRemoval self.new.draft.changes number.value) }
-        ensures counted { OnOk result (Counts D.SectorDevice.state self.old.log self.new.log
-            self.old.draft.changes self.new.draft.changes self.old.drafted self.new.drafted) }
+        ensures redrafts { Redrafts (files_of D.SectorDevice.state self.old)
+            (files_of D.SectorDevice.state self.new) }
+        ensures done { OnOk result (Removes (files_of D.SectorDevice.state self.old)
+            (files_of D.SectorDevice.state self.new) number.value) }
+        ensures counted { OnOk result (Counts (files_of D.SectorDevice.state self.old)
+            (files_of D.SectorDevice.state self.new)) }
         ensures failed { OnErr result (IsReadFault D.SectorDevice.state self.old.log self.new.log) }
         ensures halted { IsErrOf result LogFault.Halted → self.old.log.halted ≡ true }
         ensures other { IsErrOf result LogFault.Full → ⊥ }
@@ -218,7 +230,8 @@ impl<D: SectorDevice> Store<D> {
     fn lose_file(&mut self, number: FileNumber)
         requires empty { IsNoChange self.old.draft.changes }
         ensures keeps { DraftsUncounted self.old self.new }
-        ensures done { DraftsRemoval self.new.draft.changes number.value }
+        ensures done { Removes (files_of D.SectorDevice.state self.old)
+            (files_of D.SectorDevice.state self.new) number.value }
     {
         self.draft.lose(Loss::File(Removal {
             number: number.value,

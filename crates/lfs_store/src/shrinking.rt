@@ -11,8 +11,10 @@ use lfs_model::FileNumber;
 use lfs_model::limits::{LARGEST_FILE, SECTOR_LEN};
 
 impl<D: SectorDevice> Store<D> {
-    ghost use Rattle.lfs_store.specs.Keeping.{RedraftsStore, RedraftsUncounted};
+    ghost use Rattle.lfs_store.specs.Keeping.{RedraftsUncounted};
     ghost use Rattle.lfs_store.specs.Recounting.{Counts};
+    ghost use Rattle.lfs_store.specs.Seen.{files_of};
+    ghost use Rattle.lfs_files.specs.Files.{Redrafts};
     ghost use Rattle.lfs_store.specs.Shrinking.{ClearsTail, Shrinks};
 
     /// Cuts a file of this header at a length in its last block, which is zeros from there on. No
@@ -30,7 +32,8 @@ impl<D: SectorDevice> Store<D> {
         requires less { len < header.size }
         requires last { header.size ≤ SECTOR_LEN * (len / SECTOR_LEN) + SECTOR_LEN }
         requires most { header.size ≤ LARGEST_FILE }
-        ensures redrafts { RedraftsStore D.SectorDevice.state self.old self.new }
+        ensures redrafts { Redrafts (files_of D.SectorDevice.state self.old)
+            (files_of D.SectorDevice.state self.new) }
         ensures done { OnOk result (Shrinks D.SectorDevice.state self.old.log self.new.log
             self.old.draft.changes self.new.draft.changes number.value header len) }
         ensures counted { OnOk result (Counts D.SectorDevice.state self.old.log self.new.log

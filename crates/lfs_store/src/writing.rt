@@ -57,8 +57,10 @@ fn block_beneath<D: SectorDevice>(
 }
 
 impl<D: SectorDevice> Store<D> {
-    ghost use Rattle.lfs_store.specs.Keeping.{DraftsUncounted, RedraftsStore, RedraftsUncounted};
+    ghost use Rattle.lfs_store.specs.Keeping.{DraftsUncounted, RedraftsUncounted};
     ghost use Rattle.lfs_store.specs.Recounting.{Counts};
+    ghost use Rattle.lfs_store.specs.Seen.{files_of};
+    ghost use Rattle.lfs_files.specs.Files.{CountsReformed, Redrafts, Reforms};
     ghost use Rattle.lfs_store.specs.Writing.{Writes, WritesBlock, DraftsCut, CutsDraft, SetsLen, resized};
 
     /// Lays bytes over a file of this header, from a place on. Where they end behind its size, it
@@ -77,7 +79,8 @@ impl<D: SectorDevice> Store<D> {
     ) -> Result<(), StoreFault>
         requires bytes { 0 < length bytes.now }
         requires end { at + length bytes.now ≤ LARGEST_FILE }
-        ensures redrafts { RedraftsStore D.SectorDevice.state self.old self.new }
+        ensures redrafts { Redrafts (files_of D.SectorDevice.state self.old)
+            (files_of D.SectorDevice.state self.new) }
         ensures done { OnOk result (Writes D.SectorDevice.state self.old.log self.new.log
             self.old.draft.changes self.new.draft.changes number.value header at bytes.now) }
         ensures room { OnOk result (IsNoChange self.old.draft.changes → length bytes.now ≤ LONGEST_TRANSFER
@@ -191,7 +194,8 @@ impl<D: SectorDevice> Store<D> {
     ) -> Result<(), StoreFault>
         requires most { len ≤ LARGEST_FILE }
         requires empty { IsNoChange self.old.draft.changes }
-        ensures redrafts { RedraftsStore D.SectorDevice.state self.old self.new }
+        ensures redrafts { Redrafts (files_of D.SectorDevice.state self.old)
+            (files_of D.SectorDevice.state self.new) }
         ensures done { OnOk result (SetsLen D.SectorDevice.state self.old.log self.new.log
             self.new.draft.changes number.value header len) }
         ensures counted { OnOk result (Counts D.SectorDevice.state self.old.log self.new.log
@@ -323,7 +327,11 @@ impl<D: SectorDevice> Store<D> {
         size: u32,
     ) -> Result<(), StoreFault>
         ensures keeps { DraftsUncounted self.old self.new }
-        ensures done { OnOk result (PutsHeader self.old.draft.changes self.new.draft.changes
+        ensures done { OnOk result (Reforms (files_of D.SectorDevice.state self.old)
+            (files_of D.SectorDevice.state self.new) number.value header form size) }
+        ensures counted { OnOk result (CountsReformed (files_of D.SectorDevice.state self.old)
+            (files_of D.SectorDevice.state self.new) number.value header) }
+        ensures puts { OnOk result (PutsHeader self.old.draft.changes self.new.draft.changes
             number.value (reformed header form size)) }
         ensures failed { IfErr result (λ fault. fault ≡ StoreFault.NoMemory) }
     {

@@ -1,6 +1,5 @@
 use Rattle.std.proofs.lemmas.Result.{IfOk-weaker}
-use Rattle.lfs_store.proofs.StoreMade.{seen_part}
-use Rattle.lfs_store.proofs.StoreSeen.{seen_fault_by, seen_read}
+use Rattle.lfs_store.proofs.StoreSeen.{seen_fault_by, seen_part, seen_read}
 use Rattle.lfs_store.proofs.files.StoreFiles.read_at.Goals as goal
 
 pub returns-clause-reads : goal.returns-clause-reads

@@ -1,8 +1,9 @@
 use Rattle.std.proofs.Common.{refl}
-use Rattle.lfs_store.proofs.Makings.{removes}
+use Rattle.lfs_store.proofs.StoreMade.{removes}
 use Rattle.lfs_store.proofs.store.Store.lose_file.Goals as goal
 
 pub returns-clause-done : goal.returns-clause-done
 returns-clause-done g c =
-    removes c.args.self.now.draft.changes c.lose.new.self.changes c.args.number.value _ refl c.requires.empty c.lose.ensures.headers
-    c.lose.ensures.blocks c.lose.ensures.loss (c.lose.ensures.alone c.requires.empty)
+    removes g.D.SectorDevice.state c.args.self.now.log c.args.self.now.draft c.lose.new.self c.args.self.now.drafted
+    c.args.self.now.drafted c.requires.empty c.lose.ensures.headers c.lose.ensures.blocks c.args.number.value _ refl c.lose.ensures.loss
+    (c.lose.ensures.alone c.requires.empty)

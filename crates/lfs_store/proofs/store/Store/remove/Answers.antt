@@ -1,13 +1,9 @@
-use Rattle.std.proofs.Common.{◌∙◌, sym, subst}
+use Rattle.std.proofs.Common.{arith}
 use Rattle.lfs_cleaner.proofs.of_log.of_memory.Going.{err_then, ok_then}
-use Rattle.lfs_store.specs.declared.draft.Draft.{Draft}
-use Rattle.lfs_cleaner.specs.log.verify.declared.totals.BlockTotals.{BlockTotals}
-use Rattle.lfs_store.specs.Recounting.{Remeasures, Counts}
-use Rattle.lfs_store.specs.Making.{DraftsRemoval}
 use Rattle.lfs_store.proofs.Acceptings.{where_ok}
 use Rattle.lfs_store.proofs.Keepings.{counted_redrafts, drafts_uncounted, reads_redrafts}
 use Rattle.lfs_cleaner.proofs.of_log.LogReads.{fault_more, reads_more}
-use Rattle.lfs_store.proofs.Recounted.{remove_counts}
+use Rattle.lfs_store.proofs.Between.{counts_between, removed_file, removes_between}
 use Rattle.lfs_store.proofs.store.Store.remove.Goals as goal
 
 pub returns-in_err-before-clause-redrafts : goal.returns-in_err-before-clause-redrafts
@@ -32,22 +28,17 @@ returns-clause-failed g c =
 
 pub returns-clause-done : goal.returns-clause-done
 returns-clause-done g c =
-    where_ok c.recount.result _ (subst (λ (d : Draft). DraftsRemoval d.changes c.args.number.value) (sym c.recount.ensures.counts.draft)
-    c.lose_file.ensures.done)
+    where_ok c.recount.result _
+    (removes_between g.D.SectorDevice.state c.args.self.now c.measure.new.self c.lose_file.new.self c.recount.new.self
+    c.measure.ensures.reads c.recount.ensures.counts c.args.number.value c.lose_file.ensures.done)
 
 pub returns-clause-counted : goal.returns-clause-counted
 returns-clause-counted g c =
     let state = g.D.SectorDevice.state in
-    let next = drafts_uncounted state c.measure.new.self c.lose_file.new.self c.lose_file.ensures.keeps in
-    ok_then c.recount.result _ _ (λ again.
-    let counted = subst (λ (t : BlockTotals). Remeasures state c.lose_file.new.self.log c.recount.new.self.log
-    c.lose_file.new.self.draft.changes c.args.number.value 0 16624 c.in_ok-before.before t c.recount.new.self.drafted)
-    (c.lose_file.ensures.keeps.drafted ∙ c.measure.ensures.reads.drafted) again in
-    subst (λ (d : Draft). Counts state c.args.self.now.log c.recount.new.self.log c.args.self.now.draft.changes d.changes
-    c.args.self.now.drafted c.recount.new.self.drafted) (sym c.recount.ensures.counts.draft)
-    (remove_counts state c.args.self.now.log c.measure.new.self.log c.lose_file.new.self.log c.recount.new.self.log
-    c.args.self.now.draft.changes c.lose_file.new.self.draft.changes c.args.number.value c.in_ok-before.before
-    c.args.self.now.drafted c.recount.new.self.drafted c.args.number.some c.args.number.few c.measure.ensures.reads.log next.reads
-    c.recount.ensures.counts.reads
-    c.requires.empty c.in_ok-before.ensures.answer c.lose_file.ensures.done counted))
+    ok_then c.recount.result _ _
+    (λ again. counts_between state c.args.self.now c.measure.new.self c.lose_file.new.self c.recount.new.self
+    c.measure.ensures.reads c.recount.ensures.counts c.args.number.value 0 16624 c.in_ok-before.before c.args.number.some
+    c.args.number.few (omega arith) (omega arith) c.in_ok-before.ensures.answer
+    (drafts_uncounted state c.measure.new.self c.lose_file.new.self c.lose_file.ensures.keeps) again
+    (λ m m' keeps has. removed_file _ m m' c.args.number.value (c.lose_file.ensures.done.has m m' has)))
     c.recount.ensures.done

@@ -1,0 +1,92 @@
+-- What a draft does to a file between two measures of it.
+use Rattle.std.proofs.Common.{◌≡◌, ◌<◌, ◌≤◌, ◌⊎◌, ⊎_elim, ℕ, refl, sym, ◌∙◌, subst, arith}
+use Rattle.std.proofs.lemmas.Bool.{cases_lt}
+use Rattle.lfs_model.specs.Device.{DeviceState}
+use Rattle.lfs_model.specs.Encodes.{IsLogMap}
+use Rattle.lfs_model.specs.Objects.{IsChangedAt}
+use Rattle.lfs_model.specs.Stands.{LogMap}
+use Rattle.lfs_model.specs.Totals.{HasMeasure}
+use Rattle.lfs_files.specs.Files as files
+use Rattle.lfs_files.specs.Files.{FilesState}
+use Rattle.lfs_files.specs.Making.{HasRemoved, Removes}
+use Rattle.lfs_cleaner.specs.log.verify.declared.totals.BlockTotals.{BlockTotals}
+use Rattle.lfs_store.specs.declared.draft.Draft.{Draft}
+use Rattle.lfs_store.specs.declared.store.Store.{Store}
+use Rattle.lfs_store.specs.declared.totals.Measure.{Measure}
+use Rattle.lfs_store.specs.Keeping.{OnlyCounts, RedraftsUncounted}
+use Rattle.lfs_store.specs.Measuring.{Measures}
+use Rattle.lfs_store.specs.Reading.{ReadsStore}
+use Rattle.lfs_store.specs.Recounting.{AreTotals, Remeasures}
+use Rattle.lfs_store.specs.Seen.{StagedLog, files_of, state_of}
+use Rattle.lfs_store.proofs.Recountings.{recounted, same_high}
+use Rattle.lfs_store.proofs.StoreSeen.{seen_read}
+
+-- With the draft there is another log map, where no more than this file changed, and of its blocks no more than those from one index on up
+-- to another.
+pub record HasChanged {S D : Type 0} (s' : FilesState S D) (m m' : LogMap) (n from to : ℕ) : Type 0 where
+  pub map : LogMap
+  pub has : s'.has m map
+  pub only : IsChangedAt m' n map
+  pub around : (i : ℕ) → i < 16624 → (i < from) ⊎ (to ≤ i) → map.block n i ≡ m'.block n i
+
+pub removed_file : {S D : Type 0} (s' : FilesState S D) (m m' : LogMap) (n : ℕ) → HasRemoved s' m m' n → HasChanged s' m m' n 0 16624
+removed_file s' m m' n gone = record {
+  map = gone.map;
+  has = gone.has;
+  only = record { headers = gone.file.headers; blocks = λ k i ne. gone.file.blocks k i ne; version = gone.file.version };
+  around = λ i lt out. ⊎_elim (λ (low : i < 0). absurd (omega (arith, low))) (λ (high : 16624 ≤ i). absurd (omega (arith, lt, high))) out;
+}
+
+module _ {D : Type 0} (state : D → DeviceState) (a b c d : Store D) (first : ReadsStore state a b) (last : OnlyCounts state c d) where
+  abbrev A : FilesState StagedLog Draft
+  A = files_of state a
+
+  abbrev B : FilesState StagedLog Draft
+  B = files_of state b
+
+  abbrev C : FilesState StagedLog Draft
+  C = files_of state c
+
+  abbrev E : FilesState StagedLog Draft
+  E = files_of state d
+
+  before : files.Reads A B
+  before = seen_read state a.log b.log a.draft b.draft a.drafted b.drafted first.log first.draft first.drafted
+
+  -- all but what is counted
+  after : files.Reads C (state_of state d.log d.draft c.drafted)
+  after = seen_read state c.log d.log c.draft d.draft c.drafted c.drafted last.reads last.draft refl
+
+  pub removes_between : (n : ℕ) → Removes B C n → Removes A E n
+  removes_between n is = record {
+    headers = after.headers ∙ is.headers;
+    blocks = after.blocks ∙ is.blocks;
+    apart = λ k ne. let apart = is.apart k ne in
+        record { inode = after.lost _ ∙ apart.inode; above = λ i. after.lost _ ∙ apart.above i };
+    fits = λ m. after.fits m (is.fits m);
+    has = λ m m' has. let gone = is.has m m' (before.has m m' has) in
+        record { map = gone.map; has = after.has m gone.map gone.has; file = gone.file; keeps = gone.keeps };
+  }
+
+  -- ---- its totals
+  pub counts_between : (n from to : ℕ) (found : Measure) → 1 ≤ n → n ≤ 4095 → from ≤ to → to ≤ 16624
+      → Measures state a.log b.log a.draft.changes n from to found → RedraftsUncounted state b c
+      → Remeasures state c.log d.log c.draft.changes n from to found c.drafted d.drafted
+      → ((m m' : LogMap) → (state c.log.device).keeps_model → B.has m m' → HasChanged C m m' n from to) → files.Counts A E
+  counts_between n from to found some few order low measured next again changes m x y keeps has has' whole whole' are =
+      let keeps_c = last.reads.looks.carries.kept_before keeps in
+      let keeps_b = next.reads.looks.carries.kept_before keeps_c in
+      let change = changes m x keeps_c (before.has m x has) in
+      let now = change.has in
+      let same : change.map ≡ y = (after.has m change.map now).draft ∙ sym has'.draft in
+      let kept : IsLogMap change.map = subst IsLogMap (sym same) whole' in
+      let was : AreTotals x c.drafted = subst (λ (t : BlockTotals). AreTotals x t) (sym (next.drafted ∙ first.drafted)) are in
+      subst (λ (z : LogMap). AreTotals z d.drafted) same
+      (recounted x change.map n from to c.drafted d.drafted found again.after change.only some few order low
+      (λ i out. ⊎_elim (λ (lt : i < 16624). change.around i lt out) (λ (high : 16624 ≤ i). same_high x change.map n i whole kept high)
+      (cases_lt i 16624))
+      (subst (λ (z : LogMap). HasMeasure z n from to found.data_blocks found.meta_blocks) (sym has.draft)
+      (measured has.checkpoint has.acknowledged m keeps_b has.holds (subst IsLogMap has.draft whole)))
+      (subst (λ (z : LogMap). HasMeasure z n from to again.after.data_blocks again.after.meta_blocks) (sym now.draft)
+      (again.measures now.checkpoint now.acknowledged m keeps now.holds (subst IsLogMap now.draft kept)))
+      again.recounts was)
