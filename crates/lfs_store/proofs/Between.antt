@@ -1,5 +1,6 @@
 -- What a draft does to a file between two measures of it.
-use Rattle.std.proofs.Common.{◌≡◌, ◌<◌, ◌≤◌, ◌⊎◌, ⊎_elim, ℕ, refl, sym, ◌∙◌, subst, arith}
+use Rattle.std.specs.Int.{div_ceil}
+use Rattle.std.proofs.Common.{◌≡◌, ◌<◌, ◌≤◌, ◌⊎◌, ◌+◌, ◌/◌, ⊎_elim, ℕ, List, length, refl, sym, ◌∙◌, subst, arith}
 use Rattle.std.proofs.lemmas.Bool.{cases_lt}
 use Rattle.lfs_model.specs.Device.{DeviceState}
 use Rattle.lfs_model.specs.Encodes.{IsLogMap}
@@ -7,7 +8,8 @@ use Rattle.lfs_model.specs.Objects.{IsChangedAt}
 use Rattle.lfs_model.specs.Stands.{LogMap}
 use Rattle.lfs_model.specs.Totals.{HasMeasure}
 use Rattle.lfs_files.specs.Files as files
-use Rattle.lfs_files.specs.Files.{FilesState}
+use Rattle.lfs_files.specs.declared.header.Header.{Header}
+use Rattle.lfs_files.specs.Files.{FilesState, HasWritten, IsLoneWrite, Writes}
 use Rattle.lfs_files.specs.Making.{HasRemoved, Removes}
 use Rattle.lfs_cleaner.specs.log.verify.declared.totals.BlockTotals.{BlockTotals}
 use Rattle.lfs_store.specs.declared.draft.Draft.{Draft}
@@ -18,6 +20,7 @@ use Rattle.lfs_store.specs.Measuring.{Measures}
 use Rattle.lfs_store.specs.Reading.{ReadsStore}
 use Rattle.lfs_store.specs.Recounting.{AreTotals, Remeasures}
 use Rattle.lfs_store.specs.Seen.{StagedLog, files_of, state_of}
+use Rattle.lfs_files.proofs.FilesCompose.{writes_behind}
 use Rattle.lfs_store.proofs.Recountings.{recounted, same_high}
 use Rattle.lfs_store.proofs.StoreSeen.{seen_read}
 
@@ -35,6 +38,15 @@ removed_file s' m m' n gone = record {
   has = gone.has;
   only = record { headers = gone.file.headers; blocks = λ k i ne. gone.file.blocks k i ne; version = gone.file.version };
   around = λ i lt out. ⊎_elim (λ (low : i < 0). absurd (omega (arith, low))) (λ (high : 16624 ≤ i). absurd (omega (arith, lt, high))) out;
+}
+
+pub written_file : {S D : Type 0} (s' : FilesState S D) (m m' : LogMap) (n : ℕ) (h h' : Header) (at : ℕ) (w : List ℕ) (to : ℕ)
+    → to ≡ div_ceil (at + length w) 512 → HasWritten s' m m' n h h' at w → HasChanged s' m m' n (at / 512) to
+written_file s' m m' n h h' at w to end is = record {
+  map = is.map;
+  has = is.has;
+  only = is.file.only;
+  around = λ i lt out. is.around i (subst (λ (e : ℕ). (i < at / 512) ⊎ (e ≤ i)) end out);
 }
 
 module _ {D : Type 0} (state : D → DeviceState) (a b c d : Store D) (first : ReadsStore state a b) (last : OnlyCounts state c d) where
@@ -67,6 +79,25 @@ module _ {D : Type 0} (state : D → DeviceState) (a b c d : Store D) (first : R
     has = λ m m' has. let gone = is.has m m' (before.has m m' has) in
         record { map = gone.map; has = after.has m gone.map gone.has; file = gone.file; keeps = gone.keeps };
   }
+
+  pub writes_between : (n : ℕ) (head : Header) (at : ℕ) (w : List ℕ) → Writes B C n head at w → Writes A E n head at w
+  writes_between n head at w writes =
+      let is = writes_behind A B C n head at w before writes in
+      record {
+        lost = λ x. after.lost x ∙ is.lost x;
+        headers = let more = is.headers in let same = after.headers in omega (arith, more, same);
+        blocks = let more = is.blocks in let same = after.blocks in omega (arith, more, same);
+        fits = λ m m' has fits takes. after.fits m (is.fits m m' has fits takes);
+        file = λ m m' keeps has. let now = is.file m m' (after.looks.carries.kept_before keeps) has in
+            record { map = now.map; has = after.has m now.map now.has; file = now.file; around = now.around };
+      }
+
+  pub asked_between : (w : List ℕ) (most : ℕ) → (IsLoneWrite B w → C.asked ≤ most) → IsLoneWrite A w → E.asked ≤ most
+  asked_between w most asked lone =
+      let headers = lone.headers in
+      let same = before.headers in
+      subst (λ (k : ℕ). k ≤ most) (sym after.asked)
+      (asked record { headers = omega (arith, headers, same); blocks = before.blocks ∙ lone.blocks; few = lone.few })
 
   -- ---- its totals
   pub counts_between : (n from to : ℕ) (found : Measure) → 1 ≤ n → n ≤ 4095 → from ≤ to → to ≤ 16624

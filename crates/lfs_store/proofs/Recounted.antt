@@ -1,6 +1,5 @@
 -- The totals of a draft that writes, cuts, makes or removes one file.
-use Rattle.std.specs.Int.{div_ceil}
-use Rattle.std.proofs.Common.{◌≡◌, ◌<◌, ◌≤◌, ◌⊎◌, ⊎_elim, ◌+◌, ◌/◌, ℕ, false, length, List, [], ◌∷◌, Option, Some, None, refl, sym}
+use Rattle.std.proofs.Common.{◌≡◌, ◌<◌, ◌≤◌, ⊎_elim, ◌+◌, ◌/◌, ℕ, false, length, List, [], ◌∷◌, Option, Some, None, refl, sym}
 use Rattle.std.proofs.Common.{◌∙◌, ap, subst, arith}
 use Rattle.lfs_model.specs.Device.{DeviceState, IsLawful}
 use Rattle.lfs_model.specs.Encodes.{IsLogMap}
@@ -23,7 +22,7 @@ use Rattle.lfs_cleaner.specs.log.verify.declared.totals.BlockTotals.{BlockTotals
 use Rattle.lfs_store.specs.Measuring.{Measures}
 use Rattle.lfs_store.specs.Recounting.{AreTotals, Recounts, Remeasures, Counts, CountsGone}
 use Rattle.lfs_model.specs.Totals.{HasMeasure, meta_of_file, data_in, meta_in}
-use Rattle.lfs_store.specs.Writing.{Writes, SetsLen}
+use Rattle.lfs_store.specs.Writing.{SetsLen}
 use Rattle.lfs_store.proofs.Apart.{no_change}
 use Rattle.lfs_store.proofs.Leaves.{beside_none}
 use Rattle.lfs_cleaner.proofs.of_log.LogReads.{held_still}
@@ -112,15 +111,6 @@ relinked_totals m n h h' t some few there are =
 module _ {D : Type 0} (state : D → DeviceState) (h a b h' : LogState D) (c c' : Changes) (n : ℕ) (before : Measure) (old new : BlockTotals)
     (some : 1 ≤ n) (few : n ≤ 4095)
     (first : Reads state h a) (next : Reads state a b) (last : Reads state b h') where
-  pub write_counts : (head : headers.Header) (at : ℕ) (w : List ℕ) (to : ℕ) → 0 < length w → at + length w ≤ 8511488
-      → to ≡ div_ceil (at + length w) 512 → Measures state h a c n (at / 512) to before
-      → Writes state a b c c' n head at w → Remeasures state b h' c' n (at / 512) to before old new → Counts state h h' c c' old new
-  write_counts head at w to long low end measured writes again =
-      counts state h a b h' c c' n (at / 512) to before old new some few (omega (arith, end, long))
-      (omega (arith, end, low)) first measured next last again
-      (λ k m0 m keeps is map map'.
-      ((writes.file k m0 m keeps is).only, λ i out. writes.around m i (subst (λ (e : ℕ). (i < at / 512) ⊎ (e ≤ i)) end out)))
-
   pub cut_counts : (head : headers.Header) (len : ℕ) → len ≤ 8511488 → IsNoChange c → Measures state h a c n (len / 512) 16624 before
       → SetsLen state a b c' n head len
       → Remeasures state b h' c' n (len / 512) 16624 before old new → Counts state h h' c c' old new

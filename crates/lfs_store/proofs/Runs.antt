@@ -10,7 +10,7 @@ use Rattle.lfs_cleaner.specs.log.memory.Batch.{IsNoChange, room_for}
 use Rattle.lfs_cleaner.specs.log.memory.Batch as batch
 use Rattle.lfs_cleaner.specs.log.memory.Preparing.{is_beside, row_of, way_from, ways, ways_from}
 use Rattle.lfs_store.specs.Drafting.{IsBlock, LastBlock, NoBlock, PutsHeader}
-use Rattle.lfs_store.specs.Growing.{IsLone, IsRun, PlacesBlock}
+use Rattle.lfs_store.specs.Growing.{IsRun, PlacesBlock}
 use Rattle.lfs_store.proofs.Growths.{way_most}
 
 -- ---- a block that is put
@@ -155,10 +155,9 @@ ways_far n from to (e ∷ es) few run =
     let near = row_far from (to - 1) (omega (arith, few)) in
     omega (arith, rest, near)
 
-pub lone_room : (c c' c'' : Changes) (n from to : ℕ) (head : Header) → IsLone c → c'.headers ≡ c.headers → IsRun n from to c'.blocks.items
-    → to ≤ from + 257 → PutsHeader c' c'' n head → room_for c'' ≤ 274
-lone_room c c' c'' n from to head lone headers run few puts =
-    let a = lone.headers in
+pub lone_room : (c c' c'' : Changes) (n from to : ℕ) (head : Header) → length c.headers.items ≤ 1 → c'.headers ≡ c.headers
+    → IsRun n from to c'.blocks.items → to ≤ from + 257 → PutsHeader c' c'' n head → room_for c'' ≤ 274
+lone_room c c' c'' n from to head one headers run few puts =
     let b = ap length (ap (λ v. v.items) headers) in
     let x = puts.few in
     let same = ap (λ v. v.items) puts.blocks in
@@ -166,7 +165,7 @@ lone_room c c' c'' n from to head lone headers run few puts =
     let longer = ap length same in
     let most : ways c''.blocks.items ≤ 9 =
     subst (λ (es : List BlockEdit). ways es ≤ 9) (sym same) (ways_far n from to c'.blocks.items few run) in
-    omega (arith, a, b, x, long, longer, few, most)
+    omega (arith, one, b, x, long, longer, few, most)
 
 pub blocks_most : (at len : ℕ) → len ≤ 131072 → div_ceil (at + len) 512 ≤ at / 512 + 257
 blocks_most at len few = omega (arith, few)

@@ -1,14 +1,12 @@
 -- What calls of a store are to the layers above.
-use Rattle.std.specs.Prelude.{max, IfErr, IfOk, IsFalse, OnOk}
-use Rattle.std.proofs.Common.{◌≡◌, ◌≤◌, ◌+◌, ◌-◌, ◌*◌, ℕ, Bool, List, Option, Result, Ok, Err, length, refl, sym, ◌∙◌, ap, ap₂, subst}
-use Rattle.std.proofs.Common.{arith}
+use Rattle.std.specs.Prelude.{IfErr, IfOk, IsFalse, OnOk}
+use Rattle.std.proofs.Common.{◌≡◌, ◌-◌, ℕ, Bool, List, Option, Result, Ok, Err, length, refl, sym, ◌∙◌, ap, ap₂, subst}
 use Rattle.lfs_model.specs.Bytes.{part}
 use Rattle.lfs_model.specs.Cutting.{is_past}
 use Rattle.lfs_model.specs.Device.{DeviceState}
 use Rattle.lfs_model.specs.Encodes.{IsLogMap}
 use Rattle.lfs_model.specs.Fields.{zeros}
 use Rattle.lfs_model.specs.Stands.{LogMap}
-use Rattle.lfs_model.specs.Tree.{slot_len}
 use Rattle.lfs_model.specs.TreeOf.{object}
 use Rattle.lfs_files.specs.declared.header.Header.{Header}
 use Rattle.lfs_files.specs.Files as files
@@ -21,14 +19,12 @@ use Rattle.lfs_cleaner.specs.log.LogState as held
 use Rattle.lfs_cleaner.specs.log.LogState.{LogState, Holds, IsReadFault}
 use Rattle.lfs_store.specs.declared.draft.Draft.{Draft}
 use Rattle.lfs_cleaner.specs.log.verify.declared.totals.BlockTotals.{BlockTotals}
-use Rattle.lfs_store.specs.Growing.{IsLone}
 use Rattle.lfs_store.specs.Reading.{ReadsHeader, ReadsBlock, ReadsPart}
 use Rattle.lfs_store.specs.Recounting.{AreTotals}
 use Rattle.lfs_store.specs.Recounting as counts
 use Rattle.lfs_store.specs.Seen.{HasMap, StagedLog, counted_of, state_of}
 use Rattle.lfs_store.specs.Shrinking as shrinking
 use Rattle.lfs_store.specs.Writing as writing
-use Rattle.lfs_cleaner.proofs.of_log.Unsaved.{none_left}
 use Rattle.lfs_store.proofs.Apart.{no_change}
 use Rattle.lfs_cleaner.proofs.of_log.LogReads.{held_still}
 use Rattle.lfs_store.proofs.Writings.{block_read}
@@ -127,40 +123,6 @@ module _ {D : Type 0} (state : D → DeviceState) (h h' : LogState D) (d d' : Dr
       subst (λ (x : LogMap). files.AreCounted x (counted_of u) → files.AreCounted b (counted_of u')) (sym has.draft)
       (subst (λ (x : LogMap). files.AreCounted (staged d.changes m) (counted_of u) → files.AreCounted x (counted_of u')) (sym has'.draft)
       (is has.checkpoint has.acknowledged m keeps has.holds (subst IsLogMap has.draft whole) (subst IsLogMap has'.draft whole')))
-
-  pub seen_written : (n : ℕ) (head : Header) (at : ℕ) (w : List ℕ) → held.Reads state h h'
-      → writing.Writes state h h' d.changes d'.changes n head at w → files.Writes S S' n head at w
-  seen_written n head at w reads is = record {
-    lost = λ y. ap (λ (x : Loss). is_lost x y) is.loss;
-    headers = is.headers;
-    blocks = is.blocks;
-    fits = λ m m' has fits takes. is.fits m fits record {
-      there = ap (λ (x : LogMap). x.header n) (sym has.draft) ∙ takes.there;
-      apart = record { inode = takes.apart.inode; above = takes.apart.above };
-      within = takes.within;
-      header = takes.header;
-    };
-    file = λ m m' keeps has. record {
-      map = staged d'.changes m;
-      has = record {
-        checkpoint = has.checkpoint;
-        acknowledged = has.acknowledged;
-        holds = held_still state h h' has.checkpoint has.acknowledged m reads has.holds;
-        draft = refl;
-      };
-      file = subst (λ (x : LogMap). WritesFile x (staged d'.changes m) n head (resized head (max head.size (at + length w))) at w)
-          (sym has.draft)
-          (is.file has.checkpoint has.acknowledged m keeps has.holds);
-      around = λ i out. is.around m i out ∙ ap (λ (x : LogMap). x.block n i) (sym has.draft);
-    };
-  }
-
-  pub seen_asked : (w : List ℕ) → (IsLone d.changes → length w ≤ 1024 * slot_len 1 → room_for d'.changes ≤ asked_by_directory)
-      → files.IsLoneWrite S w → S'.asked ≤ asked_by_directory
-  seen_asked w asked lone = asked record {
-    headers = lone.headers;
-    blocks = let none = lone.blocks in none_left d.changes.blocks.items (omega (arith, none));
-  } lone.few
 
   pub seen_shrunk : (n : ℕ) (head : Header) (len : ℕ) → held.Reads state h h' → shrinking.Shrinks state h h' d.changes d'.changes n head len
       → files.Shrinks S S' n head len

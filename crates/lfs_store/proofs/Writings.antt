@@ -21,10 +21,15 @@ use Rattle.lfs_cleaner.specs.log.memory.Preparing.{IsWithin}
 use Rattle.lfs_cleaner.specs.log.memory.Present.{BlockAnswer, as_header}
 use Rattle.lfs_cleaner.proofs.of_log.of_memory.LogMaps.{is_with_block, is_with_header}
 use Rattle.lfs_cleaner.specs.log.LogState.{LogState, Holds, Reads}
+use Rattle.lfs_files.specs.Files.{TakesWrite, Writes, WritesFile}
+use Rattle.lfs_files.specs.Headers.{resized}
+use Rattle.lfs_cleaner.specs.log.verify.declared.totals.BlockTotals.{BlockTotals}
+use Rattle.lfs_store.specs.declared.draft.Draft.{Draft}
+use Rattle.lfs_store.specs.Seen.{HasMap, state_of}
 use Rattle.lfs_store.specs.Drafting.{PutsBlock, PutsHeader, TakesBlock, TakesHeader, IsApart}
 use Rattle.lfs_store.specs.Pieces.{HoldsBlock, BlockOverlays, WriteSoFar}
 use Rattle.lfs_store.specs.Reading.{ReadsBlock}
-use Rattle.lfs_store.specs.Writing.{ReadsBeneath, resized, WritesFile, WritesBlock, Writes, TakesWrite}
+use Rattle.lfs_store.specs.Writing.{ReadsBeneath, WritesBlock}
 use Rattle.lfs_cleaner.proofs.of_log.LogReads.{held_still, reads_more}
 use Rattle.lfs_store.proofs.PiecesRead.{last_block}
 use Rattle.lfs_store.proofs.PiecesStored.{other_block}
@@ -69,6 +74,16 @@ takes_header c m n head head' there name apart fits =
     record { header = fits; name = λ has. name ∙ sym (ap is_unlinked there); apart = apart }
 
 module _ {D : Type 0} (state : D → DeviceState) where
+  -- the log map with another draft, where the log is only read
+  pub still_has : (h h' : LogState D) (d d' : Draft) (m m' : LogMap) → Reads state h h' → HasMap state h d.changes m m'
+      → HasMap state h' d'.changes m (staged d'.changes m)
+  still_has h h' d d' m m' reads has = record {
+    checkpoint = has.checkpoint;
+    acknowledged = has.acknowledged;
+    holds = held_still state h h' has.checkpoint has.acknowledged m reads has.holds;
+    draft = refl;
+  }
+
   -- ---- one block
   pub block_written : (h h' : LogState D) (c c' : Changes) (n index at : ℕ) (w old new : List ℕ) → length new ≡ 512
       → ReadsBeneath state h h' c n index at w old → BlockOverlays at w index old new → PutsBlock c c' n index new
@@ -139,51 +154,46 @@ module _ {D : Type 0} (state : D → DeviceState) where
   }
 
   -- ---- all of them, and the header
-  pub written : (h h' : LogState D) (c c' c'' : Changes) (n : ℕ) (head : Header) (at : ℕ) (w : List ℕ) (index : ℕ) → 0 < length w
-      → at / 512 ≤ index → index ≡ div_ceil (at + length w) 512
-      → WrittenUpTo h h' c c' n at w index → PutsHeader c' c'' n (resized head (max head.size (at + length w)))
-      → Writes state h h' c c'' n head at w
-  written h h' c c' c'' n head at w index some le end was puts = record {
-    loss = puts.loss ∙ was.loss;
+  pub written : (h h' : LogState D) (d d' d'' : Draft) (u u' : BlockTotals) (n : ℕ) (head : Header) (at : ℕ) (w : List ℕ) (index : ℕ)
+      → 0 < length w → at / 512 ≤ index → index ≡ div_ceil (at + length w) 512
+      → WrittenUpTo h h' d.changes d'.changes n at w index
+      → PutsHeader d'.changes d''.changes n (resized head (max head.size (at + length w)))
+      → Writes (state_of state h d u) (state_of state h' d'' u') n head at w
+  written h h' d d' d'' u u' n head at w index some le end was puts = record {
+    lost = λ y. ap (λ (x : Loss). is_lost x y) (puts.loss ∙ was.loss);
     headers = let x = puts.few in let same = ap length (ap (λ v. v.items) was.headers) in omega (arith, x, same);
     blocks = let x = was.few in let same = ap length (ap (λ v. v.items) puts.blocks) in omega (arith, x, same, end);
-    around = λ m i out. ap (λ (a : LogMap). a.block n i) (puts.map m)
-        ∙ was.around m i (subst (λ (e : ℕ). (i < at / 512) ⊎ (e ≤ i)) (sym end) out);
     fits = fits;
-    file = λ k m0 m keeps is. file k m0 m (was.far k m0 m keeps is);
+    file = λ m m' keeps has. record {
+      map = staged d''.changes m;
+      has = still_has h h' d d'' m m' was.reads has;
+      file = file m m' (subst (λ (x : LogMap). WriteSoFar x (staged d'.changes m) n at w index) (sym has.draft)
+          (was.far has.checkpoint has.acknowledged m keeps has.holds));
+      around = λ i out. ap (λ (a : LogMap). a.block n i) (puts.map m)
+          ∙ was.around m i (subst (λ (e : ℕ). (i < at / 512) ⊎ (e ≤ i)) (sym end) out) ∙ ap (λ (a : LogMap). a.block n i) (sym has.draft);
+    };
   }
     where
-      fits : (m : LogMap) → FitsBatch m c → TakesWrite c m n head at w → FitsBatch m c''
-      fits m fit takes =
-          let few : m.header n ≡ None → index ≤ 112 = λ none. (let low = takes.within none in omega (arith, low, end)) in
-          puts.fits m (was.fits m fit (as_header head, takes.there) takes.apart few)
-          (takes_header c' m n head (resized head (max head.size (at + length w))) (was.header m ∙ takes.there) refl
-          (ap (λ (x : Loss). is_lost x (Inode n)) was.loss ∙ takes.apart.inode) takes.header)
-
       head' : Header
       head' = resized head (max head.size (at + length w))
 
-      file : (k : CheckpointValue) (m0 m : LogMap) → WriteSoFar (staged c m) (staged c' m) n at w index
-          → WritesFile (staged c m) (staged c'' m) n head head' at w
-      file k m0 m far =
-          let with_it = header_put (staged c' m) (staged c'' m) n head' (puts.map m) in
-          let done = write_heads (staged c m) (staged c' m) (staged c'' m) n at index w (Some (as_header head')) far with_it in
+      fits : (m m' : LogMap) → HasMap state h d.changes m m' → FitsBatch m d.changes
+          → TakesWrite (state_of state h d u) m m' n head at w → FitsBatch m d''.changes
+      fits m m' has fit takes =
+          let few : m.header n ≡ None → index ≤ 112 = λ none. (let low = takes.within none in omega (arith, low, end)) in
+          let there = ap (λ (a : LogMap). a.header n) (sym has.draft) ∙ takes.there in
+          puts.fits m (was.fits m fit (as_header head, there) takes.apart few)
+          (takes_header d'.changes m n head head' (was.header m ∙ there) refl
+          (ap (λ (x : Loss). is_lost x (Inode n)) was.loss ∙ takes.apart.inode) takes.header)
+
+      file : (m m' : LogMap) → WriteSoFar m' (staged d'.changes m) n at w index → WritesFile m' (staged d''.changes m) n head head' at w
+      file m m' far =
+          let with_it = header_put (staged d'.changes m) (staged d''.changes m) n head' (puts.map m) in
+          let done = write_heads m' (staged d'.changes m) (staged d''.changes m) n at index w (Some (as_header head')) far with_it in
           record {
-            bytes = write_is_done (staged c m) (staged c'' m) n at index w (as_header head) (as_header head') done
+            bytes = write_is_done m' (staged d''.changes m) n at index w (as_header head) (as_header head') done
                 (last_block (at + length w) index (omega (arith, end))) some refl;
             only = done.only;
             whole = done.whole;
             header = with_it.own;
           }
-
-  -- a log that is only read before and after
-  pub writes_around : (h a b h' : LogState D) (c c' : Changes) (n : ℕ) (head : Header) (at : ℕ) (w : List ℕ) → Reads state h a
-      → Writes state a b c c' n head at w → Reads state b h' → Writes state h h' c c' n head at w
-  writes_around h a b h' c c' n head at w first writes last = record {
-    loss = writes.loss;
-    headers = writes.headers;
-    blocks = writes.blocks;
-    around = writes.around;
-    fits = writes.fits;
-    file = λ k m0 m keeps is. writes.file k m0 m (last.looks.carries.kept_before keeps) (held_still state h a k m0 m first is);
-  }

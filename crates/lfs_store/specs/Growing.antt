@@ -1,5 +1,5 @@
--- How much a draft asks for: how many headers and blocks it changes, and in what order its blocks stand.
-use Rattle.std.specs.Prelude.{◌≡◌, ◌≤◌, ◌+◌, ℕ, List, [], ◌∷◌, ◌++◌, length}
+-- How much a draft asks for, and in what order its blocks stand.
+use Rattle.std.specs.Prelude.{◌≡◌, ◌+◌, ℕ, List, [], ◌∷◌, ◌++◌}
 use Rattle.lfs_cleaner.specs.log.memory.declared.batch.BlockEdit.{BlockEdit}
 use Rattle.lfs_cleaner.specs.log.memory.declared.changes.Changes.{Changes}
 use Rattle.lfs_store.specs.Drafting.{IsBlock, NoBlock}
@@ -7,11 +7,6 @@ use Rattle.lfs_store.specs.Drafting.{IsBlock, NoBlock}
 -- how many blocks of memory it asks for where it lays no more bytes over a file than one call gives, and nothing else
 abbrev pub asked_by_transfer : ℕ
 asked_by_transfer = 144
-
--- A draft that changes no block yet, and one header at most.
-pub record IsLone (c : Changes) : Type 0 where
-  pub headers : length c.headers.items ≤ 1
-  pub blocks : c.blocks.items ≡ []
 
 -- Block i of file n comes behind the blocks that the draft has.
 pub record AppendsBlock (c c' : Changes) (n i : ℕ) : Type 0 where

@@ -1,7 +1,7 @@
 -- Bytes written to a file and cut off it, in a draft over a log.
-use Rattle.std.specs.Prelude.{◌*◌, ◌≡◌, ◌⊎◌, ◌<◌, ◌≤◌, ◌+◌, ◌-◌, ◌/◌, ℕ, max, List, [], length, Some, None}
+use Rattle.std.specs.Prelude.{◌≡◌, ◌<◌, ◌≤◌, ◌+◌, ℕ, List, [], length, Some}
 use Rattle.std.specs.Int.{div_ceil}
-use Rattle.lfs_model.specs.declared.limits.TheConstants.{DIRECT_BLOCKS, SECTOR_LEN}
+use Rattle.lfs_model.specs.declared.limits.TheConstants.{SECTOR_LEN}
 use Rattle.lfs_model.specs.Checkpoint.{CheckpointValue}
 use Rattle.lfs_model.specs.Device.{DeviceState}
 use Rattle.lfs_model.specs.Encodes.{HasInode}
@@ -17,18 +17,10 @@ use Rattle.lfs_cleaner.specs.log.memory.Batch.{staged, FitsBatch}
 use Rattle.lfs_cleaner.specs.log.memory.Changing.{FitsHeader}
 use Rattle.lfs_cleaner.specs.log.memory.Present.{as_header}
 use Rattle.lfs_cleaner.specs.log.LogState.{LogState, Holds}
-use Rattle.lfs_store.specs.Drafting.{IsApart, TakesBlock}
+use Rattle.lfs_store.specs.Drafting.{TakesBlock}
 use Rattle.lfs_store.specs.Pieces.{IsBeneath, WriteSoFar, CutBlocks}
 
 -- ---- writing
-
--- The log map may be changed so: the file is there, and apart from what is
--- lost; a file that the log map hasn't yet gets blocks below the 113th alone.
-pub record TakesWrite (c : Changes) (m : LogMap) (n : ℕ) (h : Header) (at : ℕ) (w : List ℕ) : Type 0 where
-  pub there : (staged c m).header n ≡ Some (as_header h)
-  pub apart : IsApart c.loss n
-  pub within : m.header n ≡ None → at + length w ≤ DIRECT_BLOCKS * SECTOR_LEN
-  pub header : FitsHeader h.kind h.form h.links (max h.size (at + length w))
 
 module _ {D : Type 0} (state : D → DeviceState) where
   -- what the bytes of one block are laid over
@@ -46,17 +38,6 @@ module _ {D : Type 0} (state : D → DeviceState) where
     pub fits : (m : LogMap) → FitsBatch m c → TakesBlock c m n index → FitsBatch m c'
     pub goes_on : (k : CheckpointValue) (m0 m a : LogMap) → (state h'.device).keeps_model → Holds state h k m0 m
         → WriteSoFar a (staged c m) n at w index → WriteSoFar a (staged c' m) n at w (index + 1)
-
-  -- All of them have.
-  pub record Writes (h h' : LogState D) (c c' : Changes) (n : ℕ) (head : Header) (at : ℕ) (w : List ℕ) : Type 0 where
-    pub loss : c'.loss ≡ c.loss
-    pub headers : length c'.headers.items ≤ length c.headers.items + 1
-    pub blocks : length c'.blocks.items ≤ length c.blocks.items + (div_ceil (at + length w) SECTOR_LEN - at / SECTOR_LEN)
-    pub around : (m : LogMap) (i : ℕ) → (i < at / SECTOR_LEN) ⊎ (div_ceil (at + length w) SECTOR_LEN ≤ i)
-        → (staged c' m).block n i ≡ (staged c m).block n i
-    pub fits : (m : LogMap) → FitsBatch m c → TakesWrite c m n head at w → FitsBatch m c'
-    pub file : (k : CheckpointValue) (m0 m : LogMap) → (state h'.device).keeps_model → Holds state h k m0 m
-        → WritesFile (staged c m) (staged c' m) n head (resized head (max head.size (at + length w))) at w
 
 -- ---- cutting
 

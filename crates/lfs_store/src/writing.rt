@@ -5,9 +5,8 @@ ghost use Rattle.lfs_cleaner.specs.log.LogState.{IsReadFault};
 ghost use Rattle.lfs_store.specs.Drafting.{PutsHeader};
 ghost use Rattle.lfs_files.specs.Files.{asked_by_directory};
 ghost use Rattle.lfs_files.specs.Headers.{reformed};
-ghost use Rattle.lfs_model.specs.Tree.{slot_len};
 ghost use Rattle.lfs_store.specs.Keeping.{ReadsLog};
-ghost use Rattle.lfs_store.specs.Growing.{IsLone, PlacesBlock, asked_by_transfer};
+ghost use Rattle.lfs_store.specs.Growing.{PlacesBlock, asked_by_transfer};
 ghost use Rattle.lfs_store.specs.Pieces.{Covers};
 ghost use Rattle.lfs_store.specs.Writing.{ReadsBeneath};
 
@@ -19,9 +18,7 @@ use lfs_cleaner::volume_log::{Cut, Header, Log, LogFault, Loss};
 use lfs_device::SectorDevice;
 use lfs_files::StoreFault;
 use lfs_model::FileNumber;
-use lfs_model::limits::{
-    FILE_BLOCKS, LARGEST_FILE, LAST_BLOCK, LONGEST_TRANSFER, MOST_ENTRIES, SECTOR_LEN,
-};
+use lfs_model::limits::{FILE_BLOCKS, LARGEST_FILE, LAST_BLOCK, LONGEST_TRANSFER, SECTOR_LEN};
 
 /// Whether bytes that begin at a place of a file cover its block at an index whole.
 fn covers(at: u32, bytes: &[u8], index: u32) -> bool
@@ -60,8 +57,9 @@ impl<D: SectorDevice> Store<D> {
     ghost use Rattle.lfs_store.specs.Keeping.{DraftsUncounted, RedraftsUncounted};
     ghost use Rattle.lfs_store.specs.Recounting.{Counts};
     ghost use Rattle.lfs_store.specs.Seen.{files_of};
-    ghost use Rattle.lfs_files.specs.Files.{CountsReformed, Redrafts, Reforms};
-    ghost use Rattle.lfs_store.specs.Writing.{Writes, WritesBlock, DraftsCut, CutsDraft, SetsLen, resized};
+    ghost use Rattle.lfs_files.specs.Files as files;
+    ghost use Rattle.lfs_files.specs.Files.{CountsReformed, IsLoneWrite, Redrafts, Reforms, Writes};
+    ghost use Rattle.lfs_store.specs.Writing.{WritesBlock, DraftsCut, CutsDraft, SetsLen, resized};
 
     /// Lays bytes over a file of this header, from a place on. Where they end behind its size, it
     /// is as long as that needs.
@@ -81,15 +79,14 @@ impl<D: SectorDevice> Store<D> {
         requires end { at + length bytes.now ≤ LARGEST_FILE }
         ensures redrafts { Redrafts (files_of D.SectorDevice.state self.old)
             (files_of D.SectorDevice.state self.new) }
-        ensures done { OnOk result (Writes D.SectorDevice.state self.old.log self.new.log
-            self.old.draft.changes self.new.draft.changes number.value header at bytes.now) }
+        ensures done { OnOk result (Writes (files_of D.SectorDevice.state self.old)
+            (files_of D.SectorDevice.state self.new) number.value header at bytes.now) }
         ensures room { OnOk result (IsNoChange self.old.draft.changes → length bytes.now ≤ LONGEST_TRANSFER
             → room_for self.new.draft.changes ≤ asked_by_transfer) }
-        ensures asked { OnOk result (IsLone self.old.draft.changes
-            → length bytes.now ≤ MOST_ENTRIES * slot_len 1
-            → room_for self.new.draft.changes ≤ asked_by_directory) }
-        ensures counted { OnOk result (Counts D.SectorDevice.state self.old.log self.new.log
-            self.old.draft.changes self.new.draft.changes self.old.drafted self.new.drafted) }
+        ensures asked { OnOk result (IsLoneWrite (files_of D.SectorDevice.state self.old) bytes.now
+            → (files_of D.SectorDevice.state self.new).asked ≤ asked_by_directory) }
+        ensures counted { OnOk result (files.Counts (files_of D.SectorDevice.state self.old)
+            (files_of D.SectorDevice.state self.new)) }
         ensures failed { IfErr result (λ fault. (fault ≡ StoreFault.NoMemory → ⊥)
             → IsReadFault D.SectorDevice.state self.old.log self.new.log) }
         ensures halted { IsErrOf result (StoreFault.Log LogFault.Halted)
@@ -120,13 +117,12 @@ impl<D: SectorDevice> Store<D> {
         requires bytes { 0 < length bytes.now }
         requires end { at + length bytes.now ≤ LARGEST_FILE }
         ensures redrafts { RedraftsUncounted D.SectorDevice.state self.old self.new }
-        ensures done { OnOk result (Writes D.SectorDevice.state self.old.log self.new.log
-            self.old.draft.changes self.new.draft.changes number.value header at bytes.now) }
+        ensures done { OnOk result (Writes (files_of D.SectorDevice.state self.old)
+            (files_of D.SectorDevice.state self.new) number.value header at bytes.now) }
         ensures room { OnOk result (IsNoChange self.old.draft.changes → length bytes.now ≤ LONGEST_TRANSFER
             → room_for self.new.draft.changes ≤ asked_by_transfer) }
-        ensures asked { OnOk result (IsLone self.old.draft.changes
-            → length bytes.now ≤ MOST_ENTRIES * slot_len 1
-            → room_for self.new.draft.changes ≤ asked_by_directory) }
+        ensures asked { OnOk result (IsLoneWrite (files_of D.SectorDevice.state self.old) bytes.now
+            → (files_of D.SectorDevice.state self.new).asked ≤ asked_by_directory) }
         ensures failed { IfErr result (λ fault. (fault ≡ StoreFault.NoMemory → ⊥)
             → IsReadFault D.SectorDevice.state self.old.log self.new.log) }
         ensures halted { IsErrOf result (StoreFault.Log LogFault.Halted)

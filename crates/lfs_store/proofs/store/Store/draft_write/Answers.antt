@@ -1,4 +1,4 @@
-use Rattle.std.proofs.Common.{◌≡◌, ◌≤◌, ◌+◌, ◌/◌, refl, rules, ℕ, length, sym, subst}
+use Rattle.std.proofs.Common.{◌≡◌, ◌≤◌, ◌+◌, ◌/◌, refl, arith, rules, ℕ, length, sym, subst}
 use Rattle.lfs_cleaner.specs.log.LogState.{LogState, IsReadFault}
 use Rattle.std.specs.Prelude.{Result, Err, IfErr}
 use Rattle.lfs_files.specs.declared.fault.StoreFault.{StoreFault}
@@ -7,7 +7,10 @@ use Rattle.lfs_cleaner.proofs.of_log.of_memory.Going.{ok_then}
 use Rattle.lfs_store.specs.Drafting.{PutsHeader}
 use Rattle.std.specs.Int.{div_ceil}
 use Rattle.lfs_store.specs.Growing.{IsRun}
-use Rattle.lfs_store.specs.Writing.{Writes, resized}
+use Rattle.lfs_store.specs.Writing.{resized}
+use Rattle.lfs_store.specs.Seen.{files_of, state_of}
+use Rattle.lfs_files.specs.Files.{Writes}
+use Rattle.lfs_cleaner.proofs.of_log.Unsaved.{none_left}
 use Rattle.lfs_cleaner.proofs.of_log.LogReads.{reads_none, fault_more}
 use Rattle.lfs_store.proofs.Keepings.{uncounted_drafts, uncounted_none, uncounted_then}
 use Rattle.lfs_store.proofs.Writings.{written_none, written_more, written}
@@ -47,11 +50,12 @@ loop-index-preserved g c = (
 
 pub returns-clause-done : goal.returns-clause-done
 returns-clause-done g c =
+    let state = g.D.SectorDevice.state in
     ok_then c.resize.result _ _
-    (λ puts. subst (λ (log : LogState _). Writes g.D.SectorDevice.state c.args.self.now.log log c.args.self.now.draft.changes
-    c.resize.new.self.draft.changes c.args.number.value c.args.header c.args.at c.args.bytes.now) (sym c.resize.ensures.keeps.log)
-    (written g.D.SectorDevice.state c.args.self.now.log c.loop-index.self.log c.args.self.now.draft.changes c.loop-index.self.draft.changes
-    c.resize.new.self.draft.changes
+    (λ puts. subst (λ (log : LogState _). Writes (files_of state c.args.self.now) (state_of state log c.resize.new.self.draft
+    c.resize.new.self.drafted) c.args.number.value c.args.header c.args.at c.args.bytes.now) (sym c.resize.ensures.keeps.log)
+    (written state c.args.self.now.log c.loop-index.self.log c.args.self.now.draft c.loop-index.self.draft c.resize.new.self.draft
+    c.args.self.now.drafted c.resize.new.self.drafted
     c.args.number.value c.args.header c.args.at c.args.bytes.now c.loop-index.index c.requires.bytes (search rules)
     (search rules) c.loop-index.invariant.0
     (subst (λ (size : ℕ). PutsHeader c.loop-index.self.draft.changes c.resize.new.self.draft.changes c.args.number.value
@@ -81,8 +85,9 @@ pub returns-clause-asked : goal.returns-clause-asked
 returns-clause-asked g c =
     let end : c.loop-index.index ≡ div_ceil (c.args.at + length c.args.bytes.now) 512 = search rules in
     ok_then c.resize.result _ _
-    (λ puts lone few. lone_room c.args.self.now.draft.changes c.loop-index.self.draft.changes c.resize.new.self.draft.changes
-    c.args.number.value (c.args.at / 512) c.loop-index.index _ lone
-    c.loop-index.invariant.0.headers (c.loop-index.invariant.2 lone.blocks)
-    (subst (λ (i : ℕ). i ≤ c.args.at / 512 + 257) (sym end) (blocks_most c.args.at (length c.args.bytes.now) few)) puts)
+    (λ puts lone. lone_room c.args.self.now.draft.changes c.loop-index.self.draft.changes c.resize.new.self.draft.changes
+    c.args.number.value (c.args.at / 512) c.loop-index.index _ lone.headers
+    c.loop-index.invariant.0.headers
+    (c.loop-index.invariant.2 (none_left c.args.self.now.draft.changes.blocks.items (let none = lone.blocks in omega (arith, none))))
+    (subst (λ (i : ℕ). i ≤ c.args.at / 512 + 257) (sym end) (blocks_most c.args.at (length c.args.bytes.now) lone.few)) puts)
     c.resize.ensures.done

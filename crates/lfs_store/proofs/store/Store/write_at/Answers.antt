@@ -1,19 +1,14 @@
 use Rattle.std.specs.Prelude.{Result, IfErr}
-use Rattle.std.proofs.Common.{◌≡◌, ◌≤◌, ◌/◌, ◌∙◌, sym, subst}
+use Rattle.std.proofs.Common.{◌≡◌, ◌≤◌, ◌/◌, sym, subst, arith}
 use Rattle.lfs_store.specs.declared.draft.Draft.{Draft}
-use Rattle.lfs_cleaner.specs.log.verify.declared.totals.BlockTotals.{BlockTotals}
 use Rattle.lfs_cleaner.specs.log.memory.Batch.{IsNoChange, room_for}
-use Rattle.lfs_store.specs.Growing.{IsLone}
-use Rattle.lfs_store.specs.Recounting.{Remeasures, Counts}
-use Rattle.lfs_store.specs.Writing.{Writes}
 use Rattle.lfs_cleaner.specs.log.LogState.{IsReadFault}
 use Rattle.lfs_files.specs.declared.fault.StoreFault.{StoreFault}
 use Rattle.lfs_files.specs.declared.fault.StoreFault.TheVariants.{NoMemory}
+use Rattle.lfs_store.proofs.Between.{asked_between, counts_between, writes_between, written_file}
 use Rattle.lfs_store.proofs.Endings.{same_exit}
 use Rattle.lfs_store.proofs.Keepings.{counted_redrafts, measured_redrafts, reads_redrafts}
 use Rattle.lfs_cleaner.proofs.of_log.LogReads.{fault_more, reads_more}
-use Rattle.lfs_store.proofs.Recounted.{write_counts}
-use Rattle.lfs_store.proofs.Writings.{writes_around}
 use Rattle.lfs_store.proofs.store.Store.write_at.Goals as goal
 
 pub returns-in-Err-clause-redrafts : goal.returns-in-Err-clause-redrafts
@@ -52,34 +47,21 @@ returns-in-Err-recount-clause-failed g c other =
 
 pub returns-in-Ok-recount-clause-done : goal.returns-in-Ok-recount-clause-done
 returns-in-Ok-recount-clause-done g c =
-    let state = g.D.SectorDevice.state in
-    let writes =
-    subst (λ (d : Draft). Writes state c.measure.new.self.log c.draft_write.new.self.log d.changes c.draft_write.new.self.draft.changes
-    c.args.number.value c.args.header c.args.at c.args.bytes.now) c.measure.ensures.reads.draft c.in_ok-draft_write.ensures.done in
-    subst (λ (d : Draft). Writes state c.args.self.now.log c.recount.new.self.log c.args.self.now.draft.changes d.changes
-    c.args.number.value c.args.header c.args.at c.args.bytes.now) (sym c.recount.ensures.counts.draft)
-    (writes_around state c.args.self.now.log c.measure.new.self.log c.draft_write.new.self.log c.recount.new.self.log
-    c.args.self.now.draft.changes c.draft_write.new.self.draft.changes
-    c.args.number.value c.args.header c.args.at c.args.bytes.now c.measure.ensures.reads.log writes c.recount.ensures.counts.reads)
+    writes_between g.D.SectorDevice.state c.args.self.now c.measure.new.self c.draft_write.new.self c.recount.new.self
+    c.measure.ensures.reads c.recount.ensures.counts c.args.number.value c.args.header c.args.at c.args.bytes.now
+    c.in_ok-draft_write.ensures.done
 
 pub returns-in-Ok-recount-clause-counted : goal.returns-in-Ok-recount-clause-counted
 returns-in-Ok-recount-clause-counted g c =
-    let state = g.D.SectorDevice.state in
-    let writes =
-    subst (λ (d : Draft). Writes state c.measure.new.self.log c.draft_write.new.self.log d.changes c.draft_write.new.self.draft.changes
-    c.args.number.value c.args.header c.args.at c.args.bytes.now) c.measure.ensures.reads.draft c.in_ok-draft_write.ensures.done in
-    let again =
-    subst (λ (t : BlockTotals). Remeasures state c.draft_write.new.self.log c.recount.new.self.log c.draft_write.new.self.draft.changes
-    c.args.number.value (c.args.at / 512) c.div_ceil-to.result c.in-Ok.measure t c.recount.new.self.drafted)
-    (c.draft_write.ensures.redrafts.drafted ∙ c.measure.ensures.reads.drafted) c.in-Ok-recount.ensures.done in
-    subst (λ (d : Draft). Counts state c.args.self.now.log c.recount.new.self.log c.args.self.now.draft.changes d.changes
-    c.args.self.now.drafted c.recount.new.self.drafted) (sym c.recount.ensures.counts.draft)
-    (write_counts state c.args.self.now.log c.measure.new.self.log c.draft_write.new.self.log c.recount.new.self.log
-    c.args.self.now.draft.changes c.draft_write.new.self.draft.changes c.args.number.value c.in-Ok.measure
-    c.args.self.now.drafted c.recount.new.self.drafted c.args.number.some c.args.number.few c.measure.ensures.reads.log
-    c.draft_write.ensures.redrafts.reads c.recount.ensures.counts.reads
-    c.args.header c.args.at c.args.bytes.now c.div_ceil-to.result c.requires.bytes c.requires.end c.div_ceil-to.ensures
-    c.in-Ok.ensures.answer writes again)
+    let long = c.requires.bytes in
+    let low = c.requires.end in
+    let end = c.div_ceil-to.ensures in
+    counts_between g.D.SectorDevice.state c.args.self.now c.measure.new.self c.draft_write.new.self c.recount.new.self
+    c.measure.ensures.reads c.recount.ensures.counts c.args.number.value (c.args.at / 512) c.div_ceil-to.result c.in-Ok.measure
+    c.args.number.some c.args.number.few (omega (arith, end, long)) (omega (arith, end, low)) c.in-Ok.ensures.answer
+    c.draft_write.ensures.redrafts c.in-Ok-recount.ensures.done
+    (λ m m' keeps has. written_file _ m m' c.args.number.value c.args.header _ c.args.at c.args.bytes.now c.div_ceil-to.result end
+    (c.in_ok-draft_write.ensures.done.file m m' keeps has))
 
 pub returns-in-Ok-recount-clause-room : goal.returns-in-Ok-recount-clause-room
 returns-in-Ok-recount-clause-room g c none few =
@@ -87,6 +69,6 @@ returns-in-Ok-recount-clause-room g c none few =
     (c.in_ok-draft_write.ensures.room (subst (λ (d : Draft). IsNoChange d.changes) (sym c.measure.ensures.reads.draft) none) few)
 
 pub returns-in-Ok-recount-clause-asked : goal.returns-in-Ok-recount-clause-asked
-returns-in-Ok-recount-clause-asked g c lone few =
-    subst (λ (d : Draft). room_for d.changes ≤ 274) (sym c.recount.ensures.counts.draft)
-    (c.in_ok-draft_write.ensures.asked (subst (λ (d : Draft). IsLone d.changes) (sym c.measure.ensures.reads.draft) lone) few)
+returns-in-Ok-recount-clause-asked g c =
+    asked_between g.D.SectorDevice.state c.args.self.now c.measure.new.self c.draft_write.new.self c.recount.new.self
+    c.measure.ensures.reads c.recount.ensures.counts c.args.bytes.now 274 c.in_ok-draft_write.ensures.asked
