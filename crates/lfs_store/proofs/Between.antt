@@ -9,7 +9,7 @@ use Rattle.lfs_model.specs.Stands.{LogMap}
 use Rattle.lfs_model.specs.Totals.{HasMeasure}
 use Rattle.lfs_files.specs.Files as files
 use Rattle.lfs_files.specs.declared.header.Header.{Header}
-use Rattle.lfs_files.specs.Files.{FilesState, HasWritten, IsLoneWrite, Writes}
+use Rattle.lfs_files.specs.Files.{FilesState, HasSized, HasWritten, IsLoneWrite, SetsLen, Writes}
 use Rattle.lfs_files.specs.Making.{HasRemoved, Removes}
 use Rattle.lfs_cleaner.specs.log.verify.declared.totals.BlockTotals.{BlockTotals}
 use Rattle.lfs_store.specs.declared.draft.Draft.{Draft}
@@ -47,6 +47,15 @@ written_file s' m m' n h h' at w to end is = record {
   has = is.has;
   only = is.file.only;
   around = λ i lt out. is.around i (subst (λ (e : ℕ). (i < at / 512) ⊎ (e ≤ i)) end out);
+}
+
+pub sized_file : {S D : Type 0} (s' : FilesState S D) (m m' : LogMap) (n : ℕ) (h h' : Header) (len : ℕ) → HasSized s' m m' n h h' len
+    → HasChanged s' m m' n (len / 512) 16624
+sized_file s' m m' n h h' len is = record {
+  map = is.map;
+  has = is.has;
+  only = is.file.only;
+  around = λ i lt out. ⊎_elim (λ (low : i < len / 512). is.file.below i low) (λ (high : 16624 ≤ i). absurd (omega (arith, lt, high))) out;
 }
 
 module _ {D : Type 0} (state : D → DeviceState) (a b c d : Store D) (first : ReadsStore state a b) (last : OnlyCounts state c d) where
@@ -98,6 +107,17 @@ module _ {D : Type 0} (state : D → DeviceState) (a b c d : Store D) (first : R
       let same = before.headers in
       subst (λ (k : ℕ). k ≤ most) (sym after.asked)
       (asked record { headers = omega (arith, headers, same); blocks = before.blocks ∙ lone.blocks; few = lone.few })
+
+  pub sets_between : (n : ℕ) (head : Header) (len : ℕ) → SetsLen B C n head len → SetsLen A E n head len
+  sets_between n head len is = record {
+    cut = λ less x. after.lost x ∙ is.cut less x;
+    kept = λ more x. after.lost x ∙ is.kept more x;
+    headers = let few = is.headers in let same = after.headers in omega (arith, few, same);
+    blocks = let few = is.blocks in let same = after.blocks in omega (arith, few, same);
+    fits = λ m m' has there fits. after.fits m (is.fits m m' (before.has m m' has) there fits);
+    file = λ m m' keeps has. let now = is.file m m' (after.looks.carries.kept_before keeps) (before.has m m' has) in
+        record { map = now.map; has = after.has m now.map now.has; file = now.file };
+  }
 
   -- ---- its totals
   pub counts_between : (n from to : ℕ) (found : Measure) → 1 ≤ n → n ≤ 4095 → from ≤ to → to ≤ 16624

@@ -26,12 +26,16 @@ use Rattle.lfs_cleaner.specs.log.LogState.{LogState, Reads}
 use Rattle.lfs_store.specs.Drafting.{PutsBlock, PutsHeader, TakesBlock}
 use Rattle.lfs_store.specs.Pieces.{CutsTail, CutSoFar, CutBlocks}
 use Rattle.lfs_store.specs.Reading.{ReadsBlock}
-use Rattle.lfs_store.specs.Writing.{resized, DraftsCut, CutsDraft, SizesFile, SetsLen}
-use Rattle.lfs_cleaner.proofs.of_log.LogReads.{held_still}
+use Rattle.lfs_files.specs.Files.{SetsLen, SizesFile}
+use Rattle.lfs_files.specs.Headers.{resized}
+use Rattle.lfs_cleaner.specs.log.verify.declared.totals.BlockTotals.{BlockTotals}
+use Rattle.lfs_store.specs.declared.draft.Draft.{Draft}
+use Rattle.lfs_store.specs.Seen.{HasMap, state_of}
+use Rattle.lfs_store.specs.Writing.{DraftsCut, CutsDraft}
 use Rattle.lfs_store.proofs.PiecesCut.{cut_begins, cut_between, cut_inside, cut_none, cut_blocks_heads, cut_is_done}
 use Rattle.lfs_store.proofs.PiecesStored.{same_whole}
 use Rattle.lfs_store.proofs.Apart.{edits_are, no_change, fits_lost, draft_empty}
-use Rattle.lfs_store.proofs.Writings.{block_read, block_put, header_put, takes_header}
+use Rattle.lfs_store.proofs.Writings.{block_read, block_put, header_put, still_has, takes_header}
 
 -- ---- what such drafts make of a log map
 
@@ -123,68 +127,74 @@ module _ {D : Type 0} (state : D → DeviceState) where
   }
 
   -- ---- and its header says so
+  module _ (h h' : LogState D) (d d' : Draft) (u u' : BlockTotals) (n : ℕ) (head : Header) (len : ℕ) (none : IsNoChange d.changes) where
+    was : (m m' : LogMap) → HasMap state h d.changes m m' → m' ≡ m
+    was m m' has = has.draft ∙ no_change d.changes m none
 
-  pub sets_shorter : (h h' : LogState D) (c c' : Changes) (n : ℕ) (head : Header) (len : ℕ) → len < head.size → CutsDraft state h h' c n len
-      → PutsHeader c c' n (resized head len) → SetsLen state h h' c' n head len
-  sets_shorter h h' c c' n head len less is puts = record {
-    lost = λ lt. record { cut = is.loss.cut; loss = puts.loss ∙ is.loss.loss; number = is.loss.number; start = is.loss.start };
-    kept = λ le. absurd (omega (arith, less, le));
-    headers = let none = ap length is.headers in let some = puts.few in omega (arith, none, some);
-    blocks = let few = is.blocks in let same = ap length (ap (λ v. v.items) puts.blocks) in omega (arith, few, same);
-    fits = λ m there fits. puts.fits m (is.fits m (as_header head, there))
-        (takes_header c m n head (resized head len) (is.header m ∙ there) refl (ap (λ (x : Loss). is_lost x (Inode n)) is.loss.loss) fits);
-    file = λ k m0 m keeps holds. file m (is.file k m0 m keeps holds);
-  }
-    where
-      file : (m : LogMap) → CutBlocks m (staged c m) n len → SizesFile m (staged c' m) n head (resized head len) len
-      file m cut =
-          let with_it = header_put (staged c m) (staged c' m) n (resized head len) (puts.map m) in
-          let done = cut_blocks_heads m (staged c m) (staged c' m) n len (Some (as_header (resized head len))) cut with_it in
-          record {
-            shorter = λ lt. cut_is_done m (staged c' m) n len (as_header head) (as_header (resized head len)) done refl;
-            longer = λ le map there. absurd (omega (arith, less, le));
-            below = λ i lt. done.below i (omega (arith, lt));
-            only = done.only;
-            whole = done.whole;
-            header = with_it.own;
-          }
+    there_first : (m m' : LogMap) → HasMap state h d.changes m m' → m'.header n ≡ Some (as_header head) → m.header n ≡ Some (as_header head)
+    there_first m m' has there = ap (λ (x : LogMap). x.header n) (sym (was m m' has)) ∙ there
 
-  pub sets_longer : (h h' : LogState D) (c c' : Changes) (n : ℕ) (head : Header) (len : ℕ) → head.size ≤ len → IsNoChange c
-      → PutsHeader c c' n (resized head len) → SetsLen state h h' c' n head len
-  sets_longer h h' c c' n head len more none puts = record {
-    lost = λ lt. absurd (omega (arith, more, lt));
-    kept = λ le. puts.loss ∙ none.loss;
-    headers = let was = ap length none.headers in let some = puts.few in omega (arith, was, some);
-    blocks = let was = ap length none.blocks in let same = ap length (ap (λ v. v.items) puts.blocks) in omega (arith, was, same);
-    fits = λ m there fits. puts.fits m (draft_empty c m none).1 (takes_header c m n head (resized head len)
-        (ap (λ (a : LogMap). a.header n) (no_change c m none) ∙ there) refl (ap (λ (x : Loss). is_lost x (Inode n)) none.loss) fits);
-    file = λ k m0 m keeps holds. file m;
-  }
-    where
-      with_it : (m : LogMap) → IsWithHeader m n (Some (as_header (resized head len))) (staged c' m)
-      with_it m = subst (λ (a : LogMap). IsWithHeader a n (Some (as_header (resized head len))) (staged c' m)) (no_change c m none)
-          (header_put (staged c m) (staged c' m) n (resized head len) (puts.map m))
+    pub sets_shorter : (c : Changes) → len < head.size → Reads state h h' → CutsDraft state h h' c n len
+        → PutsHeader c d'.changes n (resized head len) → SetsLen (state_of state h d u) (state_of state h' d' u') n head len
+    sets_shorter c less reads is puts = record {
+      cut = λ lt y. ap (λ (x : Loss). is_lost x y) (puts.loss ∙ is.loss.loss)
+          ∙ ap₂ (λ (k first : ℕ). is_past k first y) is.loss.number is.loss.start;
+      kept = λ le. absurd (omega (arith, less, le));
+      headers = let none = ap length is.headers in let some = puts.few in omega (arith, none, some);
+      blocks = let few = is.blocks in let same = ap length (ap (λ v. v.items) puts.blocks) in omega (arith, few, same);
+      fits = λ m m' has there fits. (
+          let first = there_first m m' has there in
+          puts.fits m (is.fits m (as_header head, first))
+          (takes_header c m n head (resized head len) (is.header m ∙ first) refl (ap (λ (x : Loss). is_lost x (Inode n)) is.loss.loss)
+          fits));
+      file = λ m m' keeps has. record {
+        map = staged d'.changes m;
+        has = still_has state h h' d d' m m' reads has;
+        file = file m m' (subst (λ (x : LogMap). CutBlocks x (staged c m) n len) (sym (was m m' has))
+            (is.file has.checkpoint has.acknowledged m keeps has.holds));
+      };
+    }
+      where
+        file : (m m' : LogMap) → CutBlocks m' (staged c m) n len → SizesFile m' (staged d'.changes m) n head (resized head len) len
+        file m m' cut =
+            let with_it = header_put (staged c m) (staged d'.changes m) n (resized head len) (puts.map m) in
+            let done = cut_blocks_heads m' (staged c m) (staged d'.changes m) n len (Some (as_header (resized head len))) cut with_it in
+            record {
+              shorter = λ lt. cut_is_done m' (staged d'.changes m) n len (as_header head) (as_header (resized head len)) done refl;
+              longer = λ le map there. absurd (omega (arith, less, le));
+              below = λ i lt. done.below i (omega (arith, lt));
+              only = done.only;
+              whole = done.whole;
+              header = with_it.own;
+            }
 
-      file : (m : LogMap) → SizesFile m (staged c' m) n head (resized head len) len
-      file m = record {
-        shorter = λ lt. absurd (omega (arith, more, lt));
-        longer = λ le map there.
-            lengthened m (staged c' m) n (as_header head) (as_header (resized head len)) map there len le refl ((with_it m).block n);
-        below = λ i lt. (with_it m).block n i;
-        only = record { headers = (with_it m).others; blocks = λ k i ne. (with_it m).block k i; version = (with_it m).version };
-        whole = λ was. same_whole m (staged c' m) n ((with_it m).block n) was;
-        header = (with_it m).own;
-      }
-
-  -- a log that is only read before and after
-  pub sets_around : (h a b h' : LogState D) (c : Changes) (n : ℕ) (head : Header) (len : ℕ) → Reads state h a
-      → SetsLen state a b c n head len
-      → Reads state b h' → SetsLen state h h' c n head len
-  sets_around h a b h' c n head len first sets last = record {
-    lost = sets.lost;
-    kept = sets.kept;
-    headers = sets.headers;
-    blocks = sets.blocks;
-    fits = sets.fits;
-    file = λ k m0 m keeps is. sets.file k m0 m (last.looks.carries.kept_before keeps) (held_still state h a k m0 m first is);
-  }
+    pub sets_longer : head.size ≤ len → Reads state h h' → PutsHeader d.changes d'.changes n (resized head len)
+        → SetsLen (state_of state h d u) (state_of state h' d' u') n head len
+    sets_longer more reads puts = record {
+      cut = λ lt. absurd (omega (arith, more, lt));
+      kept = λ le y. ap (λ (x : Loss). is_lost x y) (puts.loss ∙ none.loss);
+      headers = let was = ap length none.headers in let some = puts.few in omega (arith, was, some);
+      blocks = let was = ap length none.blocks in let same = ap length (ap (λ v. v.items) puts.blocks) in omega (arith, was, same);
+      fits = λ m m' has there fits. puts.fits m (draft_empty d.changes m none).1 (takes_header d.changes m n head (resized head len)
+          (ap (λ (a : LogMap). a.header n) (sym has.draft) ∙ there) refl (ap (λ (x : Loss). is_lost x (Inode n)) none.loss) fits);
+      file = λ m m' keeps has. record {
+        map = staged d'.changes m;
+        has = still_has state h h' d d' m m' reads has;
+        file =
+            file m m' (subst (λ (a : LogMap). IsWithHeader a n (Some (as_header (resized head len))) (staged d'.changes m)) (sym has.draft)
+            (header_put (staged d.changes m) (staged d'.changes m) n (resized head len) (puts.map m)));
+      };
+    }
+      where
+        file : (m m' : LogMap) → IsWithHeader m' n (Some (as_header (resized head len))) (staged d'.changes m)
+            → SizesFile m' (staged d'.changes m) n head (resized head len) len
+        file m m' with_it = record {
+          shorter = λ lt. absurd (omega (arith, more, lt));
+          longer =
+              λ le map there. lengthened m' (staged d'.changes m) n (as_header head) (as_header (resized head len)) map there len le refl
+              (with_it.block n);
+          below = λ i lt. with_it.block n i;
+          only = record { headers = with_it.others; blocks = λ k i ne. with_it.block k i; version = with_it.version };
+          whole = λ whole. same_whole m' (staged d'.changes m) n (with_it.block n) whole;
+          header = with_it.own;
+        }

@@ -1,15 +1,14 @@
 -- The totals of a draft that writes, cuts, makes or removes one file.
-use Rattle.std.proofs.Common.{◌≡◌, ◌<◌, ◌≤◌, ⊎_elim, ◌+◌, ◌/◌, ℕ, false, length, List, [], ◌∷◌, Option, Some, None, refl, sym}
+use Rattle.std.proofs.Common.{◌≡◌, ◌<◌, ◌≤◌, ⊎_elim, ◌+◌, ℕ, false, length, List, [], ◌∷◌, Option, Some, None, refl, sym}
 use Rattle.std.proofs.Common.{◌∙◌, ap, subst, arith}
 use Rattle.lfs_model.specs.Device.{DeviceState, IsLawful}
 use Rattle.lfs_model.specs.Encodes.{IsLogMap}
 use Rattle.lfs_model.specs.Entry.{Header}
 use Rattle.lfs_model.specs.Need.{pointers}
-use Rattle.lfs_model.specs.Objects.{IsChangedAt, is_stored, stored_below, stored_blocks}
+use Rattle.lfs_model.specs.Objects.{is_stored, stored_below, stored_blocks}
 use Rattle.lfs_model.specs.Stands.{LogMap}
 use Rattle.lfs_cleaner.specs.log.memory.declared.changes.Changes.{Changes}
-use Rattle.lfs_cleaner.specs.log.memory.files.declared.header.Header as headers
-use Rattle.lfs_cleaner.specs.log.memory.Batch.{IsNoChange, staged}
+use Rattle.lfs_cleaner.specs.log.memory.Batch.{IsNoChange}
 use Rattle.lfs_cleaner.specs.log.memory.Changing.{with_header}
 use Rattle.lfs_cleaner.specs.log.memory.Removing.{without_file}
 use Rattle.lfs_cleaner.proofs.of_log.of_memory.LogMaps.{is_with_header}
@@ -20,15 +19,14 @@ use Rattle.lfs_cleaner.specs.log.segments.Early.{AreUntaken}
 use Rattle.lfs_store.specs.declared.totals.Measure.{Measure}
 use Rattle.lfs_cleaner.specs.log.verify.declared.totals.BlockTotals.{BlockTotals}
 use Rattle.lfs_store.specs.Measuring.{Measures}
-use Rattle.lfs_store.specs.Recounting.{AreTotals, Recounts, Remeasures, Counts, CountsGone}
+use Rattle.lfs_store.specs.Recounting.{AreTotals, Recounts, CountsGone}
 use Rattle.lfs_model.specs.Totals.{HasMeasure, meta_of_file, data_in, meta_in}
-use Rattle.lfs_store.specs.Writing.{SetsLen}
 use Rattle.lfs_store.proofs.Apart.{no_change}
 use Rattle.lfs_store.proofs.Leaves.{beside_none}
 use Rattle.lfs_cleaner.proofs.of_log.LogReads.{held_still}
 use Rattle.lfs_store.proofs.Makings.{changed_header, without_changed}
 use Rattle.lfs_store.proofs.Measures.{nothing_stored, stored_nothing}
-use Rattle.lfs_store.proofs.Recountings.{counts, recounted, same_high}
+use Rattle.lfs_store.proofs.Recountings.{recounted, same_high}
 use Rattle.lfs_store.proofs.Summing.{stored_all, totals_of_change}
 
 -- ---- what has no block
@@ -106,26 +104,6 @@ relinked_totals m n h h' t some few there are =
 
     others : (a b x y : ℕ) → b + x ≡ a + y → x ≡ y → a ≡ b
     others a b x y e same = omega (arith, e, same)
-
--- ---- over a log
-module _ {D : Type 0} (state : D → DeviceState) (h a b h' : LogState D) (c c' : Changes) (n : ℕ) (before : Measure) (old new : BlockTotals)
-    (some : 1 ≤ n) (few : n ≤ 4095)
-    (first : Reads state h a) (next : Reads state a b) (last : Reads state b h') where
-  pub cut_counts : (head : headers.Header) (len : ℕ) → len ≤ 8511488 → IsNoChange c → Measures state h a c n (len / 512) 16624 before
-      → SetsLen state a b c' n head len
-      → Remeasures state b h' c' n (len / 512) 16624 before old new → Counts state h h' c c' old new
-  cut_counts head len low none measured sets again =
-      counts state h a b h' c c' n (len / 512) 16624 before old new some few (omega (arith, low))
-      (omega arith) first measured next last again
-      (λ k m0 m keeps is map map'. (
-      let sized = sets.file k m0 m keeps is in
-      let same = no_change c m none in (
-        subst (λ (x : LogMap). IsChangedAt x n (staged c' m)) (sym same) sized.only,
-        λ i out. ⊎_elim
-            (λ (lt : i < len / 512). sized.below i lt ∙ sym (ap (λ (x : LogMap). x.block n i) same))
-            (λ (high : 16624 ≤ i). same_high (staged c m) (staged c' m) n i map map' high)
-            out,
-      )))
 
 module _ {D : Type 0} (state : D → DeviceState) where
   -- ---- a file goes at once

@@ -1,8 +1,7 @@
 -- What calls of a store are to the layers above.
 use Rattle.std.specs.Prelude.{IfErr, IfOk, IsFalse, OnOk}
-use Rattle.std.proofs.Common.{◌≡◌, ◌-◌, ℕ, Bool, List, Option, Result, Ok, Err, length, refl, sym, ◌∙◌, ap, ap₂, subst}
+use Rattle.std.proofs.Common.{◌≡◌, ◌-◌, ℕ, Bool, List, Option, Result, Ok, Err, length, refl, sym, ◌∙◌, ap, subst}
 use Rattle.lfs_model.specs.Bytes.{part}
-use Rattle.lfs_model.specs.Cutting.{is_past}
 use Rattle.lfs_model.specs.Device.{DeviceState}
 use Rattle.lfs_model.specs.Encodes.{IsLogMap}
 use Rattle.lfs_model.specs.Fields.{zeros}
@@ -22,10 +21,8 @@ use Rattle.lfs_cleaner.specs.log.verify.declared.totals.BlockTotals.{BlockTotals
 use Rattle.lfs_store.specs.Reading.{ReadsHeader, ReadsBlock, ReadsPart}
 use Rattle.lfs_store.specs.Recounting.{AreTotals}
 use Rattle.lfs_store.specs.Recounting as counts
-use Rattle.lfs_store.specs.Seen.{HasMap, StagedLog, counted_of, state_of}
+use Rattle.lfs_store.specs.Seen.{StagedLog, counted_of, state_of}
 use Rattle.lfs_store.specs.Shrinking as shrinking
-use Rattle.lfs_store.specs.Writing as writing
-use Rattle.lfs_store.proofs.Apart.{no_change}
 use Rattle.lfs_cleaner.proofs.of_log.LogReads.{held_still}
 use Rattle.lfs_store.proofs.Writings.{block_read}
 
@@ -150,28 +147,3 @@ module _ {D : Type 0} (state : D → DeviceState) (h h' : LogState D) (d d' : Dr
           (ap (λ (x : LogMap). x.header n) (sym has.draft) ∙ there.there));
     };
   }
-
-  pub seen_sized : (n : ℕ) (head : Header) (len : ℕ) → IsNoChange d.changes → held.Reads state h h'
-      → writing.SetsLen state h h' d'.changes n head len → files.SetsLen S S' n head len
-  seen_sized n head len none reads is = record {
-    cut = λ less y. let from = is.lost less in
-        ap (λ (x : Loss). is_lost x y) from.loss ∙ ap₂ (λ (k first : ℕ). is_past k first y) from.number from.start;
-    kept = λ more y. ap (λ (x : Loss). is_lost x y) (is.kept more);
-    headers = is.headers;
-    blocks = is.blocks;
-    fits = λ m m' has there fits. is.fits m (ap (λ (x : LogMap). x.header n) (sym (was m m' has)) ∙ there) fits;
-    file = λ m m' keeps has. record {
-      map = staged d'.changes m;
-      has = record {
-        checkpoint = has.checkpoint;
-        acknowledged = has.acknowledged;
-        holds = held_still state h h' has.checkpoint has.acknowledged m reads has.holds;
-        draft = refl;
-      };
-      file = subst (λ (x : LogMap). SizesFile x (staged d'.changes m) n head (resized head len) len) (sym (was m m' has))
-          (is.file has.checkpoint has.acknowledged m keeps has.holds);
-    };
-  }
-    where
-      was : (m m' : LogMap) → HasMap state h d.changes m m' → m' ≡ m
-      was m m' has = has.draft ∙ no_change d.changes m none

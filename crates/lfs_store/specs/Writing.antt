@@ -1,5 +1,5 @@
 -- Bytes written to a file and cut off it, in a draft over a log.
-use Rattle.std.specs.Prelude.{◌≡◌, ◌<◌, ◌≤◌, ◌+◌, ℕ, List, [], length, Some}
+use Rattle.std.specs.Prelude.{◌≡◌, ◌≤◌, ◌+◌, ℕ, List, [], length}
 use Rattle.std.specs.Int.{div_ceil}
 use Rattle.lfs_model.specs.declared.limits.TheConstants.{SECTOR_LEN}
 use Rattle.lfs_model.specs.Checkpoint.{CheckpointValue}
@@ -10,12 +10,9 @@ pub use Rattle.lfs_files.specs.Files.{SizesFile, WritesFile}
 pub use Rattle.lfs_files.specs.Headers.{resized}
 use Rattle.lfs_cleaner.specs.log.memory.declared.batch.Cut.{Cut}
 use Rattle.lfs_cleaner.specs.log.memory.declared.batch.Loss.{Loss}
-use Rattle.lfs_cleaner.specs.log.memory.declared.batch.Loss.TheVariants.{Nothing, Blocks}
+use Rattle.lfs_cleaner.specs.log.memory.declared.batch.Loss.TheVariants.{Blocks}
 use Rattle.lfs_cleaner.specs.log.memory.declared.changes.Changes.{Changes}
-use Rattle.lfs_cleaner.specs.log.memory.files.declared.header.Header.{Header}
 use Rattle.lfs_cleaner.specs.log.memory.Batch.{staged, FitsBatch}
-use Rattle.lfs_cleaner.specs.log.memory.Changing.{FitsHeader}
-use Rattle.lfs_cleaner.specs.log.memory.Present.{as_header}
 use Rattle.lfs_cleaner.specs.log.LogState.{LogState, Holds}
 use Rattle.lfs_store.specs.Drafting.{TakesBlock}
 use Rattle.lfs_store.specs.Pieces.{IsBeneath, WriteSoFar, CutBlocks}
@@ -63,13 +60,3 @@ module _ {D : Type 0} (state : D → DeviceState) where
     pub header : (m : LogMap) → (staged c m).header n ≡ m.header n
     pub fits : (m : LogMap) → HasInode m n → FitsBatch m c
     pub file : (k : CheckpointValue) (m0 m : LogMap) → (state h'.device).keeps_model → Holds state h k m0 m → CutBlocks m (staged c m) n len
-
-  -- One that gives it another size.
-  pub record SetsLen (h h' : LogState D) (c : Changes) (n : ℕ) (head : Header) (len : ℕ) : Type 0 where
-    pub lost : len < head.size → LosesFrom c.loss n (div_ceil len SECTOR_LEN)
-    pub kept : head.size ≤ len → c.loss ≡ Nothing
-    pub headers : length c.headers.items ≤ 1
-    pub blocks : length c.blocks.items ≤ 1
-    pub fits : (m : LogMap) → m.header n ≡ Some (as_header head) → FitsHeader head.kind head.form head.links len → FitsBatch m c
-    pub file : (k : CheckpointValue) (m0 m : LogMap) → (state h'.device).keeps_model → Holds state h k m0 m
-        → SizesFile m (staged c m) n head (resized head len) len

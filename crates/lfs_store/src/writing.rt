@@ -55,11 +55,9 @@ fn block_beneath<D: SectorDevice>(
 
 impl<D: SectorDevice> Store<D> {
     ghost use Rattle.lfs_store.specs.Keeping.{DraftsUncounted, RedraftsUncounted};
-    ghost use Rattle.lfs_store.specs.Recounting.{Counts};
     ghost use Rattle.lfs_store.specs.Seen.{files_of};
-    ghost use Rattle.lfs_files.specs.Files as files;
-    ghost use Rattle.lfs_files.specs.Files.{CountsReformed, IsLoneWrite, Redrafts, Reforms, Writes};
-    ghost use Rattle.lfs_store.specs.Writing.{WritesBlock, DraftsCut, CutsDraft, SetsLen, resized};
+    ghost use Rattle.lfs_files.specs.Files.{Counts, CountsReformed, IsLoneWrite, Redrafts, Reforms, SetsLen, Writes};
+    ghost use Rattle.lfs_store.specs.Writing.{WritesBlock, DraftsCut, CutsDraft, resized};
 
     /// Lays bytes over a file of this header, from a place on. Where they end behind its size, it
     /// is as long as that needs.
@@ -85,7 +83,7 @@ impl<D: SectorDevice> Store<D> {
             → room_for self.new.draft.changes ≤ asked_by_transfer) }
         ensures asked { OnOk result (IsLoneWrite (files_of D.SectorDevice.state self.old) bytes.now
             → (files_of D.SectorDevice.state self.new).asked ≤ asked_by_directory) }
-        ensures counted { OnOk result (files.Counts (files_of D.SectorDevice.state self.old)
+        ensures counted { OnOk result (Counts (files_of D.SectorDevice.state self.old)
             (files_of D.SectorDevice.state self.new)) }
         ensures failed { IfErr result (λ fault. (fault ≡ StoreFault.NoMemory → ⊥)
             → IsReadFault D.SectorDevice.state self.old.log self.new.log) }
@@ -192,10 +190,10 @@ impl<D: SectorDevice> Store<D> {
         requires empty { IsNoChange self.old.draft.changes }
         ensures redrafts { Redrafts (files_of D.SectorDevice.state self.old)
             (files_of D.SectorDevice.state self.new) }
-        ensures done { OnOk result (SetsLen D.SectorDevice.state self.old.log self.new.log
-            self.new.draft.changes number.value header len) }
-        ensures counted { OnOk result (Counts D.SectorDevice.state self.old.log self.new.log
-            self.old.draft.changes self.new.draft.changes self.old.drafted self.new.drafted) }
+        ensures done { OnOk result (SetsLen (files_of D.SectorDevice.state self.old)
+            (files_of D.SectorDevice.state self.new) number.value header len) }
+        ensures counted { OnOk result (Counts (files_of D.SectorDevice.state self.old)
+            (files_of D.SectorDevice.state self.new)) }
         ensures failed { IfErr result (λ fault. (fault ≡ StoreFault.NoMemory → ⊥)
             → IsReadFault D.SectorDevice.state self.old.log self.new.log) }
         ensures halted { IsErrOf result (StoreFault.Log LogFault.Halted)
@@ -218,8 +216,8 @@ impl<D: SectorDevice> Store<D> {
         requires most { len ≤ LARGEST_FILE }
         requires empty { IsNoChange self.old.draft.changes }
         ensures redrafts { RedraftsUncounted D.SectorDevice.state self.old self.new }
-        ensures done { OnOk result (SetsLen D.SectorDevice.state self.old.log self.new.log
-            self.new.draft.changes number.value header len) }
+        ensures done { OnOk result (SetsLen (files_of D.SectorDevice.state self.old)
+            (files_of D.SectorDevice.state self.new) number.value header len) }
         ensures failed { IfErr result (λ fault. (fault ≡ StoreFault.NoMemory → ⊥)
             → IsReadFault D.SectorDevice.state self.old.log self.new.log) }
         ensures halted { IsErrOf result (StoreFault.Log LogFault.Halted)

@@ -1,17 +1,12 @@
 use Rattle.std.specs.Prelude.{Result, IfErr}
-use Rattle.std.proofs.Common.{◌≡◌, ◌/◌, ◌∙◌, sym, subst}
-use Rattle.lfs_store.specs.declared.draft.Draft.{Draft}
-use Rattle.lfs_cleaner.specs.log.verify.declared.totals.BlockTotals.{BlockTotals}
-use Rattle.lfs_store.specs.Recounting.{Remeasures, Counts}
-use Rattle.lfs_store.specs.Writing.{SetsLen}
-use Rattle.lfs_store.proofs.Cuttings.{sets_around}
+use Rattle.std.proofs.Common.{◌≡◌, ◌/◌, arith}
 use Rattle.lfs_cleaner.specs.log.LogState.{IsReadFault}
 use Rattle.lfs_files.specs.declared.fault.StoreFault.{StoreFault}
 use Rattle.lfs_files.specs.declared.fault.StoreFault.TheVariants.{NoMemory}
+use Rattle.lfs_store.proofs.Between.{counts_between, sets_between, sized_file}
 use Rattle.lfs_store.proofs.Endings.{same_exit}
 use Rattle.lfs_store.proofs.Keepings.{counted_redrafts, measured_redrafts, reads_redrafts}
 use Rattle.lfs_cleaner.proofs.of_log.LogReads.{fault_more, reads_more}
-use Rattle.lfs_store.proofs.Recounted.{cut_counts}
 use Rattle.lfs_store.proofs.store.Store.set_len.Goals as goal
 
 pub returns-in-Err-clause-redrafts : goal.returns-in-Err-clause-redrafts
@@ -50,23 +45,15 @@ returns-in-Err-recount-clause-failed g c other =
 
 pub returns-in-Ok-recount-clause-done : goal.returns-in-Ok-recount-clause-done
 returns-in-Ok-recount-clause-done g c =
-    let state = g.D.SectorDevice.state in
-    subst (λ (d : Draft). SetsLen state c.args.self.now.log c.recount.new.self.log d.changes c.args.number.value c.args.header c.args.len)
-    (sym c.recount.ensures.counts.draft)
-    (sets_around state c.args.self.now.log c.measure.new.self.log c.draft_len.new.self.log c.recount.new.self.log
-    c.draft_len.new.self.draft.changes
-    c.args.number.value c.args.header c.args.len c.measure.ensures.reads.log c.in_ok-draft_len.ensures.done c.recount.ensures.counts.reads)
+    sets_between g.D.SectorDevice.state c.args.self.now c.measure.new.self c.draft_len.new.self c.recount.new.self
+    c.measure.ensures.reads c.recount.ensures.counts c.args.number.value c.args.header c.args.len c.in_ok-draft_len.ensures.done
 
 pub returns-in-Ok-recount-clause-counted : goal.returns-in-Ok-recount-clause-counted
 returns-in-Ok-recount-clause-counted g c =
-    let state = g.D.SectorDevice.state in
-    let again = subst (λ (t : BlockTotals). Remeasures state c.draft_len.new.self.log c.recount.new.self.log
-    c.draft_len.new.self.draft.changes c.args.number.value (c.args.len / 512) 16624 c.in-Ok.measure t c.recount.new.self.drafted)
-    (c.draft_len.ensures.redrafts.drafted ∙ c.measure.ensures.reads.drafted) c.in-Ok-recount.ensures.done in
-    subst (λ (d : Draft). Counts state c.args.self.now.log c.recount.new.self.log c.args.self.now.draft.changes d.changes
-    c.args.self.now.drafted c.recount.new.self.drafted) (sym c.recount.ensures.counts.draft)
-    (cut_counts state c.args.self.now.log c.measure.new.self.log c.draft_len.new.self.log c.recount.new.self.log
-    c.args.self.now.draft.changes c.draft_len.new.self.draft.changes c.args.number.value c.in-Ok.measure
-    c.args.self.now.drafted c.recount.new.self.drafted c.args.number.some c.args.number.few c.measure.ensures.reads.log
-    c.draft_len.ensures.redrafts.reads c.recount.ensures.counts.reads
-    c.args.header c.args.len c.requires.most c.requires.empty c.in-Ok.ensures.answer c.in_ok-draft_len.ensures.done again)
+    let low = c.requires.most in
+    counts_between g.D.SectorDevice.state c.args.self.now c.measure.new.self c.draft_len.new.self c.recount.new.self
+    c.measure.ensures.reads c.recount.ensures.counts c.args.number.value (c.args.len / 512) 16624 c.in-Ok.measure
+    c.args.number.some c.args.number.few (omega (arith, low)) (omega arith) c.in-Ok.ensures.answer
+    c.draft_len.ensures.redrafts c.in-Ok-recount.ensures.done
+    (λ m m' keeps has. sized_file _ m m' c.args.number.value c.args.header _ c.args.len
+    (c.in_ok-draft_len.ensures.done.file m m' keeps has))
