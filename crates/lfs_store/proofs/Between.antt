@@ -4,12 +4,11 @@ use Rattle.std.proofs.Common.{◌≡◌, ◌<◌, ◌≤◌, ◌⊎◌, ◌+◌,
 use Rattle.std.proofs.lemmas.Bool.{cases_lt}
 use Rattle.lfs_model.specs.Device.{DeviceState}
 use Rattle.lfs_model.specs.Encodes.{IsLogMap}
-use Rattle.lfs_model.specs.Objects.{IsChangedAt}
 use Rattle.lfs_model.specs.Stands.{LogMap}
 use Rattle.lfs_model.specs.Totals.{HasMeasure}
 use Rattle.lfs_files.specs.Files as files
 use Rattle.lfs_files.specs.declared.header.Header.{Header}
-use Rattle.lfs_files.specs.Files.{FilesState, HasSized, HasWritten, IsLoneWrite, SetsLen, Writes}
+use Rattle.lfs_files.specs.Files.{FilesState, HasSized, HasWritten, IsLoneWrite, SetsLen, Shrinks, Writes}
 use Rattle.lfs_files.specs.Making.{HasRemoved, Removes}
 use Rattle.lfs_cleaner.specs.log.verify.declared.totals.BlockTotals.{BlockTotals}
 use Rattle.lfs_store.specs.declared.draft.Draft.{Draft}
@@ -18,19 +17,11 @@ use Rattle.lfs_store.specs.declared.totals.Measure.{Measure}
 use Rattle.lfs_store.specs.Keeping.{OnlyCounts, RedraftsUncounted}
 use Rattle.lfs_store.specs.Measuring.{Measures}
 use Rattle.lfs_store.specs.Reading.{ReadsStore}
-use Rattle.lfs_store.specs.Recounting.{AreTotals, Remeasures}
+use Rattle.lfs_store.specs.Recounting.{AreTotals, HasChanged, Remeasures}
 use Rattle.lfs_store.specs.Seen.{StagedLog, files_of, state_of}
-use Rattle.lfs_files.proofs.FilesCompose.{writes_behind}
+use Rattle.lfs_files.proofs.FilesCompose.{still_apart, writes_behind}
 use Rattle.lfs_store.proofs.Recountings.{recounted, same_high}
 use Rattle.lfs_store.proofs.StoreSeen.{seen_read}
-
--- With the draft there is another log map, where no more than this file changed, and of its blocks no more than those from one index on up
--- to another.
-pub record HasChanged {S D : Type 0} (s' : FilesState S D) (m m' : LogMap) (n from to : ℕ) : Type 0 where
-  pub map : LogMap
-  pub has : s'.has m map
-  pub only : IsChangedAt m' n map
-  pub around : (i : ℕ) → i < 16624 → (i < from) ⊎ (to ≤ i) → map.block n i ≡ m'.block n i
 
 pub removed_file : {S D : Type 0} (s' : FilesState S D) (m m' : LogMap) (n : ℕ) → HasRemoved s' m m' n → HasChanged s' m m' n 0 16624
 removed_file s' m m' n gone = record {
@@ -117,6 +108,21 @@ module _ {D : Type 0} (state : D → DeviceState) (a b c d : Store D) (first : R
     fits = λ m m' has there fits. after.fits m (is.fits m m' (before.has m m' has) there fits);
     file = λ m m' keeps has. let now = is.file m m' (after.looks.carries.kept_before keeps) (before.has m m' has) in
         record { map = now.map; has = after.has m now.map now.has; file = now.file };
+  }
+
+  pub shrinks_between : (n : ℕ) (head : Header) (len : ℕ) → Shrinks B C n head len → Shrinks A E n head len
+  shrinks_between n head len is = record {
+    lost = λ x. after.lost x ∙ is.lost x ∙ before.lost x;
+    headers = let more = is.headers in let was = before.headers in let same = after.headers in omega (arith, more, was, same);
+    blocks = let more = is.blocks in let was = before.blocks in let same = after.blocks in omega (arith, more, was, same);
+    fits = λ m m' has fits takes. after.fits m (is.fits m m' (before.has m m' has) (before.fits m fits) record {
+      there = takes.there;
+      apart = still_apart A B n before takes.apart;
+      within = takes.within;
+      header = takes.header;
+    });
+    has = λ m m' keeps has. let now = is.has m m' (after.looks.carries.kept_before keeps) (before.has m m' has) in
+        record { map = now.map; has = after.has m now.map now.has; header = now.header; file = now.file };
   }
 
   -- ---- its totals

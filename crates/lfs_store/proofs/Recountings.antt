@@ -4,23 +4,16 @@ use Rattle.std.specs.List.{list_any, range_with_len}
 use Rattle.std.proofs.Common.{◌≡◌, ◌<◌, ◌≤◌, ◌⊎◌, ◌+◌, ◌-◌, ◌*◌, ◌^◌, ℕ, zero, suc, Bool, true, false, List, [], ◌∷◌, length, Option, Some}
 use Rattle.std.proofs.Common.{None, refl, sym, ◌∙◌, ap, arith}
 use Rattle.std.proofs.lemmas.List.Sums.{length-filter}
-use Rattle.lfs_model.specs.Checkpoint.{CheckpointValue}
-use Rattle.lfs_model.specs.Device.{DeviceState}
 use Rattle.lfs_model.specs.Encodes.{IsLogMap}
 use Rattle.lfs_model.specs.Entry.{Header}
 use Rattle.lfs_model.specs.Need.{pointers, lies_in}
 use Rattle.lfs_model.specs.Objects.{IsChangedAt, is_stored, stored_blocks, one_if}
 use Rattle.lfs_model.specs.Stands.{LogMap}
-use Rattle.lfs_cleaner.specs.log.memory.declared.changes.Changes.{Changes}
-use Rattle.lfs_cleaner.specs.log.memory.Batch.{staged}
-use Rattle.lfs_cleaner.specs.log.LogState.{LogState, Holds, Reads}
 use Rattle.lfs_store.specs.declared.totals.Measure.{Measure}
 use Rattle.lfs_cleaner.specs.log.verify.declared.totals.BlockTotals.{BlockTotals}
-use Rattle.lfs_store.specs.Measuring.{Measures}
-use Rattle.lfs_store.specs.Recounting.{Replaces, AreTotals, Recounts, Remeasures, Counts}
+use Rattle.lfs_store.specs.Recounting.{Replaces, AreTotals, Recounts}
 use Rattle.lfs_model.specs.Totals.{stored_in, data_of_file, meta_of_file, sum_upto, data_in, meta_in, HasMeasure}
 use Rattle.lfs_store.proofs.Leaves.{beside_same}
-use Rattle.lfs_cleaner.proofs.of_log.LogReads.{held_still}
 use Rattle.lfs_cleaner.proofs.of_log.of_memory.Ranges.{passing, passing_first, passing_none}
 use Rattle.lfs_store.proofs.Summing.{stored_all, totals_of_change}
 
@@ -98,25 +91,6 @@ recounted m m' n from to old new before after changed some few order low same wa
       above = replaced old.meta_blocks before.meta_blocks after.meta_blocks new.meta_blocks (meta_in m') before.meta_blocks
           after.meta_blocks (meta_in m) recounts.above are.above refl refl (omega (arith, first, last, beside, all)) (meta_low m');
     }
-
--- ---- over a log
-module _ {D : Type 0} (state : D → DeviceState) where
-  pub counts : (h a b h' : LogState D) (c c' : Changes) (n from to : ℕ) (before : Measure) (old new : BlockTotals) → 1 ≤ n → n ≤ 4095
-      → from ≤ to → to ≤ 16624
-      → Reads state h a → Measures state h a c n from to before → Reads state a b → Reads state b h'
-      → Remeasures state b h' c' n from to before old new
-      → ((k : CheckpointValue) (m0 m : LogMap) → (state b.device).keeps_model → Holds state a k m0 m → IsLogMap (staged c m)
-      → IsLogMap (staged c' m)
-      → IsChangedAt (staged c m) n (staged c' m) × ((i : ℕ) → (i < from) ⊎ (to ≤ i) → (staged c' m).block n i ≡ (staged c m).block n i))
-      → Counts state h h' c c' old new
-  counts h a b h' c c' n from to before old new some few order low first measured next last again changes k m0 m keeps is map map' are =
-      let keeps_b = last.looks.carries.kept_before keeps in
-      let keeps_a = next.looks.carries.kept_before keeps_b in
-      let is_a = held_still state h a k m0 m first is in
-      let is_b = held_still state a b k m0 m next is_a in
-      let change = changes k m0 m keeps_b is_a map map' in
-      recounted (staged c m) (staged c' m) n from to old new before again.after change.0 some few order low change.1
-      (measured k m0 m keeps_a is map) (again.measures k m0 m keeps is_b map') again.recounts are
 
 -- a log map has no block from 16624 on
 pub none_high : (m : LogMap) (n i : ℕ) → IsLogMap m → 16624 ≤ i → m.block n i ≡ []

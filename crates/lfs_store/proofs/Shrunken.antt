@@ -1,11 +1,12 @@
 -- A file cut in its last block, in a draft over a log.
 use Rattle.std.specs.Prelude.{IsFalse, slice_index}
-use Rattle.std.proofs.Common.{◌≡◌, ◌<◌, ◌≤◌, ◌+◌, ◌*◌, ◌/◌, ◌%◌, ℕ, Bool, List, [], length, Some, refl, ◌∙◌, ap, ⊎_elim, arith}
+use Rattle.std.proofs.Common.{◌≡◌, ◌<◌, ◌≤◌, ◌+◌, ◌*◌, ◌/◌, ◌%◌, ℕ, Bool, List, [], length, Some, refl, sym, ◌∙◌, ap, subst, ⊎_elim, arith}
 use Rattle.std.proofs.lemmas.Bool.{cases_eq, cases_lt}
 use Rattle.std.proofs.lemmas.List.{nil_from_length}
 use Rattle.lfs_model.specs.Changing.{IsWithBlock, IsWithHeader}
 use Rattle.lfs_model.specs.Device.{DeviceState}
 use Rattle.lfs_model.specs.Encodes.{IsLogMap}
+use Rattle.lfs_model.specs.Objects.{IsChangedAt}
 use Rattle.lfs_model.specs.Entry.{Inode}
 use Rattle.lfs_model.specs.Fields.{zeros}
 use Rattle.lfs_model.specs.Stands.{LogMap}
@@ -19,19 +20,18 @@ use Rattle.lfs_cleaner.specs.log.memory.Changing.{stored}
 use Rattle.lfs_cleaner.specs.log.memory.Present.{as_header}
 use Rattle.lfs_cleaner.specs.log.verify.declared.totals.BlockTotals.{BlockTotals}
 use Rattle.lfs_cleaner.specs.log.LogState.{LogState, Reads}
-use Rattle.lfs_store.specs.declared.totals.Measure.{Measure}
-use Rattle.lfs_store.specs.Drafting.{PutsBlock, PutsHeader, TakesBlock}
-use Rattle.lfs_store.specs.Measuring.{Measures}
+use Rattle.lfs_store.specs.Drafting.{PutsBlock, PutsHeader}
 use Rattle.lfs_store.specs.Pieces.{CutBlocks, CutSoFar, CutsTail, HoldsBlock}
 use Rattle.lfs_store.specs.Reading.{ReadsBlock}
-use Rattle.lfs_store.specs.Recounting.{Counts, Remeasures}
-use Rattle.lfs_store.specs.Shrinking.{ClearsTail, HasNoneBehind, Shrinks, TakesShrink}
-use Rattle.lfs_store.specs.Writing.{SizesFile, resized}
-use Rattle.lfs_cleaner.proofs.of_log.LogReads.{held_still}
+use Rattle.lfs_store.specs.declared.draft.Draft.{Draft}
+use Rattle.lfs_store.specs.Recounting.{ChangesOnly}
+use Rattle.lfs_store.specs.Seen.{HasMap, state_of}
+use Rattle.lfs_store.specs.Shrinking.{ClearsTail, HasNoneBehind}
+use Rattle.lfs_files.specs.Files.{Shrinks, SizesFile}
+use Rattle.lfs_files.specs.Headers.{resized}
 use Rattle.lfs_store.proofs.PiecesCut.{cut_between, cut_blocks_heads, cut_inside, cut_is_done}
 use Rattle.lfs_store.proofs.PiecesStored.{block_apart, changed_none, changed_twice, other_block, stored_reads, stored_whole}
-use Rattle.lfs_store.proofs.Recountings.{counts}
-use Rattle.lfs_store.proofs.Writings.{block_put, block_read, header_put, takes_header}
+use Rattle.lfs_store.proofs.Writings.{block_put, block_read, header_put, still_has, takes_header}
 
 -- ---- the last block ends at a length
 
@@ -102,79 +102,67 @@ module _ {D : Type 0} (state : D → DeviceState) where
       with_it m = block_put (staged c m) (staged c' m) n (len / 512) (stored new) (puts.map m)
 
   -- ---- and its header says so
-  module _ (h h' : LogState D) (c c' c'' : Changes) (n : ℕ) (head : Header) (len : ℕ) (less : len < head.size)
-      (last : head.size ≤ 512 * (len / 512) + 512)
-      (clears : ClearsTail state h h' c c' n len) (puts : PutsHeader c' c'' n (resized head len)) where
-    with_header_it : (m : LogMap) → IsWithHeader (staged c' m) n (Some (as_header (resized head len))) (staged c'' m)
-    with_header_it m = header_put (staged c' m) (staged c'' m) n (resized head len) (puts.map m)
+  module _ (h a h' : LogState D) (d e d' : Draft) (u u' : BlockTotals) (n : ℕ) (head : Header) (len : ℕ) (log : h' ≡ a)
+      (reads : Reads state h a) (clears : ClearsTail state h a d.changes e.changes n len)
+      (puts : PutsHeader e.changes d'.changes n (resized head len)) where
+    with_it : (m : LogMap) → IsWithHeader (staged e.changes m) n (Some (as_header (resized head len))) (staged d'.changes m)
+    with_it m = header_put (staged e.changes m) (staged d'.changes m) n (resized head len) (puts.map m)
 
-    takes_tail : (m : LogMap) → TakesShrink c m n head len → TakesBlock c m n (len / 512)
-    takes_tail m takes = record {
-      there = (as_header head, takes.there);
-      apart = takes.apart.above (len / 512);
-      within = λ none. (let low = takes.within none in omega (arith, low));
+    has_now : (m m' : LogMap) → HasMap state h d.changes m m' → HasMap state h' d'.changes m (staged d'.changes m)
+    has_now m m' has = still_has state h h' d d' m m' (subst (Reads state h) (sym log) reads) has
+
+    -- no more than the file changes, in that block
+    pub shrinks_only : ChangesOnly (state_of state h d u) (state_of state h' d' u') n (len / 512) (len / 512 + 1)
+    shrinks_only m m' has = record {
+      map = staged d'.changes m;
+      has = has_now m m' has;
+      only = subst (λ (x : LogMap). IsChangedAt x n (staged d'.changes m)) (sym has.draft)
+          (changed_twice (staged d.changes m) (staged e.changes m) (staged d'.changes m) n (clears.only m) record {
+            headers = (with_it m).others;
+            blocks = λ k i ne. (with_it m).block k i;
+            version = (with_it m).version;
+          });
+      around = λ i lt out. (with_it m).block n i ∙ clears.others m i (λ here. ⊎_elim
+          (λ (low : i < len / 512). absurd (omega (arith, here, low)))
+          (λ (high : len / 512 + 1 ≤ i). absurd (omega (arith, here, high)))
+          out) ∙ ap (λ (x : LogMap). x.block n i) (sym has.draft);
     }
 
-    cut_file : (m : LogMap) → CutBlocks (staged c m) (staged c' m) n len
-        → SizesFile (staged c m) (staged c'' m) n head (resized head len) len
-    cut_file m cut =
-        let done =
-        cut_blocks_heads (staged c m) (staged c' m) (staged c'' m) n len (Some (as_header (resized head len))) cut (with_header_it m) in
-        record {
-          shorter = λ lt. cut_is_done (staged c m) (staged c'' m) n len (as_header head) (as_header (resized head len)) done refl;
-          longer = λ le map there. absurd (omega (arith, less, le));
-          below = λ i lt. done.below i (omega (arith, lt));
-          only = done.only;
-          whole = done.whole;
-          header = (with_header_it m).own;
-        }
-
-    pub shrinks : Shrinks state h h' c c'' n head len
-    shrinks = record {
-      loss = puts.loss ∙ clears.loss;
+    pub shrinks : len < head.size → head.size ≤ 512 * (len / 512) + 512
+        → Shrinks (state_of state h d u) (state_of state h' d' u') n head len
+    shrinks less last = record {
+      lost = λ y. ap (λ (x : Loss). is_lost x y) (puts.loss ∙ clears.loss);
       headers = let more = puts.few in let same = ap length (ap (λ v. v.items) clears.headers) in omega (arith, more, same);
       blocks = let more = clears.blocks in let same = ap length (ap (λ v. v.items) puts.blocks) in omega (arith, more, same);
-      only = λ m. changed_twice (staged c m) (staged c' m) (staged c'' m) n (clears.only m) record {
-        headers = (with_header_it m).others;
-        blocks = λ k i ne. (with_header_it m).block k i;
-        version = (with_header_it m).version;
+      fits = λ m m' has fit takes. (
+          let there = ap (λ (x : LogMap). x.header n) (sym has.draft) ∙ takes.there in
+          puts.fits m (clears.fits m fit record {
+            there = (as_header head, there);
+            apart = takes.apart.above (len / 512);
+            within = λ none. (let low = takes.within none in omega (arith, low));
+          })
+          (takes_header e.changes m n head (resized head len) (clears.header m ∙ there) refl
+          (ap (λ (x : Loss). is_lost x (Inode n)) clears.loss ∙ takes.apart.inode) takes.header));
+      has = λ m m' keeps has. record {
+        map = staged d'.changes m;
+        has = has_now m m' has;
+        header = (with_it m).own;
+        file = λ there. cut_file m m' (subst (λ (x : LogMap). CutBlocks x (staged e.changes m) n len) (sym has.draft)
+            (clears.file has.checkpoint has.acknowledged m (subst (λ (x : LogState D). (state x.device).keeps_model) log keeps) has.holds
+            (subst (λ (x : LogMap). HasNoneBehind x n len) has.draft (none_behind m' n head len last there.map there.there))));
       };
-      others = λ m i ne. (with_header_it m).block n i ∙ clears.others m i ne;
-      header = λ m. (with_header_it m).own;
-      fits = λ m fit takes. puts.fits m (clears.fits m fit (takes_tail m takes))
-          (takes_header c' m n head (resized head len) (clears.header m ∙ takes.there) refl
-          (ap (λ (x : Loss). is_lost x (Inode n)) clears.loss ∙ takes.apart.inode) takes.header);
-      file = λ k m0 m keeps holds map there.
-          cut_file m (clears.file k m0 m keeps holds (none_behind (staged c m) n head len last map there));
     }
-
-  -- a log that is only read before and after
-  pub shrinks_around : (h a b h' : LogState D) (c c' : Changes) (n : ℕ) (head : Header) (len : ℕ) → Reads state h a
-      → Shrinks state a b c c' n head len → Reads state b h' → Shrinks state h h' c c' n head len
-  shrinks_around h a b h' c c' n head len first is last = record {
-    loss = is.loss;
-    headers = is.headers;
-    blocks = is.blocks;
-    only = is.only;
-    others = is.others;
-    header = is.header;
-    fits = is.fits;
-    file = λ k m0 m keeps holds. is.file k m0 m (last.looks.carries.kept_before keeps) (held_still state h a k m0 m first holds);
-  }
-
-  -- ---- its totals
-  pub shrink_counts : (h a b h' : LogState D) (c c' : Changes) (n : ℕ) (before : Measure) (old new : BlockTotals) (head : Header) (len : ℕ)
-      → 1 ≤ n → n ≤ 4095 → len < 8511488
-      → Reads state h a → Reads state a b → Reads state b h' → Measures state h a c n (len / 512) (len / 512 + 1) before
-      → Shrinks state a b c c' n head len
-      → Remeasures state b h' c' n (len / 512) (len / 512 + 1) before old new → Counts state h h' c c' old new
-  shrink_counts h a b h' c c' n before old new head len some few low first next last measured is again =
-      counts state h a b h' c c' n (len / 512) (len / 512 + 1) before old new some few (omega arith)
-      (omega (arith, low)) first measured next last again
-      (λ k m0 m keeps holds map map'. (
-        is.only m,
-        λ i out. is.others m i (λ e. ⊎_elim
-            (λ (lt : i < len / 512). absurd (omega (arith, e, lt)))
-            (λ (le : len / 512 + 1 ≤ i). absurd (omega (arith, e, le)))
-            out),
-      ))
+      where
+        cut_file : (m m' : LogMap) → CutBlocks m' (staged e.changes m) n len
+            → SizesFile m' (staged d'.changes m) n head (resized head len) len
+        cut_file m m' cut =
+            let done =
+            cut_blocks_heads m' (staged e.changes m) (staged d'.changes m) n len (Some (as_header (resized head len))) cut (with_it m) in
+            record {
+              shorter = λ lt. cut_is_done m' (staged d'.changes m) n len (as_header head) (as_header (resized head len)) done refl;
+              longer = λ le map there. absurd (omega (arith, less, le));
+              below = λ i lt. done.below i (omega (arith, lt));
+              only = done.only;
+              whole = done.whole;
+              header = (with_it m).own;
+            }

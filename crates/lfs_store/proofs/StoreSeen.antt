@@ -3,7 +3,6 @@ use Rattle.std.specs.Prelude.{IfErr, IfOk, IsFalse, OnOk}
 use Rattle.std.proofs.Common.{◌≡◌, ◌-◌, ℕ, Bool, List, Option, Result, Ok, Err, length, refl, sym, ◌∙◌, ap, subst}
 use Rattle.lfs_model.specs.Bytes.{part}
 use Rattle.lfs_model.specs.Device.{DeviceState}
-use Rattle.lfs_model.specs.Encodes.{IsLogMap}
 use Rattle.lfs_model.specs.Fields.{zeros}
 use Rattle.lfs_model.specs.Stands.{LogMap}
 use Rattle.lfs_model.specs.TreeOf.{object}
@@ -11,18 +10,14 @@ use Rattle.lfs_files.specs.declared.header.Header.{Header}
 use Rattle.lfs_files.specs.Files as files
 use Rattle.lfs_files.specs.Files.{FilesState, asked_by_directory, HasShrunk, HasSized, HasWritten, HoldsBlock, SizesFile, TakesShrink}
 use Rattle.lfs_files.specs.Files.{TakesWrite, WritesFile}
-use Rattle.lfs_files.specs.Headers.{HeaderAnswer, resized}
-use Rattle.lfs_cleaner.specs.log.memory.declared.batch.Loss.{Loss}
+use Rattle.lfs_files.specs.Headers.{HeaderAnswer}
 use Rattle.lfs_cleaner.specs.log.memory.Batch.{FitsBatch, IsNoChange, is_lost, room_for, staged}
 use Rattle.lfs_cleaner.specs.log.LogState as held
 use Rattle.lfs_cleaner.specs.log.LogState.{LogState, Holds, IsReadFault}
 use Rattle.lfs_store.specs.declared.draft.Draft.{Draft}
 use Rattle.lfs_cleaner.specs.log.verify.declared.totals.BlockTotals.{BlockTotals}
 use Rattle.lfs_store.specs.Reading.{ReadsHeader, ReadsBlock, ReadsPart}
-use Rattle.lfs_store.specs.Recounting.{AreTotals}
-use Rattle.lfs_store.specs.Recounting as counts
 use Rattle.lfs_store.specs.Seen.{StagedLog, counted_of, state_of}
-use Rattle.lfs_store.specs.Shrinking as shrinking
 use Rattle.lfs_cleaner.proofs.of_log.LogReads.{held_still}
 use Rattle.lfs_store.proofs.Writings.{block_read}
 
@@ -113,37 +108,4 @@ module _ {D : Type 0} (state : D → DeviceState) (h h' : LogState D) (d d' : Dr
     saved = reads.saved;
     staged = same_staged reads;
     totals = ap counted_of reads.totals;
-  }
-
-  pub seen_counts : counts.Counts state h h' d.changes d'.changes u u' → files.Counts S S'
-  seen_counts is m a b keeps has has' whole whole' =
-      subst (λ (x : LogMap). files.AreCounted x (counted_of u) → files.AreCounted b (counted_of u')) (sym has.draft)
-      (subst (λ (x : LogMap). files.AreCounted (staged d.changes m) (counted_of u) → files.AreCounted x (counted_of u')) (sym has'.draft)
-      (is has.checkpoint has.acknowledged m keeps has.holds (subst IsLogMap has.draft whole) (subst IsLogMap has'.draft whole')))
-
-  pub seen_shrunk : (n : ℕ) (head : Header) (len : ℕ) → held.Reads state h h' → shrinking.Shrinks state h h' d.changes d'.changes n head len
-      → files.Shrinks S S' n head len
-  seen_shrunk n head len reads is = record {
-    lost = λ y. ap (λ (x : Loss). is_lost x y) is.loss;
-    headers = is.headers;
-    blocks = is.blocks;
-    fits = λ m m' has fits takes. is.fits m fits record {
-      there = ap (λ (x : LogMap). x.header n) (sym has.draft) ∙ takes.there;
-      apart = record { inode = takes.apart.inode; above = takes.apart.above };
-      within = takes.within;
-      header = takes.header;
-    };
-    has = λ m m' keeps has. record {
-      map = staged d'.changes m;
-      has = record {
-        checkpoint = has.checkpoint;
-        acknowledged = has.acknowledged;
-        holds = held_still state h h' has.checkpoint has.acknowledged m reads has.holds;
-        draft = refl;
-      };
-      header = is.header m;
-      file = λ there. subst (λ (x : LogMap). SizesFile x (staged d'.changes m) n head (resized head len) len) (sym has.draft)
-          (is.file has.checkpoint has.acknowledged m keeps has.holds (subst IsLogMap has.draft there.map)
-          (ap (λ (x : LogMap). x.header n) (sym has.draft) ∙ there.there));
-    };
   }

@@ -1,11 +1,13 @@
 -- The totals of a store as its draft changes one file, whose measure is taken before and after.
-use Rattle.std.specs.Prelude.{◌≡◌, ◌<◌, ◌≤◌, ◌+◌, ◌^◌, ℕ}
+use Rattle.std.specs.Prelude.{◌≡◌, ◌⊎◌, ◌<◌, ◌≤◌, ◌+◌, ◌^◌, ℕ}
 use Rattle.lfs_model.specs.Checkpoint.{CheckpointValue}
 use Rattle.lfs_model.specs.Device.{DeviceState}
 use Rattle.lfs_model.specs.Encodes.{IsLogMap}
 use Rattle.lfs_model.specs.Stands.{LogMap, StandsLog}
+use Rattle.lfs_model.specs.declared.limits.TheConstants.{FILE_BLOCKS}
+use Rattle.lfs_model.specs.Objects.{IsChangedAt}
+use Rattle.lfs_files.specs.Files.{FilesState}
 use Rattle.lfs_cleaner.specs.log.memory.declared.changes.Changes.{Changes}
-use Rattle.lfs_cleaner.specs.log.memory.Batch.{staged}
 use Rattle.lfs_cleaner.specs.log.memory.Removing.{without_file}
 use Rattle.lfs_cleaner.specs.log.LogState.{LogState, Holds}
 use Rattle.lfs_store.specs.declared.totals.Measure.{Measure}
@@ -32,17 +34,25 @@ pub record Recounts (old new : BlockTotals) (before after : Measure) : Type 0 wh
 abbrev pub CountsUpgraded : Draft → Type 0
 CountsUpgraded d = (m : LogMap) (t : BlockTotals) → AreTotals m t → AreTotals (with_draft d m) t
 
+module _ {S D : Type 0} where
+  -- With the draft there is another log map, where no more than file n changed, and of its blocks no more than those from one index on up
+  -- to another.
+  pub record HasChanged (s' : FilesState S D) (m m' : LogMap) (n from to : ℕ) : Type 0 where
+    pub map : LogMap
+    pub has : s'.has m map
+    pub only : IsChangedAt m' n map
+    pub around : (i : ℕ) → i < FILE_BLOCKS → (i < from) ⊎ (to ≤ i) → map.block n i ≡ m'.block n i
+
+  -- A draft that changes no more than that.
+  abbrev pub ChangesOnly : FilesState S D → FilesState S D → ℕ → ℕ → ℕ → Type 0
+  ChangesOnly s s' n from to = (m m' : LogMap) → s.has m m' → HasChanged s' m m' n from to
+
 module _ {D : Type 0} (state : D → DeviceState) where
   -- The measure of file n takes the place of what it was before.
   pub record Remeasures (h h' : LogState D) (c : Changes) (n from to : ℕ) (before : Measure) (old new : BlockTotals) : Type 0 where
     pub after : Measure
     pub measures : Measures state h h' c n from to after
     pub recounts : Recounts old new before after
-
-  -- BlockTotals of the log map after one draft become those of the log map after another.
-  abbrev pub Counts : LogState D → LogState D → Changes → Changes → BlockTotals → BlockTotals → Type 0
-  Counts h h' c c' old new = (k : CheckpointValue) (m0 m : LogMap) → (state h'.device).keeps_model → Holds state h k m0 m
-      → IsLogMap (staged c m) → IsLogMap (staged c' m) → AreTotals (staged c m) old → AreTotals (staged c' m) new
 
   -- BlockTotals of the log map become those of the log map without file n.
   abbrev pub CountsGone : LogState D → LogState D → ℕ → BlockTotals → BlockTotals → Type 0

@@ -1,28 +1,15 @@
 -- A file cut in its last block, in a draft over a log.
-use Rattle.std.specs.Prelude.{◌*◌, ◌≡◌, ◌<◌, ◌≤◌, ◌+◌, ◌/◌, ℕ, [], length, Some, None}
-use Rattle.lfs_model.specs.declared.limits.TheConstants.{DIRECT_BLOCKS, SECTOR_LEN}
+use Rattle.std.specs.Prelude.{◌≡◌, ◌<◌, ◌≤◌, ◌+◌, ◌/◌, ℕ, [], length}
+use Rattle.lfs_model.specs.declared.limits.TheConstants.{SECTOR_LEN}
 use Rattle.lfs_model.specs.Checkpoint.{CheckpointValue}
 use Rattle.lfs_model.specs.Device.{DeviceState}
-use Rattle.lfs_model.specs.Encodes.{IsLogMap}
 use Rattle.lfs_model.specs.Objects.{IsChangedAt}
 use Rattle.lfs_model.specs.Stands.{LogMap}
 use Rattle.lfs_cleaner.specs.log.memory.declared.changes.Changes.{Changes}
-use Rattle.lfs_cleaner.specs.log.memory.files.declared.header.Header.{Header}
 use Rattle.lfs_cleaner.specs.log.memory.Batch.{staged, FitsBatch}
-use Rattle.lfs_cleaner.specs.log.memory.Changing.{FitsHeader}
-use Rattle.lfs_cleaner.specs.log.memory.Present.{as_header}
 use Rattle.lfs_cleaner.specs.log.LogState.{LogState, Holds}
-use Rattle.lfs_store.specs.Drafting.{IsApart, TakesBlock}
+use Rattle.lfs_store.specs.Drafting.{TakesBlock}
 use Rattle.lfs_store.specs.Pieces.{CutBlocks}
-use Rattle.lfs_store.specs.Writing.{SizesFile, resized}
-
--- The log map may be changed so: the file is there, and apart from what is
--- lost; one that the log map hasn't yet is cut below the 113th block alone.
-pub record TakesShrink (c : Changes) (m : LogMap) (n : ℕ) (h : Header) (len : ℕ) : Type 0 where
-  pub there : (staged c m).header n ≡ Some (as_header h)
-  pub apart : IsApart c.loss n
-  pub within : m.header n ≡ None → len < DIRECT_BLOCKS * SECTOR_LEN
-  pub header : FitsHeader h.kind h.form h.links len
 
 -- file n has no block behind the one of this place
 abbrev pub HasNoneBehind : LogMap → ℕ → ℕ → Type 0
@@ -40,16 +27,3 @@ module _ {D : Type 0} (state : D → DeviceState) where
     pub fits : (m : LogMap) → FitsBatch m c → TakesBlock c m n (len / SECTOR_LEN) → FitsBatch m c'
     pub file : (k : CheckpointValue) (m0 m : LogMap) → (state h'.device).keeps_model → Holds state h k m0 m
         → HasNoneBehind (staged c m) n len → CutBlocks (staged c m) (staged c' m) n len
-
-  -- A draft that cuts the file so, and says it in its header; it loses nothing.
-  pub record Shrinks (h h' : LogState D) (c c' : Changes) (n : ℕ) (head : Header) (len : ℕ) : Type 0 where
-    pub loss : c'.loss ≡ c.loss
-    pub headers : length c'.headers.items ≤ length c.headers.items + 1
-    pub blocks : length c'.blocks.items ≤ length c.blocks.items + 1
-    pub only : (m : LogMap) → IsChangedAt (staged c m) n (staged c' m)
-    pub others : (m : LogMap) (i : ℕ) → (i ≡ len / SECTOR_LEN → ⊥) → (staged c' m).block n i ≡ (staged c m).block n i
-    pub header : (m : LogMap) → (staged c' m).header n ≡ Some (as_header (resized head len))
-    pub fits : (m : LogMap) → FitsBatch m c → TakesShrink c m n head len → FitsBatch m c'
-    pub file : (k : CheckpointValue) (m0 m : LogMap) → (state h'.device).keeps_model → Holds state h k m0 m
-        → IsLogMap (staged c m) → (staged c m).header n ≡ Some (as_header head)
-        → SizesFile (staged c m) (staged c' m) n head (resized head len) len

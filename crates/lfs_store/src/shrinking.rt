@@ -12,10 +12,10 @@ use lfs_model::limits::{LARGEST_FILE, SECTOR_LEN};
 
 impl<D: SectorDevice> Store<D> {
     ghost use Rattle.lfs_store.specs.Keeping.{RedraftsUncounted};
-    ghost use Rattle.lfs_store.specs.Recounting.{Counts};
+    ghost use Rattle.lfs_store.specs.Recounting.{ChangesOnly};
     ghost use Rattle.lfs_store.specs.Seen.{files_of};
-    ghost use Rattle.lfs_files.specs.Files.{Redrafts};
-    ghost use Rattle.lfs_store.specs.Shrinking.{ClearsTail, Shrinks};
+    ghost use Rattle.lfs_files.specs.Files.{Counts, Redrafts, Shrinks};
+    ghost use Rattle.lfs_store.specs.Shrinking.{ClearsTail};
 
     /// Cuts a file of this header at a length in its last block, which is zeros from there on. No
     /// block is lost, so the draft may lose others.
@@ -34,10 +34,10 @@ impl<D: SectorDevice> Store<D> {
         requires most { header.size ≤ LARGEST_FILE }
         ensures redrafts { Redrafts (files_of D.SectorDevice.state self.old)
             (files_of D.SectorDevice.state self.new) }
-        ensures done { OnOk result (Shrinks D.SectorDevice.state self.old.log self.new.log
-            self.old.draft.changes self.new.draft.changes number.value header len) }
-        ensures counted { OnOk result (Counts D.SectorDevice.state self.old.log self.new.log
-            self.old.draft.changes self.new.draft.changes self.old.drafted self.new.drafted) }
+        ensures done { OnOk result (Shrinks (files_of D.SectorDevice.state self.old)
+            (files_of D.SectorDevice.state self.new) number.value header len) }
+        ensures counted { OnOk result (Counts (files_of D.SectorDevice.state self.old)
+            (files_of D.SectorDevice.state self.new)) }
         ensures failed { IfErr result (λ fault. (fault ≡ StoreFault.NoMemory → ⊥)
             → IsReadFault D.SectorDevice.state self.old.log self.new.log) }
         ensures halted { IsErrOf result (StoreFault.Log LogFault.Halted)
@@ -67,8 +67,10 @@ impl<D: SectorDevice> Store<D> {
         requires last { header.size ≤ SECTOR_LEN * (len / SECTOR_LEN) + SECTOR_LEN }
         requires most { header.size ≤ LARGEST_FILE }
         ensures redrafts { RedraftsUncounted D.SectorDevice.state self.old self.new }
-        ensures done { OnOk result (Shrinks D.SectorDevice.state self.old.log self.new.log
-            self.old.draft.changes self.new.draft.changes number.value header len) }
+        ensures done { OnOk result (Shrinks (files_of D.SectorDevice.state self.old)
+            (files_of D.SectorDevice.state self.new) number.value header len) }
+        ensures only { OnOk result (ChangesOnly (files_of D.SectorDevice.state self.old)
+            (files_of D.SectorDevice.state self.new) number.value (len / SECTOR_LEN) (len / SECTOR_LEN + 1)) }
         ensures failed { IfErr result (λ fault. (fault ≡ StoreFault.NoMemory → ⊥)
             → IsReadFault D.SectorDevice.state self.old.log self.new.log) }
         ensures halted { IsErrOf result (StoreFault.Log LogFault.Halted)

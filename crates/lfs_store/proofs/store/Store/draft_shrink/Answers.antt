@@ -1,19 +1,23 @@
-use Rattle.std.proofs.Common.{subst, sym}
 use Rattle.lfs_cleaner.proofs.of_log.of_memory.Going.{ok_then}
-use Rattle.lfs_cleaner.specs.log.LogState.{LogState}
-use Rattle.lfs_store.specs.Shrinking.{Shrinks}
-use Rattle.lfs_store.proofs.Shrunken.{shrinks}
+use Rattle.lfs_store.proofs.Shrunken.{shrinks, shrinks_only}
 use Rattle.lfs_store.proofs.Keepings.{uncounted_drafts}
 use Rattle.lfs_store.proofs.store.Store.draft_shrink.Goals as goal
 
 pub returns-clause-done : goal.returns-clause-done
 returns-clause-done g c =
     ok_then c.resize.result _ _
-    (λ puts. subst (λ (log : LogState _). Shrinks g.D.SectorDevice.state c.args.self.now.log log c.args.self.now.draft.changes
-    c.resize.new.self.draft.changes c.args.number.value c.args.header c.args.len) (sym c.resize.ensures.keeps.log)
-    (shrinks g.D.SectorDevice.state c.args.self.now.log c.clear_tail.new.self.log c.args.self.now.draft.changes
-    c.clear_tail.new.self.draft.changes c.resize.new.self.draft.changes c.args.number.value c.args.header c.args.len
-    c.requires.less c.requires.last c.in_ok-clear_tail.ensures.done puts))
+    (λ puts. shrinks g.D.SectorDevice.state c.args.self.now.log c.clear_tail.new.self.log c.resize.new.self.log c.args.self.now.draft
+    c.clear_tail.new.self.draft c.resize.new.self.draft c.args.self.now.drafted c.resize.new.self.drafted c.args.number.value c.args.header
+    c.args.len c.resize.ensures.keeps.log c.clear_tail.ensures.redrafts.reads c.in_ok-clear_tail.ensures.done puts c.requires.less
+    c.requires.last)
+    c.resize.ensures.done
+
+pub returns-clause-only : goal.returns-clause-only
+returns-clause-only g c =
+    ok_then c.resize.result _ _
+    (shrinks_only g.D.SectorDevice.state c.args.self.now.log c.clear_tail.new.self.log c.resize.new.self.log c.args.self.now.draft
+    c.clear_tail.new.self.draft c.resize.new.self.draft c.args.self.now.drafted c.resize.new.self.drafted c.args.number.value c.args.header
+    c.args.len c.resize.ensures.keeps.log c.clear_tail.ensures.redrafts.reads c.in_ok-clear_tail.ensures.done)
     c.resize.ensures.done
 
 pub returns-clause-redrafts : goal.returns-clause-redrafts

@@ -1,16 +1,12 @@
 use Rattle.std.specs.Prelude.{Result, IfErr}
-use Rattle.std.proofs.Common.{◌≡◌, ◌+◌, ◌/◌, ◌∙◌, sym, subst, arith}
-use Rattle.lfs_store.specs.declared.draft.Draft.{Draft}
-use Rattle.lfs_cleaner.specs.log.verify.declared.totals.BlockTotals.{BlockTotals}
-use Rattle.lfs_store.specs.Recounting.{Counts, Remeasures}
-use Rattle.lfs_store.specs.Shrinking.{Shrinks}
+use Rattle.std.proofs.Common.{◌≡◌, ◌+◌, ◌/◌, arith}
 use Rattle.lfs_cleaner.specs.log.LogState.{IsReadFault}
 use Rattle.lfs_files.specs.declared.fault.StoreFault.{StoreFault}
 use Rattle.lfs_files.specs.declared.fault.StoreFault.TheVariants.{NoMemory}
+use Rattle.lfs_store.proofs.Between.{counts_between, shrinks_between}
 use Rattle.lfs_store.proofs.Endings.{same_exit}
 use Rattle.lfs_store.proofs.Keepings.{counted_redrafts, measured_redrafts, reads_redrafts}
 use Rattle.lfs_cleaner.proofs.of_log.LogReads.{fault_more, reads_more}
-use Rattle.lfs_store.proofs.Shrunken.{shrink_counts, shrinks_around}
 use Rattle.lfs_store.proofs.store.Store.shrink.Goals as goal
 
 pub returns-in-Err-clause-redrafts : goal.returns-in-Err-clause-redrafts
@@ -51,32 +47,14 @@ returns-in-Err-recount-clause-failed g c other =
 
 pub returns-in-Ok-recount-clause-done : goal.returns-in-Ok-recount-clause-done
 returns-in-Ok-recount-clause-done g c =
-    let state = g.D.SectorDevice.state in
-    let drafted = subst
-    (λ (d : Draft). Shrinks state c.measure.new.self.log c.draft_shrink.new.self.log d.changes c.draft_shrink.new.self.draft.changes
-    c.args.number.value c.args.header c.args.len) c.measure.ensures.reads.draft c.in_ok-draft_shrink.ensures.done in
-    subst (λ (d : Draft). Shrinks state c.args.self.now.log c.recount.new.self.log c.args.self.now.draft.changes d.changes
-    c.args.number.value c.args.header c.args.len) (sym c.recount.ensures.counts.draft)
-    (shrinks_around state c.args.self.now.log c.measure.new.self.log c.draft_shrink.new.self.log c.recount.new.self.log
-    c.args.self.now.draft.changes c.draft_shrink.new.self.draft.changes
-    c.args.number.value c.args.header c.args.len c.measure.ensures.reads.log drafted c.recount.ensures.counts.reads)
+    shrinks_between g.D.SectorDevice.state c.args.self.now c.measure.new.self c.draft_shrink.new.self c.recount.new.self
+    c.measure.ensures.reads c.recount.ensures.counts c.args.number.value c.args.header c.args.len c.in_ok-draft_shrink.ensures.done
 
 pub returns-in-Ok-recount-clause-counted : goal.returns-in-Ok-recount-clause-counted
 returns-in-Ok-recount-clause-counted g c =
-    let state = g.D.SectorDevice.state in
     let less = c.requires.less in
     let most = c.requires.most in
-    let drafted = subst
-    (λ (d : Draft). Shrinks state c.measure.new.self.log c.draft_shrink.new.self.log d.changes c.draft_shrink.new.self.draft.changes
-    c.args.number.value c.args.header c.args.len) c.measure.ensures.reads.draft c.in_ok-draft_shrink.ensures.done in
-    let again = subst (λ (t : BlockTotals).
-    Remeasures state c.draft_shrink.new.self.log c.recount.new.self.log c.draft_shrink.new.self.draft.changes c.args.number.value
-    (c.args.len / 512) (c.args.len / 512 + 1) c.in-Ok.measure t c.recount.new.self.drafted)
-    (c.draft_shrink.ensures.redrafts.drafted ∙ c.measure.ensures.reads.drafted) c.in-Ok-recount.ensures.done in
-    subst (λ (d : Draft). Counts state c.args.self.now.log c.recount.new.self.log c.args.self.now.draft.changes d.changes
-    c.args.self.now.drafted c.recount.new.self.drafted) (sym c.recount.ensures.counts.draft)
-    (shrink_counts state c.args.self.now.log c.measure.new.self.log c.draft_shrink.new.self.log c.recount.new.self.log
-    c.args.self.now.draft.changes c.draft_shrink.new.self.draft.changes c.args.number.value c.in-Ok.measure
-    c.args.self.now.drafted c.recount.new.self.drafted c.args.header c.args.len c.args.number.some c.args.number.few
-    (omega (arith, less, most)) c.measure.ensures.reads.log c.draft_shrink.ensures.redrafts.reads c.recount.ensures.counts.reads
-    c.in-Ok.ensures.answer drafted again)
+    counts_between g.D.SectorDevice.state c.args.self.now c.measure.new.self c.draft_shrink.new.self c.recount.new.self
+    c.measure.ensures.reads c.recount.ensures.counts c.args.number.value (c.args.len / 512) (c.args.len / 512 + 1) c.in-Ok.measure
+    c.args.number.some c.args.number.few (omega arith) (omega (arith, less, most)) c.in-Ok.ensures.answer
+    c.draft_shrink.ensures.redrafts c.in-Ok-recount.ensures.done (λ m m' keeps has. c.in_ok-draft_shrink.ensures.only m m' has)
