@@ -63,11 +63,11 @@ module _ {D : Type 0} (state : D → DeviceState) (a b c d : Store D) (first : R
   E = files_of state d
 
   before : files.Reads A B
-  before = seen_read state a.log b.log a.draft b.draft a.drafted b.drafted first.log first.draft first.drafted
+  before = seen_read state a b first
 
   -- all but what is counted
   after : files.Reads C (state_of state d.log d.draft c.drafted)
-  after = seen_read state c.log d.log c.draft d.draft c.drafted c.drafted last.reads last.draft refl
+  after = seen_read state c (record d { drafted = c.drafted }) record { log = last.reads; draft = last.draft; drafted = refl }
 
   pub removes_between : (n : ℕ) → Removes B C n → Removes A E n
   removes_between n is = record {

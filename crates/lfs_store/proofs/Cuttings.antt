@@ -19,7 +19,7 @@ use Rattle.lfs_cleaner.specs.log.memory.declared.batch.Loss.TheVariants.{Blocks}
 use Rattle.lfs_cleaner.specs.log.memory.declared.changes.Changes.{Changes}
 use Rattle.lfs_cleaner.specs.log.memory.files.declared.header.Header.{Header}
 use Rattle.lfs_cleaner.specs.log.memory.Batch.{IsNoChange, is_lost, staged, FitsBatch}
-use Rattle.lfs_cleaner.specs.log.memory.Changing.{stored}
+use Rattle.lfs_cleaner.specs.log.memory.Changing.{stored, with_header}
 use Rattle.lfs_cleaner.specs.log.memory.Cutting.{cut_from}
 use Rattle.lfs_cleaner.specs.log.memory.Present.{BlockAnswer, as_header}
 use Rattle.lfs_cleaner.specs.log.LogState.{LogState, Reads}
@@ -28,9 +28,8 @@ use Rattle.lfs_store.specs.Pieces.{CutsTail, CutSoFar, CutBlocks}
 use Rattle.lfs_store.specs.Reading.{ReadsBlock}
 use Rattle.lfs_files.specs.Files.{SetsLen, SizesFile}
 use Rattle.lfs_files.specs.Headers.{resized}
-use Rattle.lfs_cleaner.specs.log.verify.declared.totals.BlockTotals.{BlockTotals}
-use Rattle.lfs_store.specs.declared.draft.Draft.{Draft}
-use Rattle.lfs_store.specs.Seen.{HasMap, state_of}
+use Rattle.lfs_store.specs.declared.store.Store.{Store}
+use Rattle.lfs_store.specs.Seen.{HasMap, files_of}
 use Rattle.lfs_store.specs.Writing.{DraftsCut, CutsDraft}
 use Rattle.lfs_store.proofs.PiecesCut.{cut_begins, cut_between, cut_inside, cut_none, cut_blocks_heads, cut_is_done}
 use Rattle.lfs_store.proofs.PiecesStored.{same_whole}
@@ -84,6 +83,22 @@ cut_takes c n len m odd is there = record {
   within = λ none. (let never : None ≡ Some there.0 = sym none ∙ there.1 in absurd (cc));
 }
 
+-- ---- a header that says so
+
+pub sized : (m a b : LogMap) (n : ℕ) (head : Header) (len : ℕ) → len < head.size → CutBlocks m a n len
+    → b ≡ with_header a n (Some (as_header (resized head len))) → SizesFile m b n head (resized head len) len
+sized m a b n head len less cut is =
+    let with_it = header_put a b n (resized head len) is in
+    let done = cut_blocks_heads m a b n len (Some (as_header (resized head len))) cut with_it in
+    record {
+      shorter = λ lt. cut_is_done m b n len (as_header head) (as_header (resized head len)) done refl;
+      longer = λ le map there. absurd (omega (arith, less, le));
+      below = λ i lt. done.below i (omega (arith, lt));
+      only = done.only;
+      whole = done.whole;
+      header = with_it.own;
+    }
+
 module _ {D : Type 0} (state : D → DeviceState) where
   -- ---- the blocks of a file end at a length
 
@@ -127,16 +142,18 @@ module _ {D : Type 0} (state : D → DeviceState) where
   }
 
   -- ---- and its header says so
-  module _ (h h' : LogState D) (d d' : Draft) (u u' : BlockTotals) (n : ℕ) (head : Header) (len : ℕ) (none : IsNoChange d.changes) where
-    was : (m m' : LogMap) → HasMap state h d.changes m m' → m' ≡ m
-    was m m' has = has.draft ∙ no_change d.changes m none
+  module _ (a c : Store D) (n : ℕ) (head : Header) (len : ℕ) (none : IsNoChange a.draft.changes) where
+    was : (m m' : LogMap) → HasMap state a.log a.draft.changes m m' → m' ≡ m
+    was m m' has = has.draft ∙ no_change a.draft.changes m none
 
-    there_first : (m m' : LogMap) → HasMap state h d.changes m m' → m'.header n ≡ Some (as_header head) → m.header n ≡ Some (as_header head)
+    there_first : (m m' : LogMap) → HasMap state a.log a.draft.changes m m' → m'.header n ≡ Some (as_header head)
+        → m.header n ≡ Some (as_header head)
     there_first m m' has there = ap (λ (x : LogMap). x.header n) (sym (was m m' has)) ∙ there
 
-    pub sets_shorter : (c : Changes) → len < head.size → Reads state h h' → CutsDraft state h h' c n len
-        → PutsHeader c d'.changes n (resized head len) → SetsLen (state_of state h d u) (state_of state h' d' u') n head len
-    sets_shorter c less reads is puts = record {
+    pub sets_shorter : (b : Store D) → c.log ≡ b.log → len < head.size → Reads state a.log b.log
+        → CutsDraft state a.log b.log b.draft.changes n len → PutsHeader b.draft.changes c.draft.changes n (resized head len)
+        → SetsLen (files_of state a) (files_of state c) n head len
+    sets_shorter b log less reads is puts = record {
       cut = λ lt y. ap (λ (x : Loss). is_lost x y) (puts.loss ∙ is.loss.loss)
           ∙ ap₂ (λ (k first : ℕ). is_past k first y) is.loss.number is.loss.start;
       kept = λ le. absurd (omega (arith, less, le));
@@ -145,56 +162,49 @@ module _ {D : Type 0} (state : D → DeviceState) where
       fits = λ m m' has there fits. (
           let first = there_first m m' has there in
           puts.fits m (is.fits m (as_header head, first))
-          (takes_header c m n head (resized head len) (is.header m ∙ first) refl (ap (λ (x : Loss). is_lost x (Inode n)) is.loss.loss)
+          (takes_header b.draft.changes m n head (resized head len) (is.header m ∙ first) refl
+          (ap (λ (x : Loss). is_lost x (Inode n)) is.loss.loss)
           fits));
       file = λ m m' keeps has. record {
-        map = staged d'.changes m;
-        has = still_has state h h' d d' m m' reads has;
-        file = file m m' (subst (λ (x : LogMap). CutBlocks x (staged c m) n len) (sym (was m m' has))
-            (is.file has.checkpoint has.acknowledged m keeps has.holds));
+        map = staged c.draft.changes m;
+        has = still_has state a c m m' (subst (Reads state a.log) (sym log) reads) has;
+        file = sized m' (staged b.draft.changes m) (staged c.draft.changes m) n head len less
+            (subst (λ (x : LogMap). CutBlocks x (staged b.draft.changes m) n len) (sym (was m m' has))
+            (is.file has.checkpoint has.acknowledged m (subst (λ (h : LogState D). (state h.device).keeps_model) log keeps) has.holds))
+            (puts.map m);
       };
     }
-      where
-        file : (m m' : LogMap) → CutBlocks m' (staged c m) n len → SizesFile m' (staged d'.changes m) n head (resized head len) len
-        file m m' cut =
-            let with_it = header_put (staged c m) (staged d'.changes m) n (resized head len) (puts.map m) in
-            let done = cut_blocks_heads m' (staged c m) (staged d'.changes m) n len (Some (as_header (resized head len))) cut with_it in
-            record {
-              shorter = λ lt. cut_is_done m' (staged d'.changes m) n len (as_header head) (as_header (resized head len)) done refl;
-              longer = λ le map there. absurd (omega (arith, less, le));
-              below = λ i lt. done.below i (omega (arith, lt));
-              only = done.only;
-              whole = done.whole;
-              header = with_it.own;
-            }
 
-    pub sets_longer : head.size ≤ len → Reads state h h' → PutsHeader d.changes d'.changes n (resized head len)
-        → SetsLen (state_of state h d u) (state_of state h' d' u') n head len
+    pub sets_longer : head.size ≤ len → Reads state a.log c.log → PutsHeader a.draft.changes c.draft.changes n (resized head len)
+        → SetsLen (files_of state a) (files_of state c) n head len
     sets_longer more reads puts = record {
       cut = λ lt. absurd (omega (arith, more, lt));
       kept = λ le y. ap (λ (x : Loss). is_lost x y) (puts.loss ∙ none.loss);
       headers = let was = ap length none.headers in let some = puts.few in omega (arith, was, some);
       blocks = let was = ap length none.blocks in let same = ap length (ap (λ v. v.items) puts.blocks) in omega (arith, was, same);
-      fits = λ m m' has there fits. puts.fits m (draft_empty d.changes m none).1 (takes_header d.changes m n head (resized head len)
-          (ap (λ (a : LogMap). a.header n) (sym has.draft) ∙ there) refl (ap (λ (x : Loss). is_lost x (Inode n)) none.loss) fits);
+      fits = λ m m' has there fits.
+          puts.fits m (draft_empty a.draft.changes m none).1 (takes_header a.draft.changes m n head (resized head len)
+          (ap (λ (x : LogMap). x.header n) (sym has.draft) ∙ there) refl (ap (λ (x : Loss). is_lost x (Inode n)) none.loss) fits);
       file = λ m m' keeps has. record {
-        map = staged d'.changes m;
-        has = still_has state h h' d d' m m' reads has;
+        map = staged c.draft.changes m;
+        has = still_has state a c m m' reads has;
         file =
-            file m m' (subst (λ (a : LogMap). IsWithHeader a n (Some (as_header (resized head len))) (staged d'.changes m)) (sym has.draft)
-            (header_put (staged d.changes m) (staged d'.changes m) n (resized head len) (puts.map m)));
+            file m m'
+            (subst (λ (x : LogMap). IsWithHeader x n (Some (as_header (resized head len))) (staged c.draft.changes m)) (sym has.draft)
+            (header_put (staged a.draft.changes m) (staged c.draft.changes m) n (resized head len) (puts.map m)));
       };
     }
       where
-        file : (m m' : LogMap) → IsWithHeader m' n (Some (as_header (resized head len))) (staged d'.changes m)
-            → SizesFile m' (staged d'.changes m) n head (resized head len) len
+        file : (m m' : LogMap) → IsWithHeader m' n (Some (as_header (resized head len))) (staged c.draft.changes m)
+            → SizesFile m' (staged c.draft.changes m) n head (resized head len) len
         file m m' with_it = record {
           shorter = λ lt. absurd (omega (arith, more, lt));
           longer =
-              λ le map there. lengthened m' (staged d'.changes m) n (as_header head) (as_header (resized head len)) map there len le refl
+              λ le map there.
+              lengthened m' (staged c.draft.changes m) n (as_header head) (as_header (resized head len)) map there len le refl
               (with_it.block n);
           below = λ i lt. with_it.block n i;
           only = record { headers = with_it.others; blocks = λ k i ne. with_it.block k i; version = with_it.version };
-          whole = λ whole. same_whole m' (staged d'.changes m) n (with_it.block n) whole;
+          whole = λ whole. same_whole m' (staged c.draft.changes m) n (with_it.block n) whole;
           header = with_it.own;
         }

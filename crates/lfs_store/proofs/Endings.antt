@@ -1,5 +1,5 @@
 -- How a store's calls on its log end, each as what its steps say.
-use Rattle.std.specs.Prelude.{Result, Ok, Err, OnOk, IsErr, IsErrAnd, IsErrOf}
+use Rattle.std.specs.Prelude.{Result, Ok, Err, IfErr, OnOk, IsErr, IsErrAnd, IsErrOf}
 use Rattle.std.proofs.Common.{◌≡◌, ◌≢◌, ◌<◌, ◌≤◌, ◌+◌, true, false, ℕ, length, refl, sym, ◌∙◌, ap, subst, arith}
 use Rattle.std.proofs.lemmas.Result.{err_from_is_err_and}
 use Rattle.lfs_model.specs.Device.{DeviceState, IsLawful}
@@ -25,6 +25,11 @@ use Rattle.lfs_store.proofs.Acceptings.{readies_none, room_fault, room_then}
 -- what holds at an error holds at the exit of a `?`
 pub same_exit : {T E : Type 0} (r : Result T E) (e : E) (P : Result T E → Type 0) → IsErr r × IsErrAnd r (λ y. y ≡ e) → P (Err e) → P r
 same_exit r e P gives holds = let y = err_from_is_err_and r gives.1 in rw (y.1, y.2) holds
+
+-- so for an error of memory, or of another kind for a reason
+pub fails_so : {T : Type 0} (r : Result T StoreFault) (e : StoreFault) {P : Type 0} → IsErr r × IsErrAnd r (λ y. y ≡ e)
+    → ((e ≡ NoMemory → ⊥) → P) → IfErr r (λ fault. (fault ≡ NoMemory → ⊥) → P)
+fails_so r e {P} = same_exit r e (λ x. IfErr x (λ fault. (fault ≡ NoMemory → ⊥) → P))
 
 abbrev log_error : LogFault → Result Unit LogFault
 log_error fault = Err fault

@@ -4,13 +4,13 @@ use Rattle.std.proofs.Common.{◌≡◌, refl, sym, ◌∙◌, ap, subst}
 use Rattle.lfs_model.specs.Device.{DeviceState, IsLawful}
 use Rattle.lfs_files.specs.declared.fault.LogFault.{LogFault}
 use Rattle.lfs_files.specs.declared.fault.LogFault.TheVariants.{Full, Halted}
-use Rattle.lfs_cleaner.specs.log.LogState.{LogState, Reads}
+use Rattle.lfs_cleaner.specs.log.LogState.{IsReadFault, LogState, Reads}
 use Rattle.lfs_store.specs.declared.draft.Draft.{Draft}
 use Rattle.lfs_store.specs.declared.store.Store.{Store}
 use Rattle.lfs_files.specs.Files as files
 use Rattle.lfs_store.specs.Keeping.{DraftsUncounted, OnlyCounts, ReadsLog, RedraftsUncounted}
 use Rattle.lfs_store.specs.Seen.{files_of}
-use Rattle.lfs_store.proofs.StoreSeen.{seen_redraft}
+use Rattle.lfs_store.proofs.StoreSeen.{seen_fault, seen_redraft}
 use Rattle.lfs_store.specs.Reading.{ReadsStore}
 use Rattle.lfs_cleaner.proofs.of_log.LogReads.{fault_more, reads_none, reads_more}
 
@@ -40,26 +40,32 @@ module _ {D : Type 0} (state : D → DeviceState) where
   pub reads_uncounted : (a b : Store D) (d : Draft) → ReadsStore state a b → RedraftsUncounted state a (record b { draft = d })
   reads_uncounted a b d one = record { reads = one.log; drafted = one.drafted }
 
-  -- the draft changes, and the log is no more than read
-  pub drafts_redrafts : (a b : Store D) → Reads state a.log b.log → files.Redrafts (files_of state a) (files_of state b)
-  drafts_redrafts a b reads = seen_redraft state a.log b.log a.draft b.draft a.drafted b.drafted reads
-
   -- the log stays
   pub same_redrafts : (a b : Store D) → b.log ≡ a.log → files.Redrafts (files_of state a) (files_of state b)
-  same_redrafts a b same = drafts_redrafts a b (subst (Reads state a.log) (sym same) (reads_none state a.log))
+  same_redrafts a b same = seen_redraft state a b (subst (Reads state a.log) (sym same) (reads_none state a.log))
 
   -- a file is measured, changed and measured again
   pub reads_redrafts : (a b : Store D) → ReadsStore state a b → files.Redrafts (files_of state a) (files_of state b)
-  reads_redrafts a b one = drafts_redrafts a b one.log
+  reads_redrafts a b one = seen_redraft state a b one.log
 
   pub measured_redrafts : (a b c : Store D) → IsLawful (state a.log.device) → ReadsStore state a b → RedraftsUncounted state b c
       → files.Redrafts (files_of state a) (files_of state c)
-  measured_redrafts a b c lawful one two = drafts_redrafts a c (reads_more state a.log b.log c.log lawful one.log two.reads)
+  measured_redrafts a b c lawful one two = seen_redraft state a c (reads_more state a.log b.log c.log lawful one.log two.reads)
 
   pub counted_redrafts : (a b c d : Store D) → IsLawful (state a.log.device) → ReadsStore state a b → RedraftsUncounted state b c
       → OnlyCounts state c d → files.Redrafts (files_of state a) (files_of state d)
-  counted_redrafts a b c d lawful one two three = drafts_redrafts a d
+  counted_redrafts a b c d lawful one two three = seen_redraft state a d
       (reads_more state a.log c.log d.log lawful (reads_more state a.log b.log c.log lawful one.log two.reads) three.reads)
+
+  -- and an error comes from the device
+  pub measured_fault : (a b c : Store D) → ReadsStore state a b → IsReadFault state b.log c.log
+      → files.IsFault (files_of state a) (files_of state c)
+  measured_fault a b c one failed = seen_fault state a c (fault_more state a.log b.log c.log one.log failed)
+
+  pub counted_fault : (a b c d : Store D) → IsLawful (state a.log.device) → ReadsStore state a b → RedraftsUncounted state b c
+      → IsReadFault state c.log d.log → files.IsFault (files_of state a) (files_of state d)
+  counted_fault a b c d lawful one two failed = seen_fault state a d
+      (fault_more state a.log c.log d.log (reads_more state a.log b.log c.log lawful one.log two.reads) failed)
 
   -- ---- a log that is only read
   pub looked_done : {T : Type 0} (h h' : LogState D) (x : T) → Reads state h h' → ReadsLog state h h' (Ok x)

@@ -6,7 +6,6 @@ use Rattle.std.proofs.lemmas.Bool.{cases_eq}
 use Rattle.lfs_model.specs.declared.Kind.{Kind}
 use Rattle.lfs_model.specs.Encodes.{IsLogMap, HasData}
 use Rattle.lfs_model.specs.Entry as entry
-use Rattle.lfs_model.specs.Entry.{Inode}
 use Rattle.lfs_model.specs.Inode.{IsForm}
 use Rattle.lfs_model.specs.Objects.{IsChangedAt, IsObject}
 use Rattle.lfs_model.specs.Stands.{LogMap}

@@ -18,18 +18,18 @@ use Rattle.lfs_cleaner.specs.log.memory.files.declared.header.Header.{Header}
 use Rattle.lfs_cleaner.specs.log.memory.Batch.{is_lost, staged}
 use Rattle.lfs_cleaner.specs.log.memory.Changing.{stored}
 use Rattle.lfs_cleaner.specs.log.memory.Present.{as_header}
-use Rattle.lfs_cleaner.specs.log.verify.declared.totals.BlockTotals.{BlockTotals}
 use Rattle.lfs_cleaner.specs.log.LogState.{LogState, Reads}
 use Rattle.lfs_store.specs.Drafting.{PutsBlock, PutsHeader}
 use Rattle.lfs_store.specs.Pieces.{CutBlocks, CutSoFar, CutsTail, HoldsBlock}
 use Rattle.lfs_store.specs.Reading.{ReadsBlock}
-use Rattle.lfs_store.specs.declared.draft.Draft.{Draft}
+use Rattle.lfs_store.specs.declared.store.Store.{Store}
 use Rattle.lfs_store.specs.Recounting.{ChangesOnly}
-use Rattle.lfs_store.specs.Seen.{HasMap, state_of}
+use Rattle.lfs_store.specs.Seen.{HasMap, files_of}
 use Rattle.lfs_store.specs.Shrinking.{ClearsTail, HasNoneBehind}
-use Rattle.lfs_files.specs.Files.{Shrinks, SizesFile}
+use Rattle.lfs_files.specs.Files.{Shrinks}
 use Rattle.lfs_files.specs.Headers.{resized}
-use Rattle.lfs_store.proofs.PiecesCut.{cut_between, cut_blocks_heads, cut_inside, cut_is_done}
+use Rattle.lfs_store.proofs.Cuttings.{sized}
+use Rattle.lfs_store.proofs.PiecesCut.{cut_between, cut_inside}
 use Rattle.lfs_store.proofs.PiecesStored.{block_apart, changed_none, changed_twice, other_block, stored_reads, stored_whole}
 use Rattle.lfs_store.proofs.Writings.{block_put, block_read, header_put, still_has, takes_header}
 
@@ -102,22 +102,22 @@ module _ {D : Type 0} (state : D → DeviceState) where
       with_it m = block_put (staged c m) (staged c' m) n (len / 512) (stored new) (puts.map m)
 
   -- ---- and its header says so
-  module _ (h a h' : LogState D) (d e d' : Draft) (u u' : BlockTotals) (n : ℕ) (head : Header) (len : ℕ) (log : h' ≡ a)
-      (reads : Reads state h a) (clears : ClearsTail state h a d.changes e.changes n len)
-      (puts : PutsHeader e.changes d'.changes n (resized head len)) where
-    with_it : (m : LogMap) → IsWithHeader (staged e.changes m) n (Some (as_header (resized head len))) (staged d'.changes m)
-    with_it m = header_put (staged e.changes m) (staged d'.changes m) n (resized head len) (puts.map m)
+  module _ (a b c : Store D) (n : ℕ) (head : Header) (len : ℕ) (log : c.log ≡ b.log) (reads : Reads state a.log b.log)
+      (clears : ClearsTail state a.log b.log a.draft.changes b.draft.changes n len)
+      (puts : PutsHeader b.draft.changes c.draft.changes n (resized head len)) where
+    with_it : (m : LogMap) → IsWithHeader (staged b.draft.changes m) n (Some (as_header (resized head len))) (staged c.draft.changes m)
+    with_it m = header_put (staged b.draft.changes m) (staged c.draft.changes m) n (resized head len) (puts.map m)
 
-    has_now : (m m' : LogMap) → HasMap state h d.changes m m' → HasMap state h' d'.changes m (staged d'.changes m)
-    has_now m m' has = still_has state h h' d d' m m' (subst (Reads state h) (sym log) reads) has
+    has_now : (m m' : LogMap) → HasMap state a.log a.draft.changes m m' → HasMap state c.log c.draft.changes m (staged c.draft.changes m)
+    has_now m m' has = still_has state a c m m' (subst (Reads state a.log) (sym log) reads) has
 
     -- no more than the file changes, in that block
-    pub shrinks_only : ChangesOnly (state_of state h d u) (state_of state h' d' u') n (len / 512) (len / 512 + 1)
+    pub shrinks_only : ChangesOnly (files_of state a) (files_of state c) n (len / 512) (len / 512 + 1)
     shrinks_only m m' has = record {
-      map = staged d'.changes m;
+      map = staged c.draft.changes m;
       has = has_now m m' has;
-      only = subst (λ (x : LogMap). IsChangedAt x n (staged d'.changes m)) (sym has.draft)
-          (changed_twice (staged d.changes m) (staged e.changes m) (staged d'.changes m) n (clears.only m) record {
+      only = subst (λ (x : LogMap). IsChangedAt x n (staged c.draft.changes m)) (sym has.draft)
+          (changed_twice (staged a.draft.changes m) (staged b.draft.changes m) (staged c.draft.changes m) n (clears.only m) record {
             headers = (with_it m).others;
             blocks = λ k i ne. (with_it m).block k i;
             version = (with_it m).version;
@@ -129,7 +129,7 @@ module _ {D : Type 0} (state : D → DeviceState) where
     }
 
     pub shrinks : len < head.size → head.size ≤ 512 * (len / 512) + 512
-        → Shrinks (state_of state h d u) (state_of state h' d' u') n head len
+        → Shrinks (files_of state a) (files_of state c) n head len
     shrinks less last = record {
       lost = λ y. ap (λ (x : Loss). is_lost x y) (puts.loss ∙ clears.loss);
       headers = let more = puts.few in let same = ap length (ap (λ v. v.items) clears.headers) in omega (arith, more, same);
@@ -141,28 +141,16 @@ module _ {D : Type 0} (state : D → DeviceState) where
             apart = takes.apart.above (len / 512);
             within = λ none. (let low = takes.within none in omega (arith, low));
           })
-          (takes_header e.changes m n head (resized head len) (clears.header m ∙ there) refl
+          (takes_header b.draft.changes m n head (resized head len) (clears.header m ∙ there) refl
           (ap (λ (x : Loss). is_lost x (Inode n)) clears.loss ∙ takes.apart.inode) takes.header));
       has = λ m m' keeps has. record {
-        map = staged d'.changes m;
+        map = staged c.draft.changes m;
         has = has_now m m' has;
         header = (with_it m).own;
-        file = λ there. cut_file m m' (subst (λ (x : LogMap). CutBlocks x (staged e.changes m) n len) (sym has.draft)
-            (clears.file has.checkpoint has.acknowledged m (subst (λ (x : LogState D). (state x.device).keeps_model) log keeps) has.holds
-            (subst (λ (x : LogMap). HasNoneBehind x n len) has.draft (none_behind m' n head len last there.map there.there))));
+        file = λ there. sized m' (staged b.draft.changes m) (staged c.draft.changes m) n head len less
+            (subst (λ (x : LogMap). CutBlocks x (staged b.draft.changes m) n len) (sym has.draft)
+            (clears.file has.checkpoint has.acknowledged m (subst (λ (h : LogState D). (state h.device).keeps_model) log keeps) has.holds
+            (subst (λ (x : LogMap). HasNoneBehind x n len) has.draft (none_behind m' n head len last there.map there.there))))
+            (puts.map m);
       };
     }
-      where
-        cut_file : (m m' : LogMap) → CutBlocks m' (staged e.changes m) n len
-            → SizesFile m' (staged d'.changes m) n head (resized head len) len
-        cut_file m m' cut =
-            let done =
-            cut_blocks_heads m' (staged e.changes m) (staged d'.changes m) n len (Some (as_header (resized head len))) cut (with_it m) in
-            record {
-              shorter = λ lt. cut_is_done m' (staged d'.changes m) n len (as_header head) (as_header (resized head len)) done refl;
-              longer = λ le map there. absurd (omega (arith, less, le));
-              below = λ i lt. done.below i (omega (arith, lt));
-              only = done.only;
-              whole = done.whole;
-              header = (with_it m).own;
-            }

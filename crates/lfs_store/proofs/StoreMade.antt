@@ -18,51 +18,51 @@ use Rattle.lfs_cleaner.specs.log.memory.declared.batch.Loss.TheVariants.{Link, F
 use Rattle.lfs_cleaner.specs.log.memory.Batch.{IsNoChange, is_lost, staged}
 use Rattle.lfs_cleaner.specs.log.memory.Changing.{header_with, with_header}
 use Rattle.lfs_cleaner.specs.log.memory.Removing.{without_file}
-use Rattle.lfs_cleaner.specs.log.LogState.{LogState}
 use Rattle.lfs_cleaner.specs.log.verify.declared.totals.BlockTotals.{BlockTotals}
 use Rattle.lfs_cleaner.proofs.of_log.of_memory.LogMaps.{is_with_header}
 use Rattle.lfs_cleaner.proofs.of_log.of_memory.Removed.{is_without}
 use Rattle.lfs_store.specs.declared.draft.Draft.{Draft}
+use Rattle.lfs_store.specs.declared.store.Store.{Store}
 use Rattle.lfs_store.specs.Drafting.{IsApart, LosesOnly, PutsHeader}
 use Rattle.lfs_store.specs.Recounting.{AreTotals, Recounts}
-use Rattle.lfs_store.specs.Seen.{HasMap, StagedLog, state_of}
+use Rattle.lfs_store.specs.Seen.{HasMap, StagedLog, files_of, state_of}
 use Rattle.lfs_store.proofs.Apart.{file_apart, link_apart, no_change}
 use Rattle.lfs_store.proofs.Growths.{room_few}
 use Rattle.lfs_store.proofs.Makings.{headed_map, made_map, without_changed}
 use Rattle.lfs_store.proofs.Recounted.{made_counts, relinked_totals}
 use Rattle.lfs_store.proofs.Writings.{takes_header}
 
-module _ {D : Type 0} (state : D → DeviceState) (h : LogState D) (d d' : Draft) (u u' : BlockTotals) where
+module _ {D : Type 0} (state : D → DeviceState) (s : Store D) (d' : Draft) (u' : BlockTotals) where
   abbrev S : FilesState StagedLog Draft
-  S = state_of state h d u
+  S = files_of state s
 
   abbrev S' : FilesState StagedLog Draft
-  S' = state_of state h d' u'
+  S' = state_of state s.log d' u'
 
   -- the log map with the new draft
-  became : (m m' x : LogMap) → HasMap state h d.changes m m' → x ≡ staged d'.changes m → HasMap state h d'.changes m x
+  became : (m m' x : LogMap) → HasMap state s.log s.draft.changes m m' → x ≡ staged d'.changes m → HasMap state s.log d'.changes m x
   became m m' x has draft =
       record { checkpoint = has.checkpoint; acknowledged = has.acknowledged; holds = has.holds; draft = draft }
 
-  at : (n : ℕ) (m m' : LogMap) → HasMap state h d.changes m m' → (staged d.changes m).header n ≡ m'.header n
+  at : (n : ℕ) (m m' : LogMap) → HasMap state s.log s.draft.changes m m' → (staged s.draft.changes m).header n ≡ m'.header n
   at n m m' has = ap (λ (x : LogMap). x.header n) (sym has.draft)
 
   -- a header drafted by itself
   abbrev Puts : ℕ → Header → Type 0
-  Puts n head = (m : LogMap) → staged d'.changes m ≡ with_header (staged d.changes m) n (Some (as_header head))
+  Puts n head = (m : LogMap) → staged d'.changes m ≡ with_header (staged s.draft.changes m) n (Some (as_header head))
 
-  put : (n : ℕ) (head : Header) → Puts n head → (m m' : LogMap) → HasMap state h d.changes m m'
+  put : (n : ℕ) (head : Header) → Puts n head → (m m' : LogMap) → HasMap state s.log s.draft.changes m m'
       → with_header m' n (Some (as_header head)) ≡ staged d'.changes m
   put n head puts m m' has = ap (λ (x : LogMap). with_header x n (Some (as_header head))) has.draft ∙ sym (puts m)
 
-  pub header_counts : (n : ℕ) (old head : Header) → 1 ≤ n → n ≤ 4095 → u' ≡ u → Puts n head → files.CountsReformed S S' n old
+  pub header_counts : (n : ℕ) (old head : Header) → 1 ≤ n → n ≤ 4095 → u' ≡ s.drafted → Puts n head → files.CountsReformed S S' n old
   header_counts n old head some few same puts m a b has has' there are =
       subst (λ (x : LogMap). AreTotals x u') (put n head puts m a has ∙ sym has'.draft)
       (relinked_totals a n (as_header old) (as_header head) u' some few there
       (subst (λ (t : BlockTotals). AreTotals a t) (sym same) are))
 
   -- ---- another form
-  pub reforms : (n : ℕ) (head : Header) (form size : ℕ) → PutsHeader d.changes d'.changes n (reformed head form size)
+  pub reforms : (n : ℕ) (head : Header) (form size : ℕ) → PutsHeader s.draft.changes d'.changes n (reformed head form size)
       → files.Reforms S S' n head form size
   reforms n head form size puts = record {
     lost = λ y. ap (λ (x : Loss). is_lost x y) puts.loss;
@@ -71,7 +71,7 @@ module _ {D : Type 0} (state : D → DeviceState) (h : LogState D) (d d' : Draft
     asked = λ none empty. room_few d'.changes 1 0 (let few = puts.few in omega (arith, few, none))
         (let same = ap length (ap (λ v. v.items) puts.blocks) in omega (arith, same, empty));
     fits = λ m m' has fits takes. puts.fits m fits
-        (takes_header d.changes m n head (reformed head form size) (at n m m' has ∙ takes.there) refl takes.apart.inode takes.header);
+        (takes_header s.draft.changes m n head (reformed head form size) (at n m m' has ∙ takes.there) refl takes.apart.inode takes.header);
     file = λ m m' has. record {
       map = with_header m' n (Some (as_header (reformed head form size)));
       has = became m m' _ has (put n (reformed head form size) puts.map m m' has);
@@ -80,7 +80,7 @@ module _ {D : Type 0} (state : D → DeviceState) (h : LogState D) (d d' : Draft
   }
 
   -- ---- a file is made
-  pub makes : (n : ℕ) (head : Header) → 1 ≤ n → head.size ≤ 8511488 → PutsHeader d.changes d'.changes n head
+  pub makes : (n : ℕ) (head : Header) → 1 ≤ n → head.size ≤ 8511488 → PutsHeader s.draft.changes d'.changes n head
       → files_made.Makes S S' n head
   makes n head some few puts = record {
     lost = λ y. ap (λ (x : Loss). is_lost x y) puts.loss;
@@ -99,14 +99,15 @@ module _ {D : Type 0} (state : D → DeviceState) (h : LogState D) (d d' : Draft
     };
   }
 
-  pub counts_made : (n : ℕ) (head : Header) → 1 ≤ n → n ≤ 4095 → PutsHeader d.changes d'.changes n head
-      → Recounts u u' (record { data_blocks = 0; meta_blocks = 0 }) (record { data_blocks = 0; meta_blocks = 1 })
+  pub counts_made : (n : ℕ) (head : Header) → 1 ≤ n → n ≤ 4095 → PutsHeader s.draft.changes d'.changes n head
+      → Recounts s.drafted u' (record { data_blocks = 0; meta_blocks = 0 }) (record { data_blocks = 0; meta_blocks = 1 })
       → files_made.CountsMade S S' n
   counts_made n head some few puts recounts m a b has has' whole free are =
-      made_counts a b n (as_header head) u u' some few (put n head puts.map m a has ∙ sym has'.draft) whole free recounts are
+      made_counts a b n (as_header head) s.drafted u' some few (put n head puts.map m a has ∙ sym has'.draft) whole free recounts are
 
   -- ---- its links
-  relinked_map : (n : ℕ) (head : Header) (links : ℕ) → Puts n (relinked head links) → (m m' : LogMap) → HasMap state h d.changes m m'
+  relinked_map : (n : ℕ) (head : Header) (links : ℕ) → Puts n (relinked head links) → (m m' : LogMap)
+      → HasMap state s.log s.draft.changes m m'
       → files_made.HasRelinked S' m m' n head links
   relinked_map n head links puts m m' has = record {
     map = with_header m' n (Some (as_header (relinked head links)));
@@ -115,7 +116,7 @@ module _ {D : Type 0} (state : D → DeviceState) (h : LogState D) (d d' : Draft
     keeps = λ whole there. headed_map m' n (as_header head) (as_header (relinked head links)) whole there refl refl refl;
   }
 
-  pub relinks : (n : ℕ) (head : Header) (links : ℕ) → 1 ≤ links → PutsHeader d.changes d'.changes n (relinked head links)
+  pub relinks : (n : ℕ) (head : Header) (links : ℕ) → 1 ≤ links → PutsHeader s.draft.changes d'.changes n (relinked head links)
       → files_made.SetsLinks S S' n head links
   relinks n head links some puts = record {
     lost = λ _ y. ap (λ (x : Loss). is_lost x y) puts.loss;
@@ -123,7 +124,7 @@ module _ {D : Type 0} (state : D → DeviceState) (h : LogState D) (d d' : Draft
     headers = puts.few;
     blocks = ap length (ap (λ v. v.items) puts.blocks);
     fits = λ m m' has fits takes. puts.fits m fits
-        (takes_header d.changes m n head (relinked head links) (at n m m' has ∙ takes.there)
+        (takes_header s.draft.changes m n head (relinked head links) (at n m m' has ∙ takes.there)
         (both_linked links head.links some takes.linked)
         takes.apart takes.header);
     has = relinked_map n head links puts.map;
@@ -132,10 +133,11 @@ module _ {D : Type 0} (state : D → DeviceState) (h : LogState D) (d d' : Draft
       both_linked : (a b : ℕ) → 1 ≤ a → 0 < b → (a == 0) ≡ (b == 0)
       both_linked a b some linked = ne_eqb a 0 (λ e. omega (arith, e, some)) ∙ sym (ne_eqb b 0 (λ e. omega (arith, e, linked)))
 
-  module _ (none : IsNoChange d.changes) (headers : d'.changes.headers ≡ d.changes.headers) (blocks : d'.changes.blocks ≡ d.changes.blocks)
+  module _ (none : IsNoChange s.draft.changes) (headers : d'.changes.headers ≡ s.draft.changes.headers)
+      (blocks : d'.changes.blocks ≡ s.draft.changes.blocks)
     where
-      was : (m m' : LogMap) → HasMap state h d.changes m m' → m' ≡ m
-      was m m' has = has.draft ∙ no_change d.changes m none
+      was : (m m' : LogMap) → HasMap state s.log s.draft.changes m m' → m' ≡ m
+      was m m' has = has.draft ∙ no_change s.draft.changes m none
 
       -- the last of them is lost
       module _ (n : ℕ) (head : Header) (l : LastLink) (number : l.number ≡ n)
@@ -145,7 +147,7 @@ module _ {D : Type 0} (state : D → DeviceState) (h : LogState D) (d d' : Draft
             only.map m
             ∙ ap (λ (k : ℕ). with_header m k (Some (header_with l.kind l.form 0 l.size))) number
             ∙ ap (λ (x : entry.Header). with_header m n (Some x)) same
-            ∙ ap (λ (a : LogMap). with_header a n (Some (as_header (relinked head 0)))) (sym (no_change d.changes m none))
+            ∙ ap (λ (a : LogMap). with_header a n (Some (as_header (relinked head 0)))) (sym (no_change s.draft.changes m none))
 
         pub loses_link : d'.changes.loss ≡ Link l → files_made.SetsLinks S S' n head 0
         loses_link lost = record {

@@ -8,27 +8,26 @@ use Rattle.lfs_model.specs.Stands.{LogMap}
 use Rattle.lfs_model.specs.TreeOf.{object}
 use Rattle.lfs_files.specs.declared.header.Header.{Header}
 use Rattle.lfs_files.specs.Files as files
-use Rattle.lfs_files.specs.Files.{FilesState, asked_by_directory, HasShrunk, HasSized, HasWritten, HoldsBlock, SizesFile, TakesShrink}
-use Rattle.lfs_files.specs.Files.{TakesWrite, WritesFile}
+use Rattle.lfs_files.specs.Files.{FilesState, HoldsBlock}
 use Rattle.lfs_files.specs.Headers.{HeaderAnswer}
 use Rattle.lfs_cleaner.specs.log.memory.Batch.{FitsBatch, IsNoChange, is_lost, room_for, staged}
 use Rattle.lfs_cleaner.specs.log.LogState as held
-use Rattle.lfs_cleaner.specs.log.LogState.{LogState, Holds, IsReadFault}
+use Rattle.lfs_cleaner.specs.log.LogState.{IsReadFault}
 use Rattle.lfs_store.specs.declared.draft.Draft.{Draft}
-use Rattle.lfs_cleaner.specs.log.verify.declared.totals.BlockTotals.{BlockTotals}
-use Rattle.lfs_store.specs.Reading.{ReadsHeader, ReadsBlock, ReadsPart}
-use Rattle.lfs_store.specs.Seen.{StagedLog, counted_of, state_of}
+use Rattle.lfs_store.specs.declared.store.Store.{Store}
+use Rattle.lfs_store.specs.Reading.{ReadsHeader, ReadsBlock, ReadsPart, ReadsStore}
+use Rattle.lfs_store.specs.Seen.{StagedLog, counted_of, files_of}
 use Rattle.lfs_cleaner.proofs.of_log.LogReads.{held_still}
 use Rattle.lfs_store.proofs.Writings.{block_read}
 
-module _ {D : Type 0} (state : D → DeviceState) (h h' : LogState D) (d d' : Draft) (u u' : BlockTotals) where
+module _ {D : Type 0} (state : D → DeviceState) (a b : Store D) where
   abbrev S : FilesState StagedLog Draft
-  S = state_of state h d u
+  S = files_of state a
 
   abbrev S' : FilesState StagedLog Draft
-  S' = state_of state h' d' u'
+  S' = files_of state b
 
-  same_staged : held.Reads state h h' → S'.staged ≡ S.staged
+  same_staged : held.Reads state a.log b.log → S'.staged ≡ S.staged
   same_staged reads =
       rw (
         reads.halted,
@@ -48,60 +47,61 @@ module _ {D : Type 0} (state : D → DeviceState) (h h' : LogState D) (d d' : Dr
       ) refl
 
   -- ---- reading
-  pub seen_read : held.Reads state h h' → d' ≡ d → u' ≡ u → files.Reads S S'
-  seen_read reads same drafted = record {
+  pub seen_read : ReadsStore state a b → files.Reads S S'
+  seen_read is = let reads = is.log in let same = is.draft in record {
     looks = reads.looks;
     halted = reads.halted;
     saved = reads.saved;
     staged = same_staged reads;
     draft = same;
     totals = ap counted_of reads.totals;
-    drafted = ap counted_of drafted;
+    drafted = ap counted_of is.drafted;
     headers = ap (λ (x : Draft). length x.changes.headers.items) same;
     blocks = ap (λ (x : Draft). length x.changes.blocks.items) same;
     asked = ap (λ (x : Draft). room_for x.changes) same;
     empty = subst (λ (x : Draft). IsNoChange x.changes) (sym same);
     lost = λ y. ap (λ (x : Draft). is_lost x.changes.loss y) same;
-    has = λ m m' is. record {
-      checkpoint = is.checkpoint;
-      acknowledged = is.acknowledged;
-      holds = held_still state h h' is.checkpoint is.acknowledged m reads is.holds;
-      draft = is.draft ∙ ap (λ (x : Draft). staged x.changes m) (sym same);
+    has = λ m m' has. record {
+      checkpoint = has.checkpoint;
+      acknowledged = has.acknowledged;
+      holds = held_still state a.log b.log has.checkpoint has.acknowledged m reads has.holds;
+      draft = has.draft ∙ ap (λ (x : Draft). staged x.changes m) (sym same);
     };
     fits = λ m. subst (λ (x : Draft). FitsBatch m x.changes) (sym same);
   }
 
-  pub seen_fault : IsReadFault state h h' → files.IsFault S S'
+  pub seen_fault : IsReadFault state a.log b.log → files.IsFault S S'
   seen_fault failed m m' keeps is = failed is.checkpoint is.acknowledged m keeps is.holds
 
-  pub seen_fault_by : {T E : Type 0} (P : E → Type 0) (r : Result T E) → IfErr r (λ e. P e → IsReadFault state h h')
+  pub seen_fault_by : {T E : Type 0} (P : E → Type 0) (r : Result T E) → IfErr r (λ e. P e → IsReadFault state a.log b.log)
       → IfErr r (λ e. P e → files.IsFault S S')
   seen_fault_by P (Ok x) failed = record {}
   seen_fault_by P (Err e) failed = λ other. seen_fault (failed other)
 
-  pub seen_header : (n : ℕ) (found : Option Header) → ReadsHeader state h h' d.changes n found → files.TellsHeader S S' n found
+  pub seen_header : (n : ℕ) (found : Option Header) → ReadsHeader state a.log b.log a.draft.changes n found → files.TellsHeader S S' n found
   seen_header n found answer m m' keeps is =
       subst (λ (x : LogMap). HeaderAnswer x n found) (sym is.draft) (answer is.checkpoint is.acknowledged m keeps is.holds)
 
   seen_block : (n i : ℕ) (out : List ℕ) (stored : Bool) → length out ≡ 512 → (IsFalse stored → out ≡ zeros 512)
-      → ReadsBlock state h h' d.changes n i out stored → files.TellsBlock S S' n i out
+      → ReadsBlock state a.log b.log a.draft.changes n i out stored → files.TellsBlock S S' n i out
   seen_block n i out stored long blank answer m m' keeps is =
       subst (λ (x : LogMap). HoldsBlock x n i out) (sym is.draft)
-      (block_read (staged d.changes m) n i out stored long blank (answer is.checkpoint is.acknowledged m keeps is.holds))
+      (block_read (staged a.draft.changes m) n i out stored long blank (answer is.checkpoint is.acknowledged m keeps is.holds))
 
   pub seen_block_then : {E : Type 0} (n i : ℕ) (out : List ℕ) (r : Result Bool E) → length out ≡ 512
       → IfOk r (λ stored. IsFalse stored → out ≡ zeros 512)
-      → IfOk r (ReadsBlock state h h' d.changes n i out) → OnOk r (files.TellsBlock S S' n i out)
+      → IfOk r (ReadsBlock state a.log b.log a.draft.changes n i out) → OnOk r (files.TellsBlock S S' n i out)
   seen_block_then n i out (Ok stored) long blank answer = seen_block n i out stored long blank answer
   seen_block_then n i out (Err e) long blank answer = record {}
 
-  pub seen_part : (n from to : ℕ) (bytes : List ℕ) → ReadsPart state h h' d.changes n from to bytes → files.TellsPart S S' n from to bytes
+  pub seen_part : (n from to : ℕ) (bytes : List ℕ) → ReadsPart state a.log b.log a.draft.changes n from to bytes
+      → files.TellsPart S S' n from to bytes
   seen_part n from to bytes answer m m' keeps is head few =
       subst (λ (x : LogMap). bytes ≡ part (object x n head) from (to - from)) (sym is.draft)
       (answer is.checkpoint is.acknowledged m keeps is.holds head few)
 
   -- ---- changing the draft
-  pub seen_redraft : held.Reads state h h' → files.Redrafts S S'
+  pub seen_redraft : held.Reads state a.log b.log → files.Redrafts S S'
   seen_redraft reads = record {
     looks = reads.looks;
     halted = reads.halted;

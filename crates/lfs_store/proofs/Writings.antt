@@ -23,9 +23,8 @@ use Rattle.lfs_cleaner.proofs.of_log.of_memory.LogMaps.{is_with_block, is_with_h
 use Rattle.lfs_cleaner.specs.log.LogState.{LogState, Holds, Reads}
 use Rattle.lfs_files.specs.Files.{TakesWrite, Writes, WritesFile}
 use Rattle.lfs_files.specs.Headers.{resized}
-use Rattle.lfs_cleaner.specs.log.verify.declared.totals.BlockTotals.{BlockTotals}
-use Rattle.lfs_store.specs.declared.draft.Draft.{Draft}
-use Rattle.lfs_store.specs.Seen.{HasMap, state_of}
+use Rattle.lfs_store.specs.declared.store.Store.{Store}
+use Rattle.lfs_store.specs.Seen.{HasMap, files_of}
 use Rattle.lfs_store.specs.Drafting.{PutsBlock, PutsHeader, TakesBlock, TakesHeader, IsApart}
 use Rattle.lfs_store.specs.Pieces.{HoldsBlock, BlockOverlays, WriteSoFar}
 use Rattle.lfs_store.specs.Reading.{ReadsBlock}
@@ -75,12 +74,12 @@ takes_header c m n head head' there name apart fits =
 
 module _ {D : Type 0} (state : D → DeviceState) where
   -- the log map with another draft, where the log is only read
-  pub still_has : (h h' : LogState D) (d d' : Draft) (m m' : LogMap) → Reads state h h' → HasMap state h d.changes m m'
-      → HasMap state h' d'.changes m (staged d'.changes m)
-  still_has h h' d d' m m' reads has = record {
+  pub still_has : (a b : Store D) (m m' : LogMap) → Reads state a.log b.log → HasMap state a.log a.draft.changes m m'
+      → HasMap state b.log b.draft.changes m (staged b.draft.changes m)
+  still_has a b m m' reads has = record {
     checkpoint = has.checkpoint;
     acknowledged = has.acknowledged;
-    holds = held_still state h h' has.checkpoint has.acknowledged m reads has.holds;
+    holds = held_still state a.log b.log has.checkpoint has.acknowledged m reads has.holds;
     draft = refl;
   }
 
@@ -154,44 +153,46 @@ module _ {D : Type 0} (state : D → DeviceState) where
   }
 
   -- ---- all of them, and the header
-  pub written : (h h' : LogState D) (d d' d'' : Draft) (u u' : BlockTotals) (n : ℕ) (head : Header) (at : ℕ) (w : List ℕ) (index : ℕ)
-      → 0 < length w → at / 512 ≤ index → index ≡ div_ceil (at + length w) 512
-      → WrittenUpTo h h' d.changes d'.changes n at w index
-      → PutsHeader d'.changes d''.changes n (resized head (max head.size (at + length w)))
-      → Writes (state_of state h d u) (state_of state h' d'' u') n head at w
-  written h h' d d' d'' u u' n head at w index some le end was puts = record {
+  pub written : (a b c : Store D) (n : ℕ) (head : Header) (at : ℕ) (w : List ℕ) (index : ℕ) → c.log ≡ b.log → 0 < length w
+      → at / 512 ≤ index → index ≡ div_ceil (at + length w) 512
+      → WrittenUpTo a.log b.log a.draft.changes b.draft.changes n at w index
+      → PutsHeader b.draft.changes c.draft.changes n (resized head (max head.size (at + length w)))
+      → Writes (files_of state a) (files_of state c) n head at w
+  written a b c n head at w index log some le end was puts = record {
     lost = λ y. ap (λ (x : Loss). is_lost x y) (puts.loss ∙ was.loss);
     headers = let x = puts.few in let same = ap length (ap (λ v. v.items) was.headers) in omega (arith, x, same);
     blocks = let x = was.few in let same = ap length (ap (λ v. v.items) puts.blocks) in omega (arith, x, same, end);
     fits = fits;
     file = λ m m' keeps has. record {
-      map = staged d''.changes m;
-      has = still_has h h' d d'' m m' was.reads has;
-      file = file m m' (subst (λ (x : LogMap). WriteSoFar x (staged d'.changes m) n at w index) (sym has.draft)
-          (was.far has.checkpoint has.acknowledged m keeps has.holds));
-      around = λ i out. ap (λ (a : LogMap). a.block n i) (puts.map m)
-          ∙ was.around m i (subst (λ (e : ℕ). (i < at / 512) ⊎ (e ≤ i)) (sym end) out) ∙ ap (λ (a : LogMap). a.block n i) (sym has.draft);
+      map = staged c.draft.changes m;
+      has = still_has a c m m' (subst (Reads state a.log) (sym log) was.reads) has;
+      file = file m m' (subst (λ (x : LogMap). WriteSoFar x (staged b.draft.changes m) n at w index) (sym has.draft)
+          (was.far has.checkpoint has.acknowledged m (subst (λ (h : LogState D). (state h.device).keeps_model) log keeps) has.holds));
+      around = λ i out. ap (λ (x : LogMap). x.block n i) (puts.map m)
+          ∙ was.around m i (subst (λ (e : ℕ). (i < at / 512) ⊎ (e ≤ i)) (sym end) out) ∙ ap (λ (x : LogMap). x.block n i) (sym has.draft);
     };
   }
     where
       head' : Header
       head' = resized head (max head.size (at + length w))
 
-      fits : (m m' : LogMap) → HasMap state h d.changes m m' → FitsBatch m d.changes
-          → TakesWrite (state_of state h d u) m m' n head at w → FitsBatch m d''.changes
+      fits : (m m' : LogMap) → HasMap state a.log a.draft.changes m m' → FitsBatch m a.draft.changes
+          → TakesWrite (files_of state a) m m' n head at w → FitsBatch m c.draft.changes
       fits m m' has fit takes =
           let few : m.header n ≡ None → index ≤ 112 = λ none. (let low = takes.within none in omega (arith, low, end)) in
-          let there = ap (λ (a : LogMap). a.header n) (sym has.draft) ∙ takes.there in
+          let there = ap (λ (x : LogMap). x.header n) (sym has.draft) ∙ takes.there in
           puts.fits m (was.fits m fit (as_header head, there) takes.apart few)
-          (takes_header d'.changes m n head head' (was.header m ∙ there) refl
+          (takes_header b.draft.changes m n head head' (was.header m ∙ there) refl
           (ap (λ (x : Loss). is_lost x (Inode n)) was.loss ∙ takes.apart.inode) takes.header)
 
-      file : (m m' : LogMap) → WriteSoFar m' (staged d'.changes m) n at w index → WritesFile m' (staged d''.changes m) n head head' at w
+      file : (m m' : LogMap) → WriteSoFar m' (staged b.draft.changes m) n at w index
+          → WritesFile m' (staged c.draft.changes m) n head head' at w
       file m m' far =
-          let with_it = header_put (staged d'.changes m) (staged d''.changes m) n head' (puts.map m) in
-          let done = write_heads m' (staged d'.changes m) (staged d''.changes m) n at index w (Some (as_header head')) far with_it in
+          let with_it = header_put (staged b.draft.changes m) (staged c.draft.changes m) n head' (puts.map m) in
+          let done =
+          write_heads m' (staged b.draft.changes m) (staged c.draft.changes m) n at index w (Some (as_header head')) far with_it in
           record {
-            bytes = write_is_done m' (staged d''.changes m) n at index w (as_header head) (as_header head') done
+            bytes = write_is_done m' (staged c.draft.changes m) n at index w (as_header head) (as_header head') done
                 (last_block (at + length w) index (omega (arith, end))) some refl;
             only = done.only;
             whole = done.whole;

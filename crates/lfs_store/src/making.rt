@@ -2,7 +2,7 @@
 ghost use Rattle.std.specs.Prelude.{◌≡◌, ◌≤◌, true, IfSome, IfNone, IfErr, OnOk, OnErr, IsErrOf};
 ghost use Rattle.lfs_model.specs.Image.{new_form};
 ghost use Rattle.lfs_cleaner.specs.log.memory.Batch.{IsNoChange};
-ghost use Rattle.lfs_files.specs.Files.{Counts, Redrafts};
+ghost use Rattle.lfs_files.specs.Files.{Counts, IsFault, Redrafts};
 ghost use Rattle.lfs_files.specs.Headers.{first_links, first_header};
 ghost use Rattle.lfs_files.specs.Making.{CountsMade, CountsRelinked, Makes, Removes, SetsLinks};
 ghost use Rattle.lfs_store.specs.Recounting.{CountsUpgraded};
@@ -217,7 +217,8 @@ impl<D: SectorDevice> Store<D> {
             (files_of D.SectorDevice.state self.new) number.value) }
         ensures counted { OnOk result (Counts (files_of D.SectorDevice.state self.old)
             (files_of D.SectorDevice.state self.new)) }
-        ensures failed { OnErr result (IsReadFault D.SectorDevice.state self.old.log self.new.log) }
+        ensures failed { OnErr result (IsFault (files_of D.SectorDevice.state self.old)
+            (files_of D.SectorDevice.state self.new)) }
         ensures halted { IsErrOf result LogFault.Halted → self.old.log.halted ≡ true }
         ensures other { IsErrOf result LogFault.Full → ⊥ }
     {

@@ -14,7 +14,7 @@ impl<D: SectorDevice> Store<D> {
     ghost use Rattle.lfs_store.specs.Keeping.{RedraftsUncounted};
     ghost use Rattle.lfs_store.specs.Recounting.{ChangesOnly};
     ghost use Rattle.lfs_store.specs.Seen.{files_of};
-    ghost use Rattle.lfs_files.specs.Files.{Counts, Redrafts, Shrinks};
+    ghost use Rattle.lfs_files.specs.Files.{Counts, IsFault, Redrafts, Shrinks};
     ghost use Rattle.lfs_store.specs.Shrinking.{ClearsTail};
 
     /// Cuts a file of this header at a length in its last block, which is zeros from there on. No
@@ -39,7 +39,8 @@ impl<D: SectorDevice> Store<D> {
         ensures counted { OnOk result (Counts (files_of D.SectorDevice.state self.old)
             (files_of D.SectorDevice.state self.new)) }
         ensures failed { IfErr result (λ fault. (fault ≡ StoreFault.NoMemory → ⊥)
-            → IsReadFault D.SectorDevice.state self.old.log self.new.log) }
+            → IsFault (files_of D.SectorDevice.state self.old)
+            (files_of D.SectorDevice.state self.new)) }
         ensures halted { IsErrOf result (StoreFault.Log LogFault.Halted)
             → self.old.log.halted ≡ true }
         ensures other { IsErrOf result (StoreFault.Log LogFault.Full) → ⊥ }

@@ -1,5 +1,5 @@
 //! Bytes written to a file and cut off it, into the draft.
-ghost use Rattle.std.specs.Prelude.{◌≡◌, ◌<◌, ◌≤◌, ◌+◌, ◌*◌, ◌%◌, true, length, IfErr, OnOk, OnErr, IsErrOf, IsTrue};
+ghost use Rattle.std.specs.Prelude.{◌≡◌, ◌<◌, ◌≤◌, ◌+◌, ◌*◌, ◌%◌, true, length, IfErr, OnOk, IsErrOf, IsTrue};
 ghost use Rattle.lfs_cleaner.specs.log.memory.Batch.{IsNoChange, room_for};
 ghost use Rattle.lfs_cleaner.specs.log.LogState.{IsReadFault};
 ghost use Rattle.lfs_store.specs.Drafting.{PutsHeader};
@@ -56,7 +56,7 @@ fn block_beneath<D: SectorDevice>(
 impl<D: SectorDevice> Store<D> {
     ghost use Rattle.lfs_store.specs.Keeping.{DraftsUncounted, RedraftsUncounted};
     ghost use Rattle.lfs_store.specs.Seen.{files_of};
-    ghost use Rattle.lfs_files.specs.Files.{Counts, CountsReformed, IsLoneWrite, Redrafts, Reforms, SetsLen, Writes};
+    ghost use Rattle.lfs_files.specs.Files.{Counts, CountsReformed, IsFault, IsLoneWrite, Redrafts, Reforms, SetsLen, Writes};
     ghost use Rattle.lfs_store.specs.Writing.{WritesBlock, DraftsCut, CutsDraft, resized};
 
     /// Lays bytes over a file of this header, from a place on. Where they end behind its size, it
@@ -86,7 +86,8 @@ impl<D: SectorDevice> Store<D> {
         ensures counted { OnOk result (Counts (files_of D.SectorDevice.state self.old)
             (files_of D.SectorDevice.state self.new)) }
         ensures failed { IfErr result (λ fault. (fault ≡ StoreFault.NoMemory → ⊥)
-            → IsReadFault D.SectorDevice.state self.old.log self.new.log) }
+            → IsFault (files_of D.SectorDevice.state self.old)
+            (files_of D.SectorDevice.state self.new)) }
         ensures halted { IsErrOf result (StoreFault.Log LogFault.Halted)
             → self.old.log.halted ≡ true }
         ensures other { IsErrOf result (StoreFault.Log LogFault.Full) → ⊥ }
@@ -195,7 +196,8 @@ impl<D: SectorDevice> Store<D> {
         ensures counted { OnOk result (Counts (files_of D.SectorDevice.state self.old)
             (files_of D.SectorDevice.state self.new)) }
         ensures failed { IfErr result (λ fault. (fault ≡ StoreFault.NoMemory → ⊥)
-            → IsReadFault D.SectorDevice.state self.old.log self.new.log) }
+            → IsFault (files_of D.SectorDevice.state self.old)
+            (files_of D.SectorDevice.state self.new)) }
         ensures halted { IsErrOf result (StoreFault.Log LogFault.Halted)
             → self.old.log.halted ≡ true }
         ensures other { IsErrOf result (StoreFault.Log LogFault.Full) → ⊥ }

@@ -4,20 +4,15 @@ use Rattle.lfs_store.proofs.files.StoreFiles.header.Goals as goal
 
 pub returns-clause-reads : goal.returns-clause-reads
 returns-clause-reads g c =
-    seen_read g.D.SectorDevice.state c.args.self.now.log c.header.new.self.log c.args.self.now.draft c.header.new.self.draft
-    c.args.self.now.drafted c.header.new.self.drafted
-    c.header.ensures.reads.log c.header.ensures.reads.draft c.header.ensures.reads.drafted
+    seen_read g.D.SectorDevice.state c.args.self.now c.header.new.self c.header.ensures.reads
 
 pub returns-clause-failed : goal.returns-clause-failed
 returns-clause-failed g c =
     on_err_weaker c.header.result
-    (seen_fault g.D.SectorDevice.state c.args.self.now.log c.header.new.self.log c.args.self.now.draft c.header.new.self.draft
-    c.args.self.now.drafted c.header.new.self.drafted)
+    (seen_fault g.D.SectorDevice.state c.args.self.now c.header.new.self)
     c.header.ensures.failed
 
 pub returns-clause-answer : goal.returns-clause-answer
 returns-clause-answer g c =
     IfOk-weaker c.header.result _ _
-    (seen_header g.D.SectorDevice.state c.args.self.now.log c.header.new.self.log c.args.self.now.draft c.header.new.self.draft
-    c.args.self.now.drafted c.header.new.self.drafted
-    c.args.number.value) c.header.ensures.answer
+    (seen_header g.D.SectorDevice.state c.args.self.now c.header.new.self c.args.number.value) c.header.ensures.answer

@@ -4,19 +4,14 @@ use Rattle.lfs_store.proofs.files.StoreFiles.read_at.Goals as goal
 
 pub returns-clause-reads : goal.returns-clause-reads
 returns-clause-reads g c =
-    seen_read g.D.SectorDevice.state c.args.self.now.log c.read_at.new.self.log c.args.self.now.draft c.read_at.new.self.draft
-    c.args.self.now.drafted c.read_at.new.self.drafted
-    c.read_at.ensures.reads.log c.read_at.ensures.reads.draft c.read_at.ensures.reads.drafted
+    seen_read g.D.SectorDevice.state c.args.self.now c.read_at.new.self c.read_at.ensures.reads
 
 pub returns-clause-answer : goal.returns-clause-answer
 returns-clause-answer g c =
     IfOk-weaker c.read_at.result _ _
-    (λ bytes. seen_part g.D.SectorDevice.state c.args.self.now.log c.read_at.new.self.log c.args.self.now.draft c.read_at.new.self.draft
-    c.args.self.now.drafted c.read_at.new.self.drafted
-    c.args.number.value c.args.from c.args.to bytes.items) c.read_at.ensures.answer
+    (λ bytes. seen_part g.D.SectorDevice.state c.args.self.now c.read_at.new.self c.args.number.value c.args.from c.args.to bytes.items)
+    c.read_at.ensures.answer
 
 pub returns-clause-failed : goal.returns-clause-failed
 returns-clause-failed g c =
-    seen_fault_by g.D.SectorDevice.state c.args.self.now.log c.read_at.new.self.log c.args.self.now.draft c.read_at.new.self.draft
-    c.args.self.now.drafted c.read_at.new.self.drafted
-    _ c.read_at.result c.read_at.ensures.failed
+    seen_fault_by g.D.SectorDevice.state c.args.self.now c.read_at.new.self _ c.read_at.result c.read_at.ensures.failed

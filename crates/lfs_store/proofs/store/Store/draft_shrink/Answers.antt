@@ -6,8 +6,7 @@ use Rattle.lfs_store.proofs.store.Store.draft_shrink.Goals as goal
 pub returns-clause-done : goal.returns-clause-done
 returns-clause-done g c =
     ok_then c.resize.result _ _
-    (λ puts. shrinks g.D.SectorDevice.state c.args.self.now.log c.clear_tail.new.self.log c.resize.new.self.log c.args.self.now.draft
-    c.clear_tail.new.self.draft c.resize.new.self.draft c.args.self.now.drafted c.resize.new.self.drafted c.args.number.value c.args.header
+    (λ puts. shrinks g.D.SectorDevice.state c.args.self.now c.clear_tail.new.self c.resize.new.self c.args.number.value c.args.header
     c.args.len c.resize.ensures.keeps.log c.clear_tail.ensures.redrafts.reads c.in_ok-clear_tail.ensures.done puts c.requires.less
     c.requires.last)
     c.resize.ensures.done
@@ -15,8 +14,7 @@ returns-clause-done g c =
 pub returns-clause-only : goal.returns-clause-only
 returns-clause-only g c =
     ok_then c.resize.result _ _
-    (shrinks_only g.D.SectorDevice.state c.args.self.now.log c.clear_tail.new.self.log c.resize.new.self.log c.args.self.now.draft
-    c.clear_tail.new.self.draft c.resize.new.self.draft c.args.self.now.drafted c.resize.new.self.drafted c.args.number.value c.args.header
+    (shrinks_only g.D.SectorDevice.state c.args.self.now c.clear_tail.new.self c.resize.new.self c.args.number.value c.args.header
     c.args.len c.resize.ensures.keeps.log c.clear_tail.ensures.redrafts.reads c.in_ok-clear_tail.ensures.done)
     c.resize.ensures.done
 

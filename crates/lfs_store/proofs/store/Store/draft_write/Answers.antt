@@ -1,5 +1,5 @@
 use Rattle.std.proofs.Common.{◌≡◌, ◌≤◌, ◌+◌, ◌/◌, refl, arith, rules, ℕ, length, sym, subst}
-use Rattle.lfs_cleaner.specs.log.LogState.{LogState, IsReadFault}
+use Rattle.lfs_cleaner.specs.log.LogState.{IsReadFault}
 use Rattle.std.specs.Prelude.{Result, Err, IfErr}
 use Rattle.lfs_files.specs.declared.fault.StoreFault.{StoreFault}
 use Rattle.lfs_files.specs.declared.fault.StoreFault.TheVariants.{NoMemory}
@@ -8,8 +8,6 @@ use Rattle.lfs_store.specs.Drafting.{PutsHeader}
 use Rattle.std.specs.Int.{div_ceil}
 use Rattle.lfs_store.specs.Growing.{IsRun}
 use Rattle.lfs_store.specs.Writing.{resized}
-use Rattle.lfs_store.specs.Seen.{files_of, state_of}
-use Rattle.lfs_files.specs.Files.{Writes}
 use Rattle.lfs_cleaner.proofs.of_log.Unsaved.{none_left}
 use Rattle.lfs_cleaner.proofs.of_log.LogReads.{reads_none, fault_more}
 use Rattle.lfs_store.proofs.Keepings.{uncounted_drafts, uncounted_none, uncounted_then}
@@ -50,16 +48,11 @@ loop-index-preserved g c = (
 
 pub returns-clause-done : goal.returns-clause-done
 returns-clause-done g c =
-    let state = g.D.SectorDevice.state in
     ok_then c.resize.result _ _
-    (λ puts. subst (λ (log : LogState _). Writes (files_of state c.args.self.now) (state_of state log c.resize.new.self.draft
-    c.resize.new.self.drafted) c.args.number.value c.args.header c.args.at c.args.bytes.now) (sym c.resize.ensures.keeps.log)
-    (written state c.args.self.now.log c.loop-index.self.log c.args.self.now.draft c.loop-index.self.draft c.resize.new.self.draft
-    c.args.self.now.drafted c.resize.new.self.drafted
-    c.args.number.value c.args.header c.args.at c.args.bytes.now c.loop-index.index c.requires.bytes (search rules)
-    (search rules) c.loop-index.invariant.0
+    (λ puts. written g.D.SectorDevice.state c.args.self.now c.loop-index.self c.resize.new.self c.args.number.value c.args.header c.args.at
+    c.args.bytes.now c.loop-index.index c.resize.ensures.keeps.log c.requires.bytes (search rules) (search rules) c.loop-index.invariant.0
     (subst (λ (size : ℕ). PutsHeader c.loop-index.self.draft.changes c.resize.new.self.draft.changes c.args.number.value
-    (resized c.args.header size)) (search rules) puts))) c.resize.ensures.done
+    (resized c.args.header size)) (search rules) puts)) c.resize.ensures.done
 
 pub returns-in_err-write_block-clause-redrafts : goal.returns-in_err-write_block-clause-redrafts
 returns-in_err-write_block-clause-redrafts g c =

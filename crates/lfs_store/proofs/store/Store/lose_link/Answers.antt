@@ -5,14 +5,14 @@ use Rattle.lfs_store.proofs.store.Store.lose_link.Goals as goal
 
 pub returns-clause-done : goal.returns-clause-done
 returns-clause-done g c =
-    loses_link g.D.SectorDevice.state c.args.self.now.log c.args.self.now.draft c.lose.new.self c.args.self.now.drafted
-    c.args.self.now.drafted c.requires.empty c.lose.ensures.headers c.lose.ensures.blocks c.args.number.value c.args.header _ refl refl
+    loses_link g.D.SectorDevice.state c.args.self.now c.lose.new.self c.args.self.now.drafted c.requires.empty c.lose.ensures.headers
+    c.lose.ensures.blocks c.args.number.value c.args.header _ refl refl
     (c.lose.ensures.alone c.requires.empty) c.lose.ensures.loss
 
 pub returns-clause-counted : goal.returns-clause-counted
 returns-clause-counted g c =
-    header_counts g.D.SectorDevice.state c.args.self.now.log c.args.self.now.draft c.lose.new.self c.args.self.now.drafted
-    c.args.self.now.drafted c.args.number.value c.args.header (relinked c.args.header 0) c.args.number.some c.args.number.few refl
-    (link_put g.D.SectorDevice.state c.args.self.now.log c.args.self.now.draft c.lose.new.self c.args.self.now.drafted
-    c.args.self.now.drafted c.requires.empty c.lose.ensures.headers c.lose.ensures.blocks c.args.number.value c.args.header _ refl refl
+    header_counts g.D.SectorDevice.state c.args.self.now c.lose.new.self c.args.self.now.drafted c.args.number.value c.args.header
+    (relinked c.args.header 0) c.args.number.some c.args.number.few refl
+    (link_put g.D.SectorDevice.state c.args.self.now c.lose.new.self c.args.self.now.drafted c.requires.empty c.lose.ensures.headers
+    c.lose.ensures.blocks c.args.number.value c.args.header _ refl refl
     (c.lose.ensures.alone c.requires.empty))

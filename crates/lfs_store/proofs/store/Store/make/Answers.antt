@@ -4,12 +4,12 @@ use Rattle.lfs_store.proofs.store.Store.make.Goals as goal
 
 pub returns-clause-done : goal.returns-clause-done
 returns-clause-done g c =
-    makes g.D.SectorDevice.state c.args.self.now.log c.args.self.now.draft c.put_header.new.self c.args.self.now.drafted
-    c.recounted-self.result c.args.number.value (first_header c.args.kind c.args.form c.args.size) c.args.number.some c.requires.most
+    makes g.D.SectorDevice.state c.args.self.now c.put_header.new.self c.recounted-self.result c.args.number.value
+    (first_header c.args.kind c.args.form c.args.size) c.args.number.some c.requires.most
     (rw c.first_links.ensures at c.in-Ok.ensures.done)
 
 pub returns-clause-counted : goal.returns-clause-counted
 returns-clause-counted g c =
-    counts_made g.D.SectorDevice.state c.args.self.now.log c.args.self.now.draft c.put_header.new.self c.args.self.now.drafted
-    c.recounted-self.result c.args.number.value (first_header c.args.kind c.args.form c.args.size) c.args.number.some c.args.number.few
+    counts_made g.D.SectorDevice.state c.args.self.now c.put_header.new.self c.recounted-self.result c.args.number.value
+    (first_header c.args.kind c.args.form c.args.size) c.args.number.some c.args.number.few
     (rw c.first_links.ensures at c.in-Ok.ensures.done) c.recounted-self.ensures

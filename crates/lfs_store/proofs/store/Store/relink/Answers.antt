@@ -5,11 +5,11 @@ use Rattle.lfs_store.proofs.store.Store.relink.Goals as goal
 
 pub returns-clause-done : goal.returns-clause-done
 returns-clause-done g c =
-    relinks g.D.SectorDevice.state c.args.self.now.log c.args.self.now.draft c.put_header.new.self c.args.self.now.drafted
-    c.args.self.now.drafted c.args.number.value c.args.header c.args.links c.requires.linked c.in-Ok.ensures.done
+    relinks g.D.SectorDevice.state c.args.self.now c.put_header.new.self c.args.self.now.drafted c.args.number.value c.args.header
+    c.args.links c.requires.linked c.in-Ok.ensures.done
 
 pub returns-clause-counted : goal.returns-clause-counted
 returns-clause-counted g c =
-    header_counts g.D.SectorDevice.state c.args.self.now.log c.args.self.now.draft c.put_header.new.self c.args.self.now.drafted
-    c.args.self.now.drafted c.args.number.value c.args.header (relinked c.args.header c.args.links) c.args.number.some c.args.number.few
+    header_counts g.D.SectorDevice.state c.args.self.now c.put_header.new.self c.args.self.now.drafted c.args.number.value c.args.header
+    (relinked c.args.header c.args.links) c.args.number.some c.args.number.few
     refl c.in-Ok.ensures.done.map

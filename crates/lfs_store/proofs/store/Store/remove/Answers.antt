@@ -1,8 +1,8 @@
 use Rattle.std.proofs.Common.{arith}
-use Rattle.lfs_cleaner.proofs.of_log.of_memory.Going.{err_then, ok_then}
+use Rattle.lfs_cleaner.proofs.of_log.of_memory.Going.{err_then, ok_then, on_err}
 use Rattle.lfs_store.proofs.Acceptings.{where_ok}
-use Rattle.lfs_store.proofs.Keepings.{counted_redrafts, drafts_uncounted, reads_redrafts}
-use Rattle.lfs_cleaner.proofs.of_log.LogReads.{fault_more, reads_more}
+use Rattle.lfs_store.proofs.StoreSeen.{seen_fault}
+use Rattle.lfs_store.proofs.Keepings.{counted_fault, counted_redrafts, drafts_uncounted, reads_redrafts}
 use Rattle.lfs_store.proofs.Between.{counts_between, removed_file, removes_between}
 use Rattle.lfs_store.proofs.store.Store.remove.Goals as goal
 
@@ -17,13 +17,16 @@ returns-clause-redrafts g c =
     (drafts_uncounted g.D.SectorDevice.state c.measure.new.self c.lose_file.new.self c.lose_file.ensures.keeps)
     c.recount.ensures.counts
 
+pub returns-in_err-before-clause-failed : goal.returns-in_err-before-clause-failed
+returns-in_err-before-clause-failed g c =
+    on_err c.from_residual.result _ (seen_fault g.D.SectorDevice.state c.args.self.now c.measure.new.self c.in_err-before.ensures.failed)
+
 pub returns-clause-failed : goal.returns-clause-failed
 returns-clause-failed g c =
     let state = g.D.SectorDevice.state in
-    let next = drafts_uncounted state c.measure.new.self c.lose_file.new.self c.lose_file.ensures.keeps in
-    err_then c.recount.result _ _ (fault_more state c.args.self.now.log c.lose_file.new.self.log c.recount.new.self.log
-    (reads_more state c.args.self.now.log c.measure.new.self.log c.lose_file.new.self.log
-    (g.met.D.SectorDevice.lawful c.args.self.now.log.device) c.measure.ensures.reads.log next.reads))
+    err_then c.recount.result _ _ (counted_fault state c.args.self.now c.measure.new.self c.lose_file.new.self c.recount.new.self
+    (g.met.D.SectorDevice.lawful c.args.self.now.log.device) c.measure.ensures.reads
+    (drafts_uncounted state c.measure.new.self c.lose_file.new.self c.lose_file.ensures.keeps))
     c.recount.ensures.failed
 
 pub returns-clause-done : goal.returns-clause-done

@@ -1,12 +1,8 @@
-use Rattle.std.specs.Prelude.{Result, IfErr}
-use Rattle.std.proofs.Common.{◌≡◌, ◌/◌, arith}
-use Rattle.lfs_cleaner.specs.log.LogState.{IsReadFault}
-use Rattle.lfs_files.specs.declared.fault.StoreFault.{StoreFault}
-use Rattle.lfs_files.specs.declared.fault.StoreFault.TheVariants.{NoMemory}
+use Rattle.std.proofs.Common.{◌/◌, arith}
 use Rattle.lfs_store.proofs.Between.{counts_between, sets_between, sized_file}
-use Rattle.lfs_store.proofs.Endings.{same_exit}
-use Rattle.lfs_store.proofs.Keepings.{counted_redrafts, measured_redrafts, reads_redrafts}
-use Rattle.lfs_cleaner.proofs.of_log.LogReads.{fault_more, reads_more}
+use Rattle.lfs_store.proofs.Endings.{fails_so}
+use Rattle.lfs_store.proofs.Keepings.{counted_fault, counted_redrafts, measured_fault, measured_redrafts, reads_redrafts}
+use Rattle.lfs_store.proofs.StoreSeen.{seen_fault}
 use Rattle.lfs_store.proofs.store.Store.set_len.Goals as goal
 
 pub returns-in-Err-clause-redrafts : goal.returns-in-Err-clause-redrafts
@@ -18,13 +14,15 @@ returns-in_err-draft_len-clause-redrafts g c =
     measured_redrafts g.D.SectorDevice.state c.args.self.now c.measure.new.self c.draft_len.new.self
     (g.met.D.SectorDevice.lawful c.args.self.now.log.device) c.measure.ensures.reads c.draft_len.ensures.redrafts
 
+pub returns-in-Err-clause-failed : goal.returns-in-Err-clause-failed
+returns-in-Err-clause-failed g c other =
+    seen_fault g.D.SectorDevice.state c.args.self.now c.measure.new.self c.in-Err.ensures.failed
+
 pub returns-in_err-draft_len-clause-failed : goal.returns-in_err-draft_len-clause-failed
 returns-in_err-draft_len-clause-failed g c =
-    same_exit c.from_residual.result c.in_err-draft_len.field-0.0
-    (λ (r : Result Unit StoreFault). IfErr r (λ (fault : StoreFault). (fault ≡ NoMemory → ⊥)
-    → IsReadFault g.D.SectorDevice.state c.args.self.now.log c.draft_len.new.self.log)) c.from_residual.ensures
-    (λ other. fault_more g.D.SectorDevice.state c.args.self.now.log c.measure.new.self.log c.draft_len.new.self.log
-    c.measure.ensures.reads.log (c.in_err-draft_len.ensures.failed other))
+    fails_so c.from_residual.result c.in_err-draft_len.field-0.0 c.from_residual.ensures
+    (λ other. measured_fault g.D.SectorDevice.state c.args.self.now c.measure.new.self c.draft_len.new.self c.measure.ensures.reads
+    (c.in_err-draft_len.ensures.failed other))
 
 pub returns-in-Err-recount-clause-redrafts : goal.returns-in-Err-recount-clause-redrafts
 returns-in-Err-recount-clause-redrafts g c =
@@ -38,9 +36,8 @@ returns-in-Ok-recount-clause-redrafts g c =
 
 pub returns-in-Err-recount-clause-failed : goal.returns-in-Err-recount-clause-failed
 returns-in-Err-recount-clause-failed g c other =
-    fault_more g.D.SectorDevice.state c.args.self.now.log c.draft_len.new.self.log c.recount.new.self.log
-    (reads_more g.D.SectorDevice.state c.args.self.now.log c.measure.new.self.log c.draft_len.new.self.log
-    (g.met.D.SectorDevice.lawful c.args.self.now.log.device) c.measure.ensures.reads.log c.draft_len.ensures.redrafts.reads)
+    counted_fault g.D.SectorDevice.state c.args.self.now c.measure.new.self c.draft_len.new.self c.recount.new.self
+    (g.met.D.SectorDevice.lawful c.args.self.now.log.device) c.measure.ensures.reads c.draft_len.ensures.redrafts
     c.in-Err-recount.ensures.failed
 
 pub returns-in-Ok-recount-clause-done : goal.returns-in-Ok-recount-clause-done
