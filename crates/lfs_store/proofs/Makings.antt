@@ -3,7 +3,6 @@ use Rattle.std.specs.Prelude.{slice_index}
 use Rattle.std.proofs.Common.{◌≡◌, ◌≤◌, ◌/◌, ◌%◌, ⊎_elim, ℕ, List, [], ◌∷◌, length, Option, Some, None, refl, sym, ◌∙◌, ap}
 use Rattle.std.proofs.Common.{subst, arith}
 use Rattle.std.proofs.lemmas.Bool.{cases_eq}
-use Rattle.lfs_model.specs.declared.Kind.{Kind}
 use Rattle.lfs_model.specs.Encodes.{IsLogMap, HasData}
 use Rattle.lfs_model.specs.Entry as entry
 use Rattle.lfs_model.specs.Inode.{IsForm}
@@ -56,47 +55,40 @@ made_map m n h is none some few form = object_kept m (with_header m n (Some h)) 
 
 -- ---- its links
 
--- a header of the same kind, form and size
-module _ (m : LogMap) (n : ℕ) (h h' : entry.Header) (is : IsLogMap m) (there : m.header n ≡ Some h) (kind : h'.kind ≡ h.kind)
-    (form : h'.form ≡ h.form) (size : h'.size ≡ h.size) where
+-- a header with other links
+module _ (m : LogMap) (n : ℕ) (h : entry.Header) (links : ℕ) (is : IsLogMap m) (there : m.header n ≡ Some h) where
+  abbrev now : entry.Header
+  now = record h { links = links }
+
   abbrev over : LogMap
-  over = with_header m n (Some h')
+  over = with_header m n (Some now)
+
+  own : (k : ℕ) → k ≡ n → over.header k ≡ Some now
+  own k here = ap over.header here ∙ (is_with_header m n (Some now)).own
 
   -- what is there has the kind and the size that it had
-  was_there : (k : ℕ) (g : entry.Header) → (with_header m n (Some h')).header k ≡ Some g
+  was_there : (k : ℕ) (g : entry.Header) → over.header k ≡ Some g
       → (f : entry.Header) × (m.header k ≡ Some f) × (g.kind ≡ f.kind) × (g.size ≡ f.size)
   was_there k g at = ⊎_elim
       (λ (here : k ≡ n).
-      let own : (with_header m n (Some h')).header k ≡ Some h' = ap (with_header m n (Some h')).header here
-      ∙ (is_with_header m n (Some h')).own in
-      let both : Some h' ≡ Some g = sym own ∙ at in
-      let same : h' ≡ g = cc in (
-        h,
-        ap m.header here ∙ there,
-        ap (λ (x : entry.Header). x.kind) (sym same) ∙ kind,
-        ap (λ (x : entry.Header). x.size) (sym same)
-            ∙ size,
-      ))
-      (λ (ne : k ≡ n → ⊥). (g, sym ((is_with_header m n (Some h')).others k ne) ∙ at, refl, refl))
+      let both : Some now ≡ Some g = sym (own k here) ∙ at in
+      let same : now ≡ g = cc in
+      (h, ap m.header here ∙ there, ap (λ (x : entry.Header). x.kind) (sym same), ap (λ (x : entry.Header). x.size) (sym same)))
+      (λ (ne : k ≡ n → ⊥). (g, sym ((is_with_header m n (Some now)).others k ne) ∙ at, refl, refl))
       (cases_eq k n)
 
-  now_there : (k : ℕ) (f : entry.Header) → m.header k ≡ Some f → (g : entry.Header) × ((with_header m n (Some h')).header k ≡ Some g)
+  now_there : (k : ℕ) (f : entry.Header) → m.header k ≡ Some f → (g : entry.Header) × (over.header k ≡ Some g)
       × (g.kind ≡ f.kind) × (g.size ≡ f.size)
   now_there k f at = ⊎_elim
       (λ (here : k ≡ n).
       let both : Some h ≡ Some f = sym there ∙ sym (ap m.header here) ∙ at in
-      let same : h ≡ f = cc in (
-        h',
-        ap (with_header m n (Some h')).header here ∙ (is_with_header m n (Some h')).own,
-        kind
-            ∙ ap (λ (x : entry.Header). x.kind) same,
-        size ∙ ap (λ (x : entry.Header). x.size) same,
-      ))
-      (λ (ne : k ≡ n → ⊥). (f, (is_with_header m n (Some h')).others k ne ∙ at, refl, refl))
+      let same : h ≡ f = cc in
+      (now, own k here, ap (λ (x : entry.Header). x.kind) same, ap (λ (x : entry.Header). x.size) same))
+      (λ (ne : k ≡ n → ⊥). (f, (is_with_header m n (Some now)).others k ne ∙ at, refl, refl))
       (cases_eq k n)
 
-  pub headed_map : IsLogMap (with_header m n (Some h'))
-  headed_map = record {
+  pub relinked_map : IsLogMap over
+  relinked_map = record {
     none = λ g at. (let was = was_there 0 g at in is.none was.0 was.1);
     root = (let root = is.root in let now = now_there 1 root.0 root.1 in (now.0, now.1, now.2 ∙ root.2));
     within = λ k i has. (
@@ -107,14 +99,10 @@ module _ (m : LogMap) (n : ℕ) (h h' : entry.Header) (is : IsLogMap m) (there :
         (now.0, now.1, omega (arith, same, low)));
     forms = λ k g at. ⊎_elim
         (λ (here : k ≡ n).
-        let own : (with_header m n (Some h')).header k ≡ Some h' = ap (with_header m n (Some h')).header here
-        ∙ (is_with_header m n (Some h')).own in
-        let both : Some h' ≡ Some g = sym own ∙ at in
-        let same : h' ≡ g = cc in
-        subst (λ (x : entry.Header). IsForm m.version x.kind x.form) same
-        (subst (λ (f : ℕ). IsForm m.version h'.kind f) (sym form)
-        (subst (λ (t : Kind). IsForm m.version t h.form) (sym kind) (is.forms n h there))))
-        (λ (ne : k ≡ n → ⊥). is.forms k g (sym ((is_with_header m n (Some h')).others k ne) ∙ at))
+        let both : Some now ≡ Some g = sym (own k here) ∙ at in
+        let same : now ≡ g = cc in
+        subst (λ (x : entry.Header). IsForm m.version x.kind x.form) same (is.forms n h there))
+        (λ (ne : k ≡ n → ⊥). is.forms k g (sym ((is_with_header m n (Some now)).others k ne) ∙ at))
         (cases_eq k n);
     small = is.small;
     nonzero = is.nonzero;

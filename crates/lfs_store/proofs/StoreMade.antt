@@ -28,7 +28,7 @@ use Rattle.lfs_store.specs.Recounting.{AreTotals, Recounts}
 use Rattle.lfs_store.specs.Seen.{HasMap, StagedLog, files_of, state_of}
 use Rattle.lfs_store.proofs.Apart.{file_apart, link_apart, no_change}
 use Rattle.lfs_store.proofs.Growths.{room_few}
-use Rattle.lfs_store.proofs.Makings.{headed_map, made_map, without_changed}
+use Rattle.lfs_store.proofs.Makings.{made_map, relinked_map, without_changed}
 use Rattle.lfs_store.proofs.Recounted.{made_counts, relinked_totals}
 use Rattle.lfs_store.proofs.Writings.{takes_header}
 
@@ -106,14 +106,14 @@ module _ {D : Type 0} (state : D → DeviceState) (s : Store D) (d' : Draft) (u'
       made_counts a b n (as_header head) s.drafted u' some few (put n head puts.map m a has ∙ sym has'.draft) whole free recounts are
 
   -- ---- its links
-  relinked_map : (n : ℕ) (head : Header) (links : ℕ) → Puts n (relinked head links) → (m m' : LogMap)
+  has_relinked : (n : ℕ) (head : Header) (links : ℕ) → Puts n (relinked head links) → (m m' : LogMap)
       → HasMap state s.log s.draft.changes m m'
       → files_made.HasRelinked S' m m' n head links
-  relinked_map n head links puts m m' has = record {
+  has_relinked n head links puts m m' has = record {
     map = with_header m' n (Some (as_header (relinked head links)));
     has = became m m' _ has (put n (relinked head links) puts m m' has);
     file = is_with_header m' n (Some (as_header (relinked head links)));
-    keeps = λ whole there. headed_map m' n (as_header head) (as_header (relinked head links)) whole there refl refl refl;
+    keeps = λ whole there. relinked_map m' n (as_header head) links whole there;
   }
 
   pub relinks : (n : ℕ) (head : Header) (links : ℕ) → 1 ≤ links → PutsHeader s.draft.changes d'.changes n (relinked head links)
@@ -127,7 +127,7 @@ module _ {D : Type 0} (state : D → DeviceState) (s : Store D) (d' : Draft) (u'
         (takes_header s.draft.changes m n head (relinked head links) (at n m m' has ∙ takes.there)
         (both_linked links head.links some takes.linked)
         takes.apart takes.header);
-    has = relinked_map n head links puts.map;
+    has = has_relinked n head links puts.map;
   }
     where
       both_linked : (a b : ℕ) → 1 ≤ a → 0 < b → (a == 0) ≡ (b == 0)
@@ -163,7 +163,7 @@ module _ {D : Type 0} (state : D → DeviceState) (s : Store D) (d' : Draft) (u'
                 (as_header head, there),
                 ap is_unlinked there ∙ ne_eqb head.links 0 (λ e. omega (arith, e, linked)),
               ));
-          has = relinked_map n head 0 link_put;
+          has = has_relinked n head 0 link_put;
         }
 
       -- ---- it goes
