@@ -55,11 +55,11 @@ module _ {D : Type 0} (state : D → DeviceState) (s : Store D) (d' : Draft) (u'
       → with_header m' n (Some (as_header head)) ≡ staged d'.changes m
   put n head puts m m' has = ap (λ (x : LogMap). with_header x n (Some (as_header head))) has.draft ∙ sym (puts m)
 
-  pub header_counts : (n : ℕ) (old head : Header) → 1 ≤ n → n ≤ 4095 → u' ≡ s.drafted → Puts n head → files.CountsReformed S S' n old
-  header_counts n old head some few same puts m a b has has' there are =
-      subst (λ (x : LogMap). AreTotals x u') (put n head puts m a has ∙ sym has'.draft)
-      (relinked_totals a n (as_header old) (as_header head) u' some few there
-      (subst (λ (t : BlockTotals). AreTotals a t) (sym same) are))
+  pub header_counts : (n : ℕ) (old head : Header) → 1 ≤ n → n ≤ 4095 → Puts n head
+      → files.CountsReformed S (state_of state s.log d' s.drafted) n old
+  header_counts n old head some few puts m a b has has' there are =
+      subst (λ (x : LogMap). AreTotals x s.drafted) (put n head puts m a has ∙ sym has'.draft)
+      (relinked_totals a n (as_header old) (as_header head) s.drafted some few there are)
 
   -- ---- another form
   pub reforms : (n : ℕ) (head : Header) (form size : ℕ) → PutsHeader s.draft.changes d'.changes n (reformed head form size)

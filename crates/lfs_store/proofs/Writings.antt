@@ -26,10 +26,11 @@ use Rattle.lfs_files.specs.Headers.{resized}
 use Rattle.lfs_store.specs.declared.store.Store.{Store}
 use Rattle.lfs_store.specs.Seen.{HasMap, files_of}
 use Rattle.lfs_store.specs.Drafting.{PutsBlock, PutsHeader, TakesBlock, TakesHeader, IsApart}
+use Rattle.lfs_store.specs.Keeping.{RedraftsUncounted}
 use Rattle.lfs_store.specs.Pieces.{HoldsBlock, BlockOverlays, WriteSoFar}
 use Rattle.lfs_store.specs.Reading.{ReadsBlock}
 use Rattle.lfs_store.specs.Writing.{ReadsBeneath, WritesBlock}
-use Rattle.lfs_cleaner.proofs.of_log.LogReads.{held_still, reads_more}
+use Rattle.lfs_cleaner.proofs.of_log.LogReads.{held_still, reads_more, reads_none}
 use Rattle.lfs_store.proofs.PiecesRead.{last_block}
 use Rattle.lfs_store.proofs.PiecesStored.{other_block}
 use Rattle.lfs_store.proofs.PiecesWritten.{write_begins, write_goes_on, write_heads, write_is_done}
@@ -108,35 +109,39 @@ module _ {D : Type 0} (state : D → DeviceState) where
       inl (block_read (staged c m) n index old found long blank (answer k m0 m keeps is))
 
   -- ---- the blocks up to here
-  pub record WrittenUpTo (h h' : LogState D) (c c' : Changes) (n at : ℕ) (w : List ℕ) (index : ℕ) : Type 0 where
-    pub reads : Reads state h h'
-    pub loss : c'.loss ≡ c.loss
-    pub headers : c'.headers ≡ c.headers
-    pub few : length c'.blocks.items ≤ length c.blocks.items + (index - at / 512)
-    pub header : (m : LogMap) → (staged c' m).header n ≡ (staged c m).header n
-    pub around : (m : LogMap) (i : ℕ) → (i < at / 512) ⊎ (index ≤ i) → (staged c' m).block n i ≡ (staged c m).block n i
-    pub fits : (m : LogMap) → FitsBatch m c → HasInode (staged c m) n → IsApart c.loss n → (m.header n ≡ None → index ≤ 112)
-        → FitsBatch m c'
-    pub far : (k : CheckpointValue) (m0 m : LogMap) → (state h'.device).keeps_model → Holds state h k m0 m
-        → WriteSoFar (staged c m) (staged c' m) n at w index
+  pub record WrittenUpTo (a b : Store D) (n at : ℕ) (w : List ℕ) (index : ℕ) : Type 0 where
+    pub redrafts : RedraftsUncounted state a b
+    pub loss : b.draft.changes.loss ≡ a.draft.changes.loss
+    pub headers : b.draft.changes.headers ≡ a.draft.changes.headers
+    pub few : length b.draft.changes.blocks.items ≤ length a.draft.changes.blocks.items + (index - at / 512)
+    pub header : (m : LogMap) → (staged b.draft.changes m).header n ≡ (staged a.draft.changes m).header n
+    pub around : (m : LogMap) (i : ℕ) → (i < at / 512) ⊎ (index ≤ i)
+        → (staged b.draft.changes m).block n i ≡ (staged a.draft.changes m).block n i
+    pub fits : (m : LogMap) → FitsBatch m a.draft.changes → HasInode (staged a.draft.changes m) n → IsApart a.draft.changes.loss n
+        → (m.header n ≡ None → index ≤ 112) → FitsBatch m b.draft.changes
+    pub far : (k : CheckpointValue) (m0 m : LogMap) → (state b.log.device).keeps_model → Holds state a.log k m0 m
+        → WriteSoFar (staged a.draft.changes m) (staged b.draft.changes m) n at w index
 
-  pub written_none : (h : LogState D) (c : Changes) (n at : ℕ) (w : List ℕ) → Reads state h h → WrittenUpTo h h c c n at w (at / 512)
-  written_none h c n at w reads = record {
-    reads = reads;
+  pub written_none : (a : Store D) (n at : ℕ) (w : List ℕ) → WrittenUpTo a a n at w (at / 512)
+  written_none a n at w = record {
+    redrafts = record { reads = reads_none state a.log; drafted = refl };
     loss = refl;
     headers = refl;
     few = omega arith;
     header = λ m. refl;
     around = λ m i out. refl;
     fits = λ m fit there apart within. fit;
-    far = λ k m0 m keeps is. write_begins (staged c m) n at w;
+    far = λ k m0 m keeps is. write_begins (staged a.draft.changes m) n at w;
   }
 
-  pub written_more : (h h' h'' : LogState D) (c c' c'' : Changes) (n at : ℕ) (w : List ℕ) (index : ℕ) → IsLawful (state h.device)
-      → at / 512 ≤ index → WrittenUpTo h h' c c' n at w index → Reads state h' h''
-      → WritesBlock state h' h'' c' c'' n index at w → WrittenUpTo h h'' c c'' n at w (index + 1)
-  written_more h h' h'' c c' c'' n at w index lawful le was reads more = record {
-    reads = reads_more state h h' h'' lawful was.reads reads;
+  pub written_more : (a b c : Store D) (n at : ℕ) (w : List ℕ) (index : ℕ) → IsLawful (state a.log.device) → at / 512 ≤ index
+      → WrittenUpTo a b n at w index → RedraftsUncounted state b c
+      → WritesBlock state b.log c.log b.draft.changes c.draft.changes n index at w → WrittenUpTo a c n at w (index + 1)
+  written_more a b c n at w index lawful le was redrafts more = record {
+    redrafts = record {
+      reads = reads_more state a.log b.log c.log lawful was.redrafts.reads redrafts.reads;
+      drafted = redrafts.drafted ∙ was.redrafts.drafted;
+    };
     loss = more.loss ∙ was.loss;
     headers = more.headers ∙ was.headers;
     few = let x = was.few in let y = more.few in omega (arith, x, y, le);
@@ -147,15 +152,17 @@ module _ {D : Type 0} (state : D → DeviceState) where
         out;
     fits = λ m fit there apart within.
         more.fits m (was.fits m fit there apart (λ none. (let few = within none in omega (arith, few))))
-        (takes_block c c' m n index was.loss (was.header m) there apart (λ none. (let few = within none in omega (arith, few))));
-    far = λ k m0 m keeps is. more.goes_on k m0 m (staged c m) keeps (held_still state h h' k m0 m was.reads is)
-        (was.far k m0 m (reads.looks.carries.kept_before keeps) is);
+        (takes_block a.draft.changes b.draft.changes m n index was.loss (was.header m) there apart
+        (λ none. (let few = within none in omega (arith, few))));
+    far = λ k m0 m keeps is. more.goes_on k m0 m (staged a.draft.changes m) keeps
+        (held_still state a.log b.log k m0 m was.redrafts.reads is)
+        (was.far k m0 m (redrafts.reads.looks.carries.kept_before keeps) is);
   }
 
   -- ---- all of them, and the header
   pub written : (a b c : Store D) (n : ℕ) (head : Header) (at : ℕ) (w : List ℕ) (index : ℕ) → c.log ≡ b.log → 0 < length w
       → at / 512 ≤ index → index ≡ div_ceil (at + length w) 512
-      → WrittenUpTo a.log b.log a.draft.changes b.draft.changes n at w index
+      → WrittenUpTo a b n at w index
       → PutsHeader b.draft.changes c.draft.changes n (resized head (max head.size (at + length w)))
       → Writes (files_of state a) (files_of state c) n head at w
   written a b c n head at w index log some le end was puts = record {
@@ -165,7 +172,7 @@ module _ {D : Type 0} (state : D → DeviceState) where
     fits = fits;
     file = λ m m' keeps has. record {
       map = staged c.draft.changes m;
-      has = still_has a c m m' (subst (Reads state a.log) (sym log) was.reads) has;
+      has = still_has a c m m' (subst (Reads state a.log) (sym log) was.redrafts.reads) has;
       file = file m m' (subst (λ (x : LogMap). WriteSoFar x (staged b.draft.changes m) n at w index) (sym has.draft)
           (was.far has.checkpoint has.acknowledged m (subst (λ (h : LogState D). (state h.device).keeps_model) log keeps) has.holds));
       around = λ i out. ap (λ (x : LogMap). x.block n i) (puts.map m)

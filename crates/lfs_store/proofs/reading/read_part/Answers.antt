@@ -1,9 +1,5 @@
-use Rattle.std.specs.Prelude.{Result, IfErr}
 use Rattle.std.proofs.Common.{◌+◌, ◌≡◌, ◌≤◌, ℕ, subst, arith}
-use Rattle.lfs_cleaner.specs.log.LogState.{IsReadFault}
-use Rattle.lfs_files.specs.declared.fault.StoreFault.{StoreFault}
-use Rattle.lfs_files.specs.declared.fault.StoreFault.TheVariants.{NoMemory}
-use Rattle.lfs_store.proofs.Endings.{same_exit}
+use Rattle.lfs_store.proofs.Endings.{fails_so}
 use Rattle.lfs_cleaner.proofs.of_log.LogReads.{fault_more}
 use Rattle.lfs_store.proofs.ReadParts.{ReadUpTo, read_more, reads_part}
 use Rattle.lfs_store.proofs.reading.read_part.Goals as goal
@@ -22,9 +18,7 @@ loop-at-preserved g c =
 
 pub returns-in_err-append-clause-failed : goal.returns-in_err-append-clause-failed
 returns-in_err-append-clause-failed g c =
-    same_exit c.from_residual.result c.in_err-append.field-0.0
-    (λ (r : Result _ StoreFault). IfErr r (λ (fault : StoreFault). (fault ≡ NoMemory → ⊥)
-    → IsReadFault g.D.SectorDevice.state c.args.log.now c.append.new.log)) c.from_residual.ensures
+    fails_so c.from_residual.result c.in_err-append.field-0.0 c.from_residual.ensures
     (λ other. fault_more g.D.SectorDevice.state c.args.log.now c.loop-at.log c.append.new.log c.loop-at.invariant.1.reads
     (c.in_err-append.ensures.failed other))
 

@@ -1,49 +1,36 @@
 use Rattle.std.proofs.Common.{◌≡◌, ◌≤◌, ◌+◌, ◌/◌, refl, arith, rules, ℕ, length, sym, subst}
-use Rattle.lfs_cleaner.specs.log.LogState.{IsReadFault}
-use Rattle.std.specs.Prelude.{Result, Err, IfErr}
-use Rattle.lfs_files.specs.declared.fault.StoreFault.{StoreFault}
-use Rattle.lfs_files.specs.declared.fault.StoreFault.TheVariants.{NoMemory}
 use Rattle.lfs_cleaner.proofs.of_log.of_memory.Going.{ok_then}
 use Rattle.lfs_store.specs.Drafting.{PutsHeader}
 use Rattle.std.specs.Int.{div_ceil}
 use Rattle.lfs_store.specs.Growing.{IsRun}
 use Rattle.lfs_store.specs.Writing.{resized}
 use Rattle.lfs_cleaner.proofs.of_log.Unsaved.{none_left}
-use Rattle.lfs_cleaner.proofs.of_log.LogReads.{reads_none, fault_more}
-use Rattle.lfs_store.proofs.Keepings.{uncounted_drafts, uncounted_none, uncounted_then}
+use Rattle.lfs_cleaner.proofs.of_log.LogReads.{fault_more}
+use Rattle.lfs_store.proofs.Endings.{fails_so}
+use Rattle.lfs_store.proofs.Keepings.{uncounted_drafts, uncounted_then}
 use Rattle.lfs_store.proofs.Writings.{written_none, written_more, written}
 use Rattle.lfs_store.proofs.Runs.{blocks_few, blocks_most, lone_room, run_goes_on, written_room}
 use Rattle.lfs_store.proofs.store.Store.draft_write.Goals as goal
 
 pub loop-index-init : goal.loop-index-init
 loop-index-init g c = (
-  written_none g.D.SectorDevice.state c.args.self.now.log c.args.self.now.draft.changes c.args.number.value c.args.at c.args.bytes.now
-      (reads_none g.D.SectorDevice.state c.args.self.now.log),
-  uncounted_none g.D.SectorDevice.state c.args.self.now,
+  written_none g.D.SectorDevice.state c.args.self.now c.args.number.value c.args.at c.args.bytes.now,
   λ none. subst (IsRun c.args.number.value (c.args.at / 512) (c.args.at / 512)) (sym none) refl,
 )
 
 pub returns-in_err-write_block-clause-failed : goal.returns-in_err-write_block-clause-failed
 returns-in_err-write_block-clause-failed g c =
-    let failed : (c.in_err-write_block.field-0.0 ≡ NoMemory → ⊥)
-    → IsReadFault g.D.SectorDevice.state c.args.self.now.log c.write_block.new.self.log =
-    λ other. fault_more g.D.SectorDevice.state c.args.self.now.log c.loop-index.self.log c.write_block.new.self.log
-    c.loop-index.invariant.0.reads (c.in_err-write_block.ensures.failed other)
-    in
-    let is : c.from_residual.result ≡ Err c.in_err-write_block.field-0.0 = search rules in
-    subst (λ (r : Result Unit StoreFault). IfErr r (λ (fault : StoreFault). (fault ≡ NoMemory → ⊥)
-    → IsReadFault g.D.SectorDevice.state c.args.self.now.log c.write_block.new.self.log)) (sym is) failed
+    fails_so c.from_residual.result c.in_err-write_block.field-0.0 c.from_residual.ensures
+    (λ other. fault_more g.D.SectorDevice.state c.args.self.now.log c.loop-index.self.log c.write_block.new.self.log
+    c.loop-index.invariant.0.redrafts.reads (c.in_err-write_block.ensures.failed other))
 
 pub loop-index-preserved : goal.loop-index-preserved
 loop-index-preserved g c = (
-  written_more g.D.SectorDevice.state c.args.self.now.log c.loop-index.self.log c.write_block.new.self.log c.args.self.now.draft.changes
-      c.loop-index.self.draft.changes c.write_block.new.self.draft.changes
-      c.args.number.value c.args.at c.args.bytes.now c.loop-index.index (g.met.D.SectorDevice.lawful c.args.self.now.log.device)
-      (search rules) c.loop-index.invariant.0 c.write_block.ensures.redrafts.reads c.in_ok-write_block.ensures.done,
-  uncounted_then g.D.SectorDevice.state c.args.self.now c.loop-index.self c.write_block.new.self
-      (g.met.D.SectorDevice.lawful c.args.self.now.log.device) c.loop-index.invariant.1 c.write_block.ensures.redrafts,
+  written_more g.D.SectorDevice.state c.args.self.now c.loop-index.self c.write_block.new.self c.args.number.value c.args.at
+      c.args.bytes.now c.loop-index.index (g.met.D.SectorDevice.lawful c.args.self.now.log.device) (search rules)
+      c.loop-index.invariant.0 c.write_block.ensures.redrafts c.in_ok-write_block.ensures.done,
   λ none. run_goes_on c.loop-index.self.draft.changes c.write_block.new.self.draft.changes c.args.number.value
-      (c.args.at / 512) c.loop-index.index (c.loop-index.invariant.2 none) c.in_ok-write_block.ensures.placed,
+      (c.args.at / 512) c.loop-index.index (c.loop-index.invariant.1 none) c.in_ok-write_block.ensures.placed,
 )
 
 pub returns-clause-done : goal.returns-clause-done
@@ -57,11 +44,11 @@ returns-clause-done g c =
 pub returns-in_err-write_block-clause-redrafts : goal.returns-in_err-write_block-clause-redrafts
 returns-in_err-write_block-clause-redrafts g c =
     uncounted_then g.D.SectorDevice.state c.args.self.now c.loop-index.self c.write_block.new.self
-    (g.met.D.SectorDevice.lawful c.args.self.now.log.device) c.loop-index.invariant.1 c.write_block.ensures.redrafts
+    (g.met.D.SectorDevice.lawful c.args.self.now.log.device) c.loop-index.invariant.0.redrafts c.write_block.ensures.redrafts
 
 pub returns-clause-redrafts : goal.returns-clause-redrafts
 returns-clause-redrafts g c =
-    uncounted_drafts g.D.SectorDevice.state c.args.self.now c.loop-index.self c.resize.new.self c.loop-index.invariant.1
+    uncounted_drafts g.D.SectorDevice.state c.args.self.now c.loop-index.self c.resize.new.self c.loop-index.invariant.0.redrafts
     c.resize.ensures.keeps
 
 pub returns-clause-room : goal.returns-clause-room
@@ -70,7 +57,7 @@ returns-clause-room g c =
     ok_then c.resize.result _ _
     (λ puts none few. written_room c.args.self.now.draft.changes c.loop-index.self.draft.changes c.resize.new.self.draft.changes
     c.args.number.value (c.args.at / 512) c.loop-index.index _ none
-    c.loop-index.invariant.0.headers (c.loop-index.invariant.2 none.blocks)
+    c.loop-index.invariant.0.headers (c.loop-index.invariant.1 none.blocks)
     (subst (λ (i : ℕ). i ≤ c.args.at / 512 + 129) (sym end) (blocks_few c.args.at (length c.args.bytes.now) few)) puts)
     c.resize.ensures.done
 
@@ -81,6 +68,6 @@ returns-clause-asked g c =
     (λ puts lone. lone_room c.args.self.now.draft.changes c.loop-index.self.draft.changes c.resize.new.self.draft.changes
     c.args.number.value (c.args.at / 512) c.loop-index.index _ lone.headers
     c.loop-index.invariant.0.headers
-    (c.loop-index.invariant.2 (none_left c.args.self.now.draft.changes.blocks.items (let none = lone.blocks in omega (arith, none))))
+    (c.loop-index.invariant.1 (none_left c.args.self.now.draft.changes.blocks.items (let none = lone.blocks in omega (arith, none))))
     (subst (λ (i : ℕ). i ≤ c.args.at / 512 + 257) (sym end) (blocks_most c.args.at (length c.args.bytes.now) lone.few)) puts)
     c.resize.ensures.done

@@ -1,4 +1,3 @@
-use Rattle.std.proofs.Common.{refl}
 use Rattle.lfs_files.specs.Headers.{reformed}
 use Rattle.lfs_store.proofs.StoreMade.{header_counts, reforms}
 use Rattle.lfs_store.proofs.store.Store.reform.Goals as goal
@@ -12,4 +11,4 @@ pub returns-clause-counted : goal.returns-clause-counted
 returns-clause-counted g c =
     header_counts g.D.SectorDevice.state c.args.self.now c.put_header.new.self c.args.self.now.drafted c.args.number.value c.args.header
     (reformed c.args.header c.args.form c.args.size) c.args.number.some
-    c.args.number.few refl c.in-Ok.ensures.done.map
+    c.args.number.few c.in-Ok.ensures.done.map

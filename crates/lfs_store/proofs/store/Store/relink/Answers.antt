@@ -1,4 +1,3 @@
-use Rattle.std.proofs.Common.{refl}
 use Rattle.lfs_files.specs.Headers.{relinked}
 use Rattle.lfs_store.proofs.StoreMade.{header_counts, relinks}
 use Rattle.lfs_store.proofs.store.Store.relink.Goals as goal
@@ -12,4 +11,4 @@ pub returns-clause-counted : goal.returns-clause-counted
 returns-clause-counted g c =
     header_counts g.D.SectorDevice.state c.args.self.now c.put_header.new.self c.args.self.now.drafted c.args.number.value c.args.header
     (relinked c.args.header c.args.links) c.args.number.some c.args.number.few
-    refl c.in-Ok.ensures.done.map
+    c.in-Ok.ensures.done.map
