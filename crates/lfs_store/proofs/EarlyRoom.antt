@@ -1,5 +1,5 @@
 -- Room in memory that early writes make.
-use Rattle.std.proofs.Common.{◌≡◌, ◌<◌, ◌≤◌, ◌⊎◌, ◌+◌, ◌/◌, inl, inr, ⊎_elim, Bool, true, false, ℕ, length, refl, sym}
+use Rattle.std.proofs.Common.{◌≡◌, ◌<◌, ◌≤◌, ◌⊎◌, ◌+◌, ◌/◌, inl, inr, ⊎_elim, true, false, ℕ, length, refl, sym}
 use Rattle.std.proofs.Common.{◌∙◌, subst, arith}
 use Rattle.lfs_model.specs.Content.{Content}
 use Rattle.lfs_model.specs.Crash.{StandsOn}
@@ -7,8 +7,8 @@ use Rattle.lfs_model.specs.Device.{DeviceState, IsLawful}
 use Rattle.lfs_model.specs.Totals.{IsCounted}
 use Rattle.lfs_model.proofs.Moments.{carries_none, started, weaker}
 use Rattle.lfs_cleaner.specs.log.verify.declared.totals.BlockTotals.{BlockTotals}
-use Rattle.lfs_cleaner.specs.log.LogState.{AreAllSaved, LogState, IsSaved, Saves, WritesEarly}
-use Rattle.lfs_cleaner.specs.log.Saving.{commit_orders, orders_for}
+use Rattle.lfs_cleaner.specs.log.LogState.{AreAllSaved, LogState, IsSaved, WritesEarly}
+use Rattle.lfs_cleaner.specs.log.Saving.{commit_orders}
 use Rattle.lfs_cleaner.specs.Room.{KeepsMap, MakesRoom, most_checkpoints, passes_orders, room_orders}
 use Rattle.lfs_cleaner.proofs.of_log.LogReads.{acknowledged}
 use Rattle.lfs_cleaner.proofs.RoomBounds.{same_need}
@@ -113,45 +113,6 @@ module _ {D : Type 0} (state : D → DeviceState) where
         able = λ k m0 m keeps may.
             (let next = one.able k m0 m (two.room.keeps.carries.kept_before keeps) may in two.able next.0 next.1 m keeps next.2);
       }
-
-  -- one commit, or less
-  pub once_early : (a b : LogState D) → WritesEarly state a b → (b ≡ a) ⊎ (HasClean b ⊎ ((b.saved ≡ true) × AreAllSaved b))
-  once_early a b w = ⊎_elim (λ (same : b ≡ a). inl same) (λ (clean : HasClean b). inr (inl clean)) (early_clean D state a b w)
-
-  module _ (a b c : LogState D) (still : a.saved ≡ true → b ≡ a) (same : b.saved ≡ a.saved) (quiet : b.saved ≡ true → c ≡ b)
-      (saves : b.saved ≡ false → Saves state b c) where
-    pub once_saved : c.saved ≡ true → (c ≡ a) ⊎ (HasClean c ⊎ ((c.saved ≡ true) × AreAllSaved c))
-    once_saved all = by_flag a.saved refl
-      where
-        by_flag : (flag : Bool) → a.saved ≡ flag → (c ≡ a) ⊎ (HasClean c ⊎ ((c.saved ≡ true) × AreAllSaved c))
-        by_flag true e = inl (quiet (same ∙ e) ∙ still e)
-        by_flag false e = inr (inr (all, (saves (same ∙ e)).empty))
-
-    pub clean_saved : a.waiting ≤ 456 → WritesEarly state a b → a.clean ≤ c.clean + 8
-    clean_saved few w = by_flag a.saved refl
-      where
-        by_flag : (flag : Bool) → a.saved ≡ flag → a.clean ≤ c.clean + 8
-        by_flag true e =
-            let all = quiet (same ∙ e) ∙ still e in
-            subst (λ (x : LogState D). a.clean ≤ x.clean + 8) (sym all) (omega arith)
-        by_flag false e =
-            let taken = w.taken in
-            let emptied = w.emptied in
-            let more = (saves (same ∙ e)).taken in
-            omega (arith, taken, emptied, more, few)
-
-  pub clean_early : (a b : LogState D) → a.waiting ≤ 456 → WritesEarly state a b
-      → a.clean ≤ b.clean + 8
-  clean_early a b few w = let taken = w.taken in omega (arith, taken, few)
-
-  pub told_early : (a b : LogState D) → a.waiting ≤ 456 → WritesEarly state a b
-      → length (state b.device).told ≤ length (state a.device).told + commit_orders
-  told_early a b few w = let told = w.told in omega (arith, told, few)
-
-  pub told_saved : (a b : LogState D) (told : ℕ) → a.waiting ≤ 456 → WritesEarly state a b
-      → told ≤ length (state b.device).told + orders_for b.waiting
-      → told ≤ length (state a.device).told + commit_orders
-  told_saved a b told few w more = let gave = w.told in omega (arith, gave, more, few)
 
   -- segments are cleaned behind it: where that was done after a commit, no second one comes
   pub told_cleaned : (a b c : LogState D) → (b ≡ a) ⊎ (HasClean b ⊎ ((b.saved ≡ true) × AreAllSaved b))

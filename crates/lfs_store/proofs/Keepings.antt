@@ -5,7 +5,6 @@ use Rattle.lfs_model.specs.Device.{DeviceState, IsLawful}
 use Rattle.lfs_files.specs.declared.fault.LogFault.{LogFault}
 use Rattle.lfs_files.specs.declared.fault.LogFault.TheVariants.{Full, Halted}
 use Rattle.lfs_cleaner.specs.log.LogState.{IsReadFault, LogState, Reads}
-use Rattle.lfs_store.specs.declared.draft.Draft.{Draft}
 use Rattle.lfs_store.specs.declared.store.Store.{Store}
 use Rattle.lfs_files.specs.Files as files
 use Rattle.lfs_store.specs.Keeping.{DraftsUncounted, OnlyCounts, ReadsLog, RedraftsUncounted}
@@ -18,7 +17,7 @@ abbrev pub error_of : (T : Type 0) → LogFault → Result T LogFault
 error_of T fault = Err fault
 
 module _ {D : Type 0} (state : D → DeviceState) where
-  pub uncounted_none : (a : Store D) → RedraftsUncounted state a a
+  uncounted_none : (a : Store D) → RedraftsUncounted state a a
   uncounted_none a = record { reads = reads_none state a.log; drafted = refl }
 
   pub uncounted_then : (a b c : Store D) → IsLawful (state a.log.device) → RedraftsUncounted state a b → RedraftsUncounted state b c
@@ -36,9 +35,6 @@ module _ {D : Type 0} (state : D → DeviceState) where
 
   pub drafts_uncounted : (a b : Store D) → DraftsUncounted a b → RedraftsUncounted state a b
   drafts_uncounted a b one = uncounted_drafts a a b (uncounted_none a) one
-
-  pub reads_uncounted : (a b : Store D) (d : Draft) → ReadsStore state a b → RedraftsUncounted state a (record b { draft = d })
-  reads_uncounted a b d one = record { reads = one.log; drafted = one.drafted }
 
   -- the log stays
   pub same_redrafts : (a b : Store D) → b.log ≡ a.log → files.Redrafts (files_of state a) (files_of state b)
