@@ -30,7 +30,7 @@
  * Where a write or a sync of the device fails, call pansuyog_abandon, and begin anew with 1: the device holds what a loss of power may
  * leave. A write may be tried again before; a sync that failed may not.
  *
- * Memory. The library keeps the sectors, of 514 bytes each, the orders that wait, of 520 each, and 0.6 to 4.7 MB besides. Where memory
+ * Memory. The library keeps the sectors, of 514 bytes each, the orders that wait, of 520 each, and 0.7 to 4.7 MB besides. Where memory
  * for an order is refused the volume is halted, as by a device that failed: unmount it, and begin anew. pansuyog_mount takes memory for
  * `room` orders before; 1,100 are enough, where orders are carried out after each call, unless the cleaner has to make much room at once
  * on a large volume that is nearly full. Then more memory is asked for.
