@@ -1,4 +1,4 @@
--- Log maps with a file made, with other links, and gone.
+-- What a log map keeps with a file made, with other links of one, and without one.
 use Rattle.std.specs.Prelude.{slice_index}
 use Rattle.std.proofs.Common.{◌≡◌, ◌≤◌, ◌/◌, ◌%◌, ⊎_elim, ℕ, List, [], ◌∷◌, length, Option, Some, None, refl, sym, ◌∙◌, ap}
 use Rattle.std.proofs.Common.{subst, arith}

@@ -1,4 +1,4 @@
--- The totals of a draft that writes, cuts, makes or removes one file.
+-- The totals where a file is made, gets other links, or goes at once.
 use Rattle.std.proofs.Common.{◌≡◌, ◌<◌, ◌≤◌, ⊎_elim, ◌+◌, ℕ, false, length, List, [], ◌∷◌, Option, Some, None, refl, sym}
 use Rattle.std.proofs.Common.{◌∙◌, ap, subst, arith}
 use Rattle.lfs_model.specs.Device.{DeviceState, IsLawful}

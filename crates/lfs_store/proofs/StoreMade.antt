@@ -1,4 +1,4 @@
--- What calls of a store that make files, relink and remove them are to the layers above.
+-- What drafts of files made, reformed, relinked and removed are to the layers above.
 use Rattle.std.proofs.Common.{◌≡◌, ◌<◌, ◌≤◌, ◌==◌, ℕ, length, Some, None, refl, sym, ◌∙◌, ap, ap₂, subst, arith}
 use Rattle.std.proofs.lemmas.Bool.{ne_eqb}
 use Rattle.lfs_model.specs.Device.{DeviceState}

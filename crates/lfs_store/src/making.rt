@@ -149,39 +149,14 @@ impl<D: SectorDevice> Store<D> {
         ensures failed { IfErr result (λ fault. fault ≡ StoreFault.NoMemory) }
     {
         if links == 0 {
-            self.lose_link(number, header);
+            self.draft.lose(Loss::Link(LastLink {
+                number: number.value,
+                kind: header.kind,
+                form: header.form,
+                size: header.size,
+            }));
             return Ok(());
         }
-        self.relink(number, header, links)
-    }
-
-    /// A file of this header has no link any more.
-    fn lose_link(&mut self, number: FileNumber, header: Header)
-        requires empty { IsNoChange self.old.draft.changes }
-        ensures keeps { DraftsUncounted self.old self.new }
-        ensures done { SetsLinks (files_of D.SectorDevice.state self.old)
-            (files_of D.SectorDevice.state self.new) number.value header 0 }
-        ensures counted { CountsRelinked (files_of D.SectorDevice.state self.old)
-            (files_of D.SectorDevice.state self.new) number.value header }
-    {
-        self.draft.lose(Loss::Link(LastLink {
-            number: number.value,
-            kind: header.kind,
-            form: header.form,
-            size: header.size,
-        }));
-    }
-
-    /// A file of this header has other links, and at least one.
-    fn relink(&mut self, number: FileNumber, header: Header, links: u32) -> Result<(), StoreFault>
-        requires linked { 1 ≤ links }
-        ensures keeps { DraftsUncounted self.old self.new }
-        ensures done { OnOk result (SetsLinks (files_of D.SectorDevice.state self.old)
-            (files_of D.SectorDevice.state self.new) number.value header links) }
-        ensures counted { OnOk result (CountsRelinked (files_of D.SectorDevice.state self.old)
-            (files_of D.SectorDevice.state self.new) number.value header) }
-        ensures failed { IfErr result (λ fault. fault ≡ StoreFault.NoMemory) }
-    {
         let header = Header {
             kind: header.kind,
             form: header.form,
