@@ -1,5 +1,5 @@
 -- What calls of a store are to the layers above.
-use Rattle.std.specs.Prelude.{IfErr, IfOk, IsFalse, OnOk}
+use Rattle.std.specs.Prelude.{IfOk, IsFalse, OnOk}
 use Rattle.std.proofs.Common.{◌≡◌, ◌-◌, ℕ, Bool, List, Option, Result, Ok, Err, length, refl, sym, ◌∙◌, ap, subst}
 use Rattle.lfs_model.specs.Bytes.{part}
 use Rattle.lfs_model.specs.Device.{DeviceState}
@@ -72,11 +72,6 @@ module _ {D : Type 0} (state : D → DeviceState) (a b : Store D) where
 
   pub seen_fault : IsReadFault state a.log b.log → files.IsFault S S'
   seen_fault failed m m' keeps is = failed is.checkpoint is.acknowledged m keeps is.holds
-
-  pub seen_fault_by : {T E : Type 0} (P : E → Type 0) (r : Result T E) → IfErr r (λ e. P e → IsReadFault state a.log b.log)
-      → IfErr r (λ e. P e → files.IsFault S S')
-  seen_fault_by P (Ok x) failed = record {}
-  seen_fault_by P (Err e) failed = λ other. seen_fault (failed other)
 
   pub seen_header : (n : ℕ) (found : Option Header) → ReadsHeader state a.log b.log a.draft.changes n found → files.TellsHeader S S' n found
   seen_header n found answer m m' keeps is =

@@ -1,5 +1,5 @@
-use Rattle.std.proofs.lemmas.Result.{IfOk-weaker}
-use Rattle.lfs_store.proofs.StoreSeen.{seen_fault_by, seen_part, seen_read}
+use Rattle.std.proofs.lemmas.Result.{IfErr-weaker, IfOk-weaker}
+use Rattle.lfs_store.proofs.StoreSeen.{seen_fault, seen_part, seen_read}
 use Rattle.lfs_store.proofs.files.StoreFiles.read_at.Goals as goal
 
 pub returns-clause-reads : goal.returns-clause-reads
@@ -14,4 +14,5 @@ returns-clause-answer g c =
 
 pub returns-clause-failed : goal.returns-clause-failed
 returns-clause-failed g c =
-    seen_fault_by g.D.SectorDevice.state c.args.self.now c.read_at.new.self _ c.read_at.result c.read_at.ensures.failed
+    IfErr-weaker c.read_at.result _ _
+    (λ fault failed other. seen_fault g.D.SectorDevice.state c.args.self.now c.read_at.new.self (failed other)) c.read_at.ensures.failed
