@@ -71,7 +71,8 @@ impl<D: SectorDevice> Store<D> {
         ensures done { OnOk result (Shrinks (files_of D.SectorDevice.state self.old)
             (files_of D.SectorDevice.state self.new) number.value header len) }
         ensures only { OnOk result (ChangesOnly (files_of D.SectorDevice.state self.old)
-            (files_of D.SectorDevice.state self.new) number.value (len / SECTOR_LEN) (len / SECTOR_LEN + 1)) }
+            (files_of D.SectorDevice.state self.new) number.value (len / SECTOR_LEN)
+            (len / SECTOR_LEN + 1)) }
         ensures failed { IfErr result (λ fault. (fault ≡ StoreFault.NoMemory → ⊥)
             → IsReadFault D.SectorDevice.state self.old.log self.new.log) }
         ensures halted { IsErrOf result (StoreFault.Log LogFault.Halted)

@@ -79,7 +79,8 @@ impl<D: SectorDevice> Store<D> {
             (files_of D.SectorDevice.state self.new) }
         ensures done { OnOk result (Writes (files_of D.SectorDevice.state self.old)
             (files_of D.SectorDevice.state self.new) number.value header at bytes.now) }
-        ensures room { OnOk result (IsNoChange self.old.draft.changes → length bytes.now ≤ LONGEST_TRANSFER
+        ensures room { OnOk result (IsNoChange self.old.draft.changes
+            → length bytes.now ≤ LONGEST_TRANSFER
             → room_for self.new.draft.changes ≤ asked_by_transfer) }
         ensures asked { OnOk result (IsLoneWrite (files_of D.SectorDevice.state self.old) bytes.now
             → (files_of D.SectorDevice.state self.new).asked ≤ asked_by_directory) }
@@ -118,7 +119,8 @@ impl<D: SectorDevice> Store<D> {
         ensures redrafts { RedraftsUncounted D.SectorDevice.state self.old self.new }
         ensures done { OnOk result (Writes (files_of D.SectorDevice.state self.old)
             (files_of D.SectorDevice.state self.new) number.value header at bytes.now) }
-        ensures room { OnOk result (IsNoChange self.old.draft.changes → length bytes.now ≤ LONGEST_TRANSFER
+        ensures room { OnOk result (IsNoChange self.old.draft.changes
+            → length bytes.now ≤ LONGEST_TRANSFER
             → room_for self.new.draft.changes ≤ asked_by_transfer) }
         ensures asked { OnOk result (IsLoneWrite (files_of D.SectorDevice.state self.old) bytes.now
             → (files_of D.SectorDevice.state self.new).asked ≤ asked_by_directory) }
