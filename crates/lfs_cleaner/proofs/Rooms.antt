@@ -246,14 +246,6 @@ module _ {D : Type 0} (state : D → DeviceState) where
         saved = inr (cleans_all h h' vs s);
       }
 
-  pub repeats_weaker : (a b : LogState D) (x y : ℕ) → Repeats state a b x → x ≤ y → Repeats state a b y
-  repeats_weaker a b x y one le = record {
-    passes = (let w = one.passes in let few = w.1 in (w.0, omega (arith, few, le), w.2));
-    keeps = keeps_weaker a b x y one.keeps le;
-    no_failure = one.no_failure;
-    saved = one.saved;
-  }
-
   -- what was done first, and then the rest
   passes_then : (a b c : LogState D) (x y : ℕ) → PassesOn state x a b → PassesOn state y b c
       → (count : ℕ) × (count ≤ x + y) × PassesOn state count a c

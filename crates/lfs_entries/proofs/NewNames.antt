@@ -6,21 +6,13 @@ use Rattle.lfs_files.specs.Files.{Counts, FilesState, IsApart, IsFault, Redrafts
 use Rattle.lfs_files.specs.Headers.{as_header}
 use Rattle.lfs_files.specs.Making.{CountsRelinked, SetsLinks}
 use Rattle.lfs_path.specs.dirs.Adding.{Adds}
-use Rattle.lfs_path.specs.dirs.Growing.{GrowsDirectory}
 use Rattle.lfs_entries.specs.Drafting.{Relinks}
-use Rattle.lfs_entries.specs.NewNames.{CountsEntry, CountsName, DraftsEntry, DraftsName, LacksObject, holder_with}
+use Rattle.lfs_entries.specs.NewNames.{CountsEntry, CountsName, DraftsEntry, LacksObject, holder_with}
 use Rattle.lfs_entries.specs.NewObjects.{CountsObject, DraftsObject, IsMade, NewKind, makes_directory}
 use Rattle.lfs_entries.proofs.NewObjects.{made_log}
 
 module _ {S D : Type 0} where
   -- ---- draft behind draft
-  pub grows_then : (a b c : FilesState S D) (h k h' k' : ℕ) → GrowsDirectory a b h k → GrowsDirectory b c h' k'
-      → GrowsDirectory a c (h + h') (k + k')
-  grows_then a b c h k h' k' first second = record {
-    headers = let x = first.headers in let y = second.headers in omega (arith, x, y);
-    blocks = let x = first.blocks in let y = second.blocks in omega (arith, x, y);
-  }
-
   pub apart_same : (a b : FilesState S D) (n : ℕ) → ((x : _) → b.lost x ≡ a.lost x) → IsApart a.lost n → IsApart b.lost n
   apart_same a b n same is = record { inode = same _ ∙ is.inode; above = λ i. same _ ∙ is.above i }
 
@@ -112,26 +104,6 @@ module _ {S D : Type 0} (s a b s' : FilesState S D) (d : ℕ) (head : Header) (n
 -- ---- a link more of an object, and its name
 module _ {S D : Type 0} (s a s' : FilesState S D) (d : ℕ) (head : Header) (n : ℕ) (object : Header) (name : List ℕ)
     (sets : SetsLinks s a n object (object.links + 1)) (adds : Adds a s' d head n name) where
-  same_lost : (x : _) → a.lost x ≡ s.lost x
-  same_lost = sets.lost (omega arith)
-
-  pub name_drafted : DraftsName s s' d head n object name
-  name_drafted = record {
-    lost = λ x. adds.writes.lost x ∙ same_lost x;
-    fits = λ m m' has fits takes.
-        let l = sets.has m m' has in
-        adds.writes.fits m l.map l.has (sets.fits m m' has fits takes.links) record {
-          there = l.file.others d takes.other ∙ takes.there;
-          apart = apart_same s a d same_lost takes.named.apart;
-          within = λ none. absurd (takes.named.staged none);
-          header = takes.named.longer;
-        };
-    has = λ m m' keeps has.
-        let l = sets.has m m' has in
-        let f = adds.has m l.map keeps l.has in
-        record { linked = l.map; map = f.map; has = f.has; links = l.file; names = record { file = f.file; more = f.more } };
-  }
-
   pub name_counted : CountsRelinked s a n object → Counts a s' → CountsName s s' n object
   name_counted relinks recounts m x y keeps has has' log there log' are =
       let l = sets.has m x has in

@@ -19,7 +19,6 @@ use Rattle.lfs_files.specs.declared.header.Header.{Header}
 use Rattle.lfs_files.specs.Files.{Counts, FilesState, Writes, WritesFile}
 use Rattle.lfs_files.specs.Headers.{FitsHeader, as_header, first_header, resized}
 use Rattle.lfs_files.specs.Making.{CountsMade, Makes}
-use Rattle.lfs_path.specs.dirs.Growing.{GrowsDirectory}
 use Rattle.lfs_entries.specs.NewObjects.{CountsObject, DraftsObject, IsMade, NewKind, form_of_new, kind_of_new, new_directory, new_file}
 use Rattle.lfs_entries.specs.NewObjects.{new_header, new_link}
 
@@ -146,12 +145,6 @@ module _ {S D : Type 0} (s s' : FilesState S D) (n : ℕ) where
   pub made_counted : CountsMade s s' n → CountsObject s s' n
   made_counted counts m a b keeps has has' log log' free = counts m a b has has' log free
 
-  pub made_grows : (h : Header) → Makes s s' n h → GrowsDirectory s s' 2 2
-  made_grows h makes = record {
-    headers = let more = makes.headers in omega (arith, more);
-    blocks = let same = makes.blocks in omega (arith, same);
-  }
-
 -- a link: its header, and then its text
 module _ {S D : Type 0} (s a s' : FilesState S D) (n : ℕ) (text : List ℕ) (short : length text ≤ 1023)
     (makes : Makes s a n (first_header kind.Link 0 (length text))) where
@@ -183,9 +176,3 @@ module _ {S D : Type 0} (s a s' : FilesState S D) (n : ℕ) (text : List ℕ) (s
   link_counted made counts m x y keeps has has' log log' free are =
       let f = makes.has m x has in
       counts m f.map y keeps f.has has' (f.keeps log free tt) log' (made m x f.map has f.has log free are)
-
-  pub link_grows : Writes a s' n (first_header kind.Link 0 (length text)) 0 text → GrowsDirectory s s' 2 2
-  link_grows writes = record {
-    headers = let one = makes.headers in let more = writes.headers in omega (arith, one, more);
-    blocks = let same = makes.blocks in let more = writes.blocks in omega (arith, same, more, short);
-  }

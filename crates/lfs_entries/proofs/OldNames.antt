@@ -1,5 +1,5 @@
 -- Names drafted away, behind a link of what they give.
-use Rattle.std.proofs.Common.{◌≡◌, ◌≢◌, ◌<◌, ◌-◌, ℕ, Bool, true, false, List, length, Some, refl, sym, ◌∙◌, ap, subst, arith}
+use Rattle.std.proofs.Common.{◌≡◌, ◌≢◌, ◌<◌, ℕ, Bool, true, false, List, length, Some, refl, sym, ◌∙◌, ap, subst, arith}
 use Rattle.std.specs.FinMap.{find}
 use Rattle.lfs_model.specs.Changing.{IsWithHeader}
 use Rattle.lfs_model.specs.Encodes.{IsLogMap}
@@ -9,8 +9,7 @@ use Rattle.lfs_model.specs.Tree.{byte_cmp}
 use Rattle.lfs_files.specs.declared.header.Header.{Header}
 use Rattle.lfs_files.specs.Files.{Counts, FilesState, HasFile, Redrafts}
 use Rattle.lfs_files.specs.Headers.{as_header}
-use Rattle.lfs_files.specs.Making.{CountsRelinked, Removes, SetsLinks}
-use Rattle.lfs_path.specs.dirs.Growing.{GrowsDirectory}
+use Rattle.lfs_files.specs.Making.{CountsRelinked, Removes}
 use Rattle.lfs_path.specs.dirs.Taking.{CountsDropped, Takes}
 use Rattle.lfs_path.proofs.of_dirs.SlotsKept.{directory_stays}
 use Rattle.lfs_entries.specs.declared.entry.Entry.{Entry}
@@ -19,21 +18,12 @@ use Rattle.lfs_entries.specs.declared.fault.EntryFault.TheVariants as fault
 use Rattle.lfs_entries.specs.Drafting.{HasNamed, Relinks}
 use Rattle.lfs_entries.specs.Entries.{is_directory}
 use Rattle.lfs_entries.specs.OldNames.{CountsDrop, CountsLoss, DraftsDrop, HasBoth, HasOld, Loses, LosesLink, holder_without, stays}
-use Rattle.lfs_entries.specs.Telling.{FailsAt, FailsWhere}
+use Rattle.lfs_entries.specs.Telling.{FailsWhere}
 use Rattle.lfs_entries.proofs.NewNames.{apart_same}
 
 -- ---- an object loses a link
 
 module _ {S D : Type 0} (s s' : FilesState S D) (n : ℕ) (h : Header) where
-  pub loss_keeps : SetsLinks s s' n h (h.links - 1) → Loses s s' n h true
-  loss_keeps sets = record {
-    apart = λ k other. sets.apart k;
-    own = λ stay. sets.apart n;
-    fits = sets.fits;
-    has = λ m m' has. (let f = sets.has m m' has in
-        record { map = f.map; has = f.has; file = f.file; keeps = λ log there other. f.keeps log there });
-  }
-
   pub loss_goes : Removes s s' n → Loses s s' n h false
   loss_goes gone = record {
     apart = λ k other was. gone.apart k other;
@@ -41,12 +31,6 @@ module _ {S D : Type 0} (s s' : FilesState S D) (n : ℕ) (h : Header) where
     fits = λ m m' has fits takes. gone.fits m;
     has = λ m m' has. (let f = gone.has m m' has in
         record { map = f.map; has = f.has; file = f.file; keeps = λ log there. f.keeps log });
-  }
-
-  pub goes_grow : Removes s s' n → GrowsDirectory s s' 1 0
-  goes_grow gone = record {
-    headers = let none = gone.headers in omega (arith, none);
-    blocks = let none = gone.blocks in omega (arith, none);
   }
 
   pub keeps_counted : CountsRelinked s s' n h → CountsLoss s s' n h
@@ -172,19 +156,3 @@ module _ {S D : Type 0} (s a b s' : FilesState S D) (d : ℕ) (e : Entry) (is_op
       ((links.has m (lost m x has both) (lost_has m x has both)).counted (λ changes. there m x has both)
       (losses m x (lost m x has both) (two.looks.carries.kept_before (three.looks.carries.kept_before keeps)) has (lost_has m x has both)
       both.map (lost_log m x has both) both.object are))
-
--- a fault of a call on files fails where anything is so
-pub fails_anyway : {S D : Type 0} (s s' : FilesState S D) (P : LogMap → Type 0) (why : EntryFault) → FailsAt s s' why
-    → FailsWhere s s' P why
-fails_anyway s s' P fault.NoEntry never = never
-fails_anyway s s' P fault.NotDir never = never
-fails_anyway s s' P fault.IsDir never = never
-fails_anyway s s' P fault.Exist never = never
-fails_anyway s s' P fault.NotEmpty never = never
-fails_anyway s s' P fault.Inval never = never
-fails_anyway s s' P fault.NameTooLong never = never
-fails_anyway s s' P fault.Perm never = never
-fails_anyway s s' P fault.TooManyLinks never = never
-fails_anyway s s' P fault.DirFull never = never
-fails_anyway s s' P fault.NoMemory memory = tt
-fails_anyway s s' P (fault.Log f) failed = λ m m' keeps has is. failed m m' keeps has
