@@ -456,6 +456,7 @@ impl<D: SectorDevice> Log<D> {
     /// device failed. `Halted` once a write of the log failed.
     pub fn stage(&mut self, changes: &Changes, totals: BlockTotals) -> Result<(), LogFault>
         ensures done { OnOk result (IsStaged D.SectorDevice.state self.old self.new changes.now) }
+        ensures given_up { OnOk result (self.new.relocated ≡ None) }
         ensures counted { OnOk result (self.new.totals ≡ totals) }
         ensures kept { OnErr result (self.new.totals ≡ self.old.totals) }
         ensures refused { OnErr result (IsRefused D.SectorDevice.state self.old self.new
@@ -499,6 +500,7 @@ impl<D: SectorDevice> Log<D> {
     pub fn remove(&mut self, number: u16, totals: BlockTotals) -> Result<(), LogFault>
         requires { number < FILE_NUMBERS }
         ensures done { OnOk result (IsRemoved D.SectorDevice.state self.old self.new number) }
+        ensures given_up { OnOk result (self.new.relocated ≡ None) }
         ensures counted { OnOk result (self.new.totals ≡ totals) }
         ensures kept { OnErr result (IsKept D.SectorDevice.state self.old self.new) }
         ensures same { OnErr result (self.new.totals ≡ self.old.totals) }
@@ -577,6 +579,7 @@ impl<D: SectorDevice> Log<D> {
     /// device failed, here or as the log was written before.
     pub fn commit(&mut self) -> Result<(), LogFault>
         ensures done { OnOk result (Saves D.SectorDevice.state self.old self.new) }
+        ensures given_up { OnOk result (self.new.relocated ≡ None) }
         ensures totals { self.new.totals ≡ self.old.totals }
         ensures full { IsErrOf result LogFault.Full → (self.new ≡ self.old) × IsFull self.old }
         ensures halted { IsErrOf result LogFault.Halted → self.old.halted ≢ true
@@ -684,6 +687,7 @@ impl<D: SectorDevice> Log<D> {
     /// call of the device failed, here or as the log was written before.
     pub fn commit_relocated(&mut self) -> Result<(), LogFault>
         ensures done { OnOk result (SavesRelocated D.SectorDevice.state self.old self.new) }
+        ensures some { OnOk result (self.old.relocated ≢ None) }
         ensures totals { self.new.totals ≡ self.old.totals }
         ensures full { IsErrOf result LogFault.Full → self.new ≡ self.old }
         ensures lacks { IsErrOf result LogFault.Full → self.old.number < 2 ^ 64 - 1
