@@ -5,7 +5,7 @@ ghost use Rattle.lfs_model.specs.Fields.{le16, le32, le64, words, zeros};
 use byteorder::{ByteOrder, LittleEndian};
 use std::marker::Model;
 
-/// `L` bytes so far: contracts see those that are written.
+/// `L` bytes so far: contracts see those that are written. Zeros stand behind them.
 #[derive(Drop)]
 pub struct Writer<const L: usize> {
     bytes: [u8; L],
@@ -16,13 +16,13 @@ pub struct Writer<const L: usize> {
 pub type SectorWriter = Writer<512>;
 
 impl<const L: usize> Model for Writer<L> {
-    ghost use Rattle.std.specs.Prelude.{ℕ, List, take, length, ◌≤◌, ◌≡◌};
+    ghost use Rattle.std.specs.Prelude.{ℕ, List, take, drop, length, replicate, ◌-◌, ◌≤◌, ◌≡◌};
 
     ghost Value = { List ℕ };
 
     ghost view = { λ w. take w.at w.bytes };
 
-    ghost invariant = { λ w. (w.at ≤ L) × (length w.bytes ≡ L) };
+    ghost invariant = { λ w. (w.at ≤ L) × (length w.bytes ≡ L) × (drop w.at w.bytes ≡ replicate (L - w.at) 0) };
 }
 
 impl<const L: usize> Writer<L> {
@@ -47,16 +47,13 @@ impl<const L: usize> Writer<L> {
         self.at = end;
     }
 
-    /// Writes `len` zeros.
+    /// Writes `len` zeros, which stand there.
     pub fn zeros(&mut self, len: usize)
         requires { length self.old + len ≤ L }
         ensures written { self.new ≡ self.old ++ zeros len }
         ensures length { length self.new ≡ length self.old + len }
     {
-        let end = self.at + len;
-        let whole = &mut self.bytes[..];
-        whole[self.at..end].fill(0);
-        self.at = end;
+        self.at += len;
     }
 
     /// Writes a number of 2 bytes.

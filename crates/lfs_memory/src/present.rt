@@ -13,6 +13,7 @@ use lfs_device::{DeviceFault, SectorDevice};
 use lfs_files::Header;
 use lfs_inodes::{BlockKey, IN_MEMORY, header_of};
 use lfs_layout::word;
+use lfs_model::BlockKind;
 use lfs_model::limits::{BLOCK_POINTERS, FILE_NUMBERS, LAST_BLOCK, LAST_LEAF};
 
 /// The block of this key, whose pointer is known: in memory, or at its address on the device. What
@@ -212,7 +213,10 @@ pub fn locate<D: SectorDevice>(
     let Some(above) = key.parent() else {
         return Ok(memory.map.address(key.file()));
     };
-    let address = locate(device, memory, above)?;
+    let address = match above.kind() {
+        BlockKind::Inode => memory.map.address(above.file()),
+        _ => locate(device, memory, above)?,
+    };
     if address == 0 {
         return Ok(0);
     }
