@@ -486,7 +486,14 @@ impl Row<InodeMap> for Entry {
             Entry::Load(index, words) => map.load(index % 32, &PointerView::new(&block(words))),
             Entry::IsAt(number, address) => return map.address(number % 4_096) == address,
             Entry::LeastFree(number) => return map.least_free() == number,
-            Entry::Encodes(index, words) => return map.encode(index % 32) == block_of(words),
+            Entry::Encodes(index, words) => {
+                let mut bytes = [0; 512];
+                let shows = map.encode(index % 32, &mut bytes);
+                return match words {
+                    Some(words) => shows && bytes == block(words),
+                    None => !shows,
+                };
+            }
         }
         true
     }

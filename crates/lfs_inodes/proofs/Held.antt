@@ -16,7 +16,7 @@ use Rattle.lfs_model.specs.Running.{Dirty, IsTight}
 use Rattle.lfs_model.specs.Staging.{ChangesTo}
 use Rattle.lfs_model.specs.Tree.{without}
 use Rattle.lfs_model.proofs.Entries.{same_entry}
-use Rattle.lfs_inodes.specs.declared.table.Place.{Place}
+use Rattle.lfs_inodes.specs.declared.index.Place.{Place}
 use Rattle.lfs_inodes.specs.Code.{IsCode, entry_at}
 use Rattle.lfs_inodes.specs.Blocks.{Blocks, TableValue, blocks_in, number_at, altered_as, altered, HasNumberAt, IsGapFor, Capacity}
 use Rattle.lfs_inodes.specs.Held.{entry_in, entries_in, spots, times, one_below, IsTableOf, Capacities, Stores}
@@ -441,6 +441,9 @@ module _ (ps : List Place) (bs : List (List ℕ)) (spare : List ℕ) (most room 
   module _ (c i : ℕ) (gap : IsGapFor t.blocks c i) where
     gap_here : IsGapFor (entries_in ps bs) c i
     gap_here = subst (λ (u : TableValue). IsGapFor u.blocks c i) (sym view) gap
+
+    pub place_within : i ≤ length ps
+    place_within = let l = length-entries ps bs in let w = gap_here.within in omega (arith, l, w)
 
     module _ (left : find nat_cmp c t.blocks ≡ None → length t.blocks < t.capacity.limit) where
       place_left : length ps < most

@@ -10,3 +10,4 @@ pub mod PresentPointers
 pub mod Empties
 pub mod Leaving
 pub mod Zeroed
+pub mod Reversed

@@ -33,11 +33,8 @@ module _ (v : MapValue) (j : ℕ) (ns : List ℕ) (fits : FitsPointers ns)
     some = (some.0, some.1, (let is = word_of_pointers ns some.0 fits some.1 in let s = some.2 in omega arith));
   }
 
-  -- the block, if there is one
-  pub spelled_shown : (r : Option (List ℕ)) → IfSome r (λ bytes. bytes ≡ pointer_sector ns)
-      → IfSome r (λ bytes. (i : ℕ) × (i < 128) × (0 < get_or ns i 0)) → IfSome r (SpellsShown v j)
-  spelled_shown None is some = tt
-  spelled_shown (Some bytes) is some = rw is (spells_shown some)
+  pub spelled_shown : (bytes : List ℕ) → bytes ≡ pointer_sector ns → (i : ℕ) × (i < 128) × (0 < get_or ns i 0) → SpellsShown v j bytes
+  spelled_shown bytes is some = rw is (spells_shown some)
 
 -- words are numbers of 32 bits
 pub are32_of : (ns : List ℕ) → ((i : ℕ) → Fits w32 (slice_index_or ns i 0)) → (i : ℕ) → get_or ns i 0 < 2 ^ 32
@@ -62,10 +59,6 @@ module _ (v : MapValue) (m : LogMap) (t : Tables) (is : IsMapOf v m t) where
     spells = λ i lt. s.spells i lt ∙ sym (shown_is (128 * j + i) (omega arith));
     some = s.some;
   }
-
-  pub spelled_map : (j : ℕ) (r : Option (List ℕ)) → j < 32 → IfSome r (SpellsShown v j) → AreSettled m t j → IfSome r (SpellsMap m t j)
-  spelled_map j None low s settled = tt
-  spelled_map j (Some bytes) low s settled = spells_map j bytes low s settled
 
 all_default : {X : Type 0} (n k : ℕ) (x : X) → get_or (replicate n x) k x ≡ x
 all_default zero k x = refl

@@ -4,7 +4,7 @@ use Rattle.std.specs.Prelude.{set}
 use Rattle.std.specs.Ordering.{nat_cmp}
 use Rattle.std.specs.FinMap.{is_sorted}
 use Rattle.lfs_model.specs.Running.{IsTight}
-use Rattle.lfs_inodes.specs.declared.table.Place.{Place}
+use Rattle.lfs_inodes.specs.declared.index.Place.{Place}
 use Rattle.lfs_inodes.specs.Blocks.{Blocks, blocks_in}
 
 -- a place of the index, and the block there

@@ -10,3 +10,4 @@ pub mod MapValue
 pub mod Pointed
 pub mod Present
 pub mod Table
+pub mod Index

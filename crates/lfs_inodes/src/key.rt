@@ -25,6 +25,9 @@ pub const POINTERS: u32 = BLOCK_POINTERS;
 /// The place of 4 bytes of an inode at which its first pointer stands.
 pub const FIRST: u32 = FIRST_POINTER as u32;
 
+/// How many kinds of keys there are.
+pub(crate) const KINDS: usize = 4;
+
 const KIND: u32 = 134_217_728;
 
 const FILE: u32 = 32_768;
@@ -90,6 +93,13 @@ impl BlockKey {
             2 => BlockKind::Double,
             _ => BlockKind::Inode,
         }
+    }
+
+    /// The place of its kind in the order of keys.
+    pub(crate) fn rank(self) -> usize
+        ensures { result < KINDS }
+    {
+        (self.code / KIND) as usize
     }
 
     /// Whether the block is one of data.

@@ -2,6 +2,7 @@
 #![tactic(auto)]
 
 mod header;
+mod index;
 mod key;
 pub mod laws;
 mod map;

@@ -190,44 +190,46 @@ impl InodeMap {
         Some(&self.addresses[first..first + POINTERS])
     }
 
-    /// A block of the map as it is written, or `None` where it would show no inode.
-    pub fn encode(&self, index: usize) -> Option<[u8; 512]>
+    /// Writes a block of the map, unless it would show no inode: whether it shows one.
+    pub fn encode(&self, index: usize, out: &mut [u8; 512]) -> bool
         requires { index < MAP_BLOCKS }
-        ensures some { IfSome result (SpellsShown self.now index) }
-        ensures none { IfNone result (ShowsNone self.now index) }
+        ensures some { IsTrue result → SpellsShown self.now index out.new }
+        ensures none { IsFalse result → ShowsNone self.now index }
         ensures written { (m : LogMap) (t : Tables) → IsMapOf self.now m t → AreSettled m t index
-            → IfSome result (SpellsMap m t index) }
-        ensures dropped { (m : LogMap) (t : Tables) → IsMapOf self.now m t
-            → IfNone result ((i : ℕ) → i < BLOCK_POINTERS → shown m t.at (Inode (BLOCK_POINTERS * index + i)) ≡ 0) }
+            → IsTrue result → SpellsMap m t index out.new }
+        ensures dropped { (m : LogMap) (t : Tables) → IsMapOf self.now m t → IsFalse result
+            → (i : ℕ) → i < BLOCK_POINTERS → shown m t.at (Inode (BLOCK_POINTERS * index + i)) ≡ 0 }
     {
         if let Some(addresses) = self.named_block(index) {
-            return spelled(addresses);
+            return spell(addresses, out);
         }
-        self.encode_shown(index)
+        self.encode_shown(index, out)
     }
 
     /// The same of a block that hides some of its files, which is put together first.
-    fn encode_shown(&self, index: usize) -> Option<[u8; 512]>
+    fn encode_shown(&self, index: usize, out: &mut [u8; 512]) -> bool
         requires { index < MAP_BLOCKS }
-        ensures some { IfSome result (SpellsShown self.now index) }
-        ensures none { IfNone result (ShowsNone self.now index) }
+        ensures some { IsTrue result → SpellsShown self.now index out.new }
+        ensures none { IsFalse result → ShowsNone self.now index }
     {
-        spelled(&self.shown_block(index))
+        spell(&self.shown_block(index), out)
     }
 }
 
-/// The block of these addresses, unless all are 0.
-fn spelled(addresses: &[u32]) -> Option<[u8; 512]>
+/// Writes the block of these addresses, unless all are 0: whether one isn't.
+fn spell(addresses: &[u32], out: &mut [u8; 512]) -> bool
     requires { length addresses.now ≡ BLOCK_POINTERS }
     ensures fits { FitsPointers addresses.now }
-    ensures some { IfSome result (λ bytes. bytes ≡ pointer_sector addresses.now) }
-    ensures shows { IfSome result (λ bytes. (i : ℕ) × (i < BLOCK_POINTERS) × (0 < get_or addresses.now i 0)) }
-    ensures none { IfNone result ((i : ℕ) → get_or addresses.now i 0 ≡ 0) }
+    ensures some { IsTrue result → out.new ≡ pointer_sector addresses.now }
+    ensures shows { IsTrue result
+        → (i : ℕ) × (i < BLOCK_POINTERS) × (0 < get_or addresses.now i 0) }
+    ensures none { IsFalse result → (i : ℕ) → get_or addresses.now i 0 ≡ 0 }
 {
     if is_empty(addresses) {
-        return None;
+        return false;
     }
-    Some(encode_pointers(addresses))
+    *out = encode_pointers(addresses);
+    true
 }
 
 /// Whether all addresses are 0.

@@ -17,18 +17,11 @@ ghost use Rattle.lfs_inodes.specs.Table.{ClearsWords, Forgets, ForgetsPast, Give
 ghost use Rattle.lfs_inodes.specs.Held.{times, Stores};
 ghost use Rattle.lfs_inodes.specs.Data.{data_count, is_data_code};
 
+use crate::index::{KeyIndex, Place};
 use crate::key::{BlockKey, IN_MEMORY};
 use lfs_layout::{SECTOR_WORDS, set_word, word};
 use std::alloc::{AllocError, Global};
-use std::cell::Cell;
 use std::marker::Model;
-
-/// Where the block of a key stands in memory.
-#[derive(Clone, Copy)]
-struct Place {
-    key: BlockKey,
-    spot: u32,
-}
 
 /// The blocks of files in memory, by their keys. All memory is taken as the table is made, and is
 /// written as blocks come.
@@ -36,15 +29,13 @@ struct Place {
 /// present (`limit`), and for how many there is memory (`room`).
 #[derive(Drop)]
 pub struct DirtyTable {
-    places: Vec<Place>,
+    places: KeyIndex,
     arena: Vec<[u8; 512]>,
     spare: Vec<u32>,
     limit: u32,
     room: u32,
     /// Whether a block of pointers here may lead nowhere.
     loose: bool,
-    /// Where the last search found its key. The next one looks there first, and rests nothing on it.
-    found: Cell<usize>,
 }
 
 impl Model for DirtyTable {
@@ -57,7 +48,7 @@ impl Model for DirtyTable {
 
     ghost view = { λ t. record { blocks = entries_in t.places.items t.arena.items; capacity = record { limit = t.limit; room = t.room } } };
 
-    ghost invariant = { λ t. IsTableOf t.places.items t.arena.items t.spare.items t.limit t.room (record { for_places = vec_capacity t.places; for_arena = vec_capacity t.arena; for_spare = vec_capacity t.spare }) × IsTightUnless t.loose t.places.items t.arena.items };
+    ghost invariant = { λ t. IsTableOf t.places.items t.arena.items t.spare.items t.limit t.room (record { for_places = t.places.capacity; for_arena = vec_capacity t.arena; for_spare = vec_capacity t.spare }) × IsTightUnless t.loose t.places.items t.arena.items };
 }
 
 impl DirtyTable {
@@ -73,7 +64,7 @@ impl DirtyTable {
         ensures limit { IfOk result (λ t. t.capacity.limit ≡ limit) }
         ensures room { IfOk result (λ t. t.capacity.room ≡ room) }
     {
-        let places = Vec::with_capacity(alloc, room as usize)?;
+        let places = KeyIndex::new(alloc, room as usize)?;
         let arena = Vec::with_capacity(alloc, room as usize)?;
         let spare = Vec::with_capacity(alloc, room as usize)?;
         Ok(DirtyTable {
@@ -83,7 +74,6 @@ impl DirtyTable {
             limit,
             room,
             loose: false,
-            found: Cell::new(0),
         })
     }
 
@@ -146,7 +136,7 @@ impl DirtyTable {
         requires { at < length self.now.blocks }
         ensures { HasNumberAt self.now.blocks result.code at }
     {
-        self.places[at].key
+        self.places.get(at).key
     }
 
     /// Whether this block of pointers is here, and none of its pointers leads anywhere.
@@ -191,44 +181,12 @@ impl DirtyTable {
         self.loose = false;
     }
 
-    /// Where a key stands in the index, or where it would go. Three places are looked at first: where
-    /// the last search found its key, and both ends, where the block that goes next stands and the
-    /// inode of the last file.
+    /// Where a key stands in the index, or where it would go.
     fn search(&self, key: BlockKey) -> Result<usize, usize>
         ensures found { IfOk result (HasNumberAt self.now.blocks key.code) }
         ensures missing { IfErr result (IsGapFor self.now.blocks key.code) }
     {
-        for at in [self.found.get(), 0, self.len().saturating_sub(1)] {
-            if self.stands_at(key, at) {
-                return Ok(at);
-            }
-        }
-        match self.search_all(key) {
-            Ok(at) => {
-                self.found.set(at);
-                Ok(at)
-            }
-            Err(at) => Err(at),
-        }
-    }
-
-    /// As `search`, but no place is looked at first.
-    fn search_all(&self, key: BlockKey) -> Result<usize, usize>
-        ensures found { IfOk result (HasNumberAt self.now.blocks key.code) }
-        ensures missing { IfErr result (IsGapFor self.now.blocks key.code) }
-    {
-        self.places
-            .binary_search_by_key(&key.number(), |place| place.key.number())
-    }
-
-    /// Whether a key stands at a place of the index.
-    fn stands_at(&self, key: BlockKey, at: usize) -> bool
-        ensures { IsTrue result → HasNumberAt self.now.blocks key.code at }
-    {
-        match self.places.get(at) {
-            Some(place) => place.key.number() == key.number(),
-            None => false,
-        }
+        self.places.search(key)
     }
 
     /// The block of a key, if it is here.
@@ -241,7 +199,7 @@ impl DirtyTable {
         let Ok(at) = self.search(key) else {
             return None;
         };
-        Some(&self.arena[self.places[at].spot as usize])
+        Some(&self.arena[self.places.get(at).spot as usize])
     }
 
     /// Puts a block in, in the place of what it was.
@@ -259,13 +217,13 @@ impl DirtyTable {
         let empty = leads_nowhere(key, bytes);
         match self.search(key) {
             Ok(at) => {
-                let spot = self.places[at].spot;
+                let spot = self.places.get(at).spot;
                 self.arena[spot as usize] = *bytes;
                 self.loose |= empty;
             }
             Err(at) => {
                 let spot = store(&mut self.arena, &mut self.spare, bytes);
-                self.places.insert(at, Place { key, spot }).unwrap();
+                self.places.insert(at, Place { key, spot });
                 self.loose |= empty;
             }
         }
@@ -279,7 +237,7 @@ impl DirtyTable {
         let Ok(at) = self.search(key) else {
             return;
         };
-        let spot = self.places[at].spot as usize;
+        let spot = self.places.get(at).spot as usize;
         point(&mut self.arena[spot], place, number);
         self.loose |= may_empty(key, number);
     }

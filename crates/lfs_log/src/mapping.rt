@@ -73,10 +73,11 @@ fn save_map_block<D: SectorDevice>(
     ensures long { OnOk result (IsMap memory.new.map) }
     ensures dirty { memory.new.dirty ≡ memory.old.dirty }
 {
-    let Some(bytes) = memory.map.encode(index as usize) else {
+    let mut bytes = [0; 512];
+    if !memory.map.encode(index as usize, &mut bytes) {
         memory.map.set_block_address(index as usize, 0);
         return Ok(());
-    };
+    }
     write_map_block(device, memory, index, &bytes, age)?;
     seal_full(device, memory)?;
     Ok(())

@@ -4,8 +4,8 @@ use Rattle.lfs_log.proofs.MapSteps.{drop_goes}
 use Rattle.lfs_log.proofs.SavedBlocks.{saving_done, saving_failed, sealed_then, stops_sealing}
 use Rattle.lfs_log.proofs.mapping.save_map_block.Goals as goal
 
-pub returns-in_default-clause-saves : goal.returns-in_default-clause-saves
-returns-in_default-clause-saves g c =
+pub returns-then-not-encode-clause-saves : goal.returns-then-not-encode-clause-saves
+returns-then-not-encode-clause-saves g c =
     saving_done (record {
       goes = drop_goes (g.D.SectorDevice.state c.args.device.now) c.args.memory.now c.args.index c.set_block_address.new.self
           (record {
@@ -13,7 +13,7 @@ returns-in_default-clause-saves g c =
             addresses = ap (λ (a : MapValue). a.addresses) c.set_block_address.ensures.set;
             hidden = ap (λ (a : MapValue). a.hidden) c.set_block_address.ensures.set;
           })
-          (search rules) c.requires.memory (g.met.D.SectorDevice.lawful c.args.device.now) c.in_default.ensures.dropped;
+          (search rules) c.requires.memory (g.met.D.SectorDevice.lawful c.args.device.now) (λ m t is. c.encode.ensures.dropped m t is (search rules));
       tells = omega arith;
     })
 

@@ -10,21 +10,21 @@ returns-in_default-clause-block c = find_gap c.args.self.now.blocks c.args.key.c
 pub returns-in_default-clause-entry : goal.returns-in_default-clause-entry
 returns-in_default-clause-entry c = entry_found c.args.self.now.blocks c.args.key.code c.args.key.formed ∙ returns-in_default-clause-block c
 
-pub index-requires-2 : goal.index-requires-2
-index-requires-2 c =
+pub index-requires : goal.index-requires
+index-requires c =
     let l = low_at c.self.inside.places.items c.self.inside.arena.items c.self.inside.spare.items _ _ _ c.self.invariant.0 c.args.self.now
-    c.self.view_is c.args.key.code c.in-Ok.at c.in-Ok.ensures.found c.index.result.now c.index.ensures in
+    c.self.view_is c.args.key.code c.in-Ok.at c.in-Ok.ensures.found c.get.result c.get.ensures in
     let o = c.self.inside.arena.ok in
     omega (arith, l, o.0)
 
 pub returns-clause-block : goal.returns-clause-block
 returns-clause-block c =
     let l = low_at c.self.inside.places.items c.self.inside.arena.items c.self.inside.spare.items _ _ _ c.self.invariant.0 c.args.self.now
-    c.self.view_is c.args.key.code c.in-Ok.at c.in-Ok.ensures.found c.index.result.now c.index.ensures in
+    c.self.view_is c.args.key.code c.in-Ok.at c.in-Ok.ensures.found c.get.result c.get.ensures in
     found_at c.self.inside.places.items c.self.inside.arena.items c.self.inside.spare.items _ _ _ c.self.invariant.0 c.args.self.now
-    c.self.view_is c.args.key.code c.in-Ok.at c.in-Ok.ensures.found c.index.result.now c.index.ensures
+    c.self.view_is c.args.key.code c.in-Ok.at c.in-Ok.ensures.found c.get.result c.get.ensures
     ∙ ap (λ (b : List ℕ). Some b)
-    (get_or_default c.self.inside.arena.items c.index.result.now.spot [] c.index-2.result.now l ∙ sym c.index-2.ensures)
+    (get_or_default c.self.inside.arena.items c.get.result.spot [] c.index.result.now l ∙ sym c.index.ensures)
 
 pub returns-clause-entry : goal.returns-clause-entry
 returns-clause-entry c = entry_found c.args.self.now.blocks c.args.key.code c.args.key.formed ∙ returns-clause-block c

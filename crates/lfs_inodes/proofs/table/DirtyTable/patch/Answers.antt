@@ -28,18 +28,18 @@ returns-in_default c =
 pub index_mut-requires : goal.index_mut-requires
 index_mut-requires c =
     let l = low_at c.self.inside.places.items c.self.inside.arena.items c.self.inside.spare.items _ _ _ c.self.invariant.0 c.args.self.now
-    c.self.view_is c.args.key.code c.in-Ok.at c.in-Ok.ensures.found c.index.result.now c.index.ensures in
+    c.self.view_is c.args.key.code c.in-Ok.at c.in-Ok.ensures.found c.get-spot.result c.get-spot.ensures in
     let o = c.self.inside.arena.ok in
     omega (arith, l, o.0)
 
 pub invariant_of-self : goal.invariant_of-self
 invariant_of-self c = (
   held_at c.self.inside.places.items c.self.inside.arena.items c.self.inside.spare.items _ _ _ c.self.invariant.0 c.args.self.now
-      c.self.view_is c.args.key.code c.in-Ok.at c.in-Ok.ensures.found c.index.result.now c.index.ensures c.point.new.block,
+      c.self.view_is c.args.key.code c.in-Ok.at c.in-Ok.ensures.found c.get-spot.result c.get-spot.ensures c.point.new.block,
   λ h.
       let off = neither c.self.inside.loose c.may_empty.result h in
       tight_at c.self.inside.places.items c.self.inside.arena.items c.self.inside.spare.items _ _ _ c.self.invariant.0 c.args.self.now
-      c.self.view_is c.args.key.code c.in-Ok.at c.in-Ok.ensures.found c.index.result.now c.index.ensures c.args.key.formed
+      c.self.view_is c.args.key.code c.in-Ok.at c.in-Ok.ensures.found c.get-spot.result c.get-spot.ensures c.args.key.formed
       c.point.new.block
       (λ is. c.point.ensures.leads (c.may_empty.ensures (λ on. let bad : true ≡ false = sym on ∙ off.1 in absurd cc) is))
       (c.self.invariant.1 off.0),
@@ -49,14 +49,14 @@ pub returns : goal.returns
 returns c =
     let t = c.args.self.now in
     let l = low_at c.self.inside.places.items c.self.inside.arena.items c.self.inside.spare.items _ _ _ c.self.invariant.0 t
-    c.self.view_is c.args.key.code c.in-Ok.at c.in-Ok.ensures.found c.index.result.now c.index.ensures in
+    c.self.view_is c.args.key.code c.in-Ok.at c.in-Ok.ensures.found c.get-spot.result c.get-spot.ensures in
     let sorted = sorted_value c.self.inside.places.items c.self.inside.arena.items c.self.inside.spare.items _ _ _ c.self.invariant.0 t
     c.self.view_is in
     let is = altered_value c.self.inside.places.items c.self.inside.arena.items c.self.inside.spare.items _ _ _ c.self.invariant.0 t
-    c.self.view_is c.args.key.code c.in-Ok.at c.in-Ok.ensures.found c.index.result.now c.index.ensures
+    c.self.view_is c.args.key.code c.in-Ok.at c.in-Ok.ensures.found c.get-spot.result c.get-spot.ensures
     (patched c.args.place c.args.number) c.point.new.block
     (c.point.ensures.patched ∙ ap (patched c.args.place c.args.number)
-    (c.index_mut.ensures.value ∙ sym (get_or_default c.self.inside.arena.items c.index.result.now.spot [] c.index_mut.result.now l))) in
+    (c.index_mut.ensures.value ∙ sym (get_or_default c.self.inside.arena.items c.get-spot.result.spot [] c.index_mut.result.now l))) in
     record {
       patched = is;
       changed = subst (λ (u : TableValue). ChangesTo (blocks_of t) (blocks_of u) (entry_of c.args.key)

@@ -6,26 +6,26 @@ use Rattle.lfs_inodes.specs.Key.{entry_of}
 use Rattle.lfs_inodes.specs.Blocks.{TableValue, blocks_in, blocks_of}
 use Rattle.lfs_inodes.proofs.Blocks.{changed_put, count_put}
 use Rattle.lfs_inodes.proofs.Held.{low_at, held_at, put_value, sorted_value, held_put, inserted_value, neither, tight_at, tight_more, wider}
-use Rattle.lfs_inodes.proofs.Held.{value_of, places_left, arena_left, spare_below}
-use Rattle.lfs_inodes.specs.declared.table.Place.{Place}
+use Rattle.lfs_inodes.proofs.Held.{value_of, place_within, places_left, arena_left, spare_below}
+use Rattle.lfs_inodes.specs.declared.index.Place.{Place}
 use Rattle.lfs_inodes.specs.Held.{IsTableOf, entries_in}
 use Rattle.lfs_inodes.proofs.table.DirtyTable.put.Goals as goal
 
 pub index_mut-requires : goal.index_mut-requires
 index_mut-requires c =
     let l = low_at c.self.inside.places.items c.self.inside.arena.items c.self.inside.spare.items _ _ _ c.self.invariant.0 c.args.self.now
-    c.self.view_is c.args.key.code c.in-Ok.at c.in-Ok.ensures.found c.index.result.now c.index.ensures in
+    c.self.view_is c.args.key.code c.in-Ok.at c.in-Ok.ensures.found c.get-spot.result c.get-spot.ensures in
     let o = c.self.inside.arena.ok in
     omega (arith, l, o.0)
 
 pub invariant_of-self : goal.invariant_of-self
 invariant_of-self c = (
   held_at c.self.inside.places.items c.self.inside.arena.items c.self.inside.spare.items _ _ _ c.self.invariant.0 c.args.self.now
-      c.self.view_is c.args.key.code c.in-Ok.at c.in-Ok.ensures.found c.index.result.now c.index.ensures c.args.bytes.now,
+      c.self.view_is c.args.key.code c.in-Ok.at c.in-Ok.ensures.found c.get-spot.result c.get-spot.ensures c.args.bytes.now,
   λ h.
       let off = neither c.self.inside.loose c.leads_nowhere-empty.result h in
       tight_at c.self.inside.places.items c.self.inside.arena.items c.self.inside.spare.items _ _ _ c.self.invariant.0 c.args.self.now
-      c.self.view_is c.args.key.code c.in-Ok.at c.in-Ok.ensures.found c.index.result.now c.index.ensures c.args.key.formed
+      c.self.view_is c.args.key.code c.in-Ok.at c.in-Ok.ensures.found c.get-spot.result c.get-spot.ensures c.args.key.formed
       c.args.bytes.now
       (c.leads_nowhere-empty.ensures (λ on. let bad : true ≡ false = sym on ∙ off.1 in absurd cc)) (c.self.invariant.1 off.0),
 )
@@ -33,7 +33,7 @@ invariant_of-self c = (
 pub returns-in-Ok-clause-put : goal.returns-in-Ok-clause-put
 returns-in-Ok-clause-put c =
     put_value c.self.inside.places.items c.self.inside.arena.items c.self.inside.spare.items _ _ _ c.self.invariant.0 c.args.self.now
-    c.self.view_is c.args.key.code c.in-Ok.at c.in-Ok.ensures.found c.index.result.now c.index.ensures c.args.bytes.now
+    c.self.view_is c.args.key.code c.in-Ok.at c.in-Ok.ensures.found c.get-spot.result c.get-spot.ensures c.args.bytes.now
 
 pub returns-in-Ok-clause-changed : goal.returns-in-Ok-clause-changed
 returns-in-Ok-clause-changed c =
@@ -66,21 +66,21 @@ store-spot-requires c = record {
       omega (arith, g, s, o.0);
 }
 
-pub unwrap-requires : goal.unwrap-requires
-unwrap-requires c =
-    let o = c.self.inside.places.ok in
-    let l = places_left c.self.inside.places.items c.self.inside.arena.items c.self.inside.spare.items _ _ _ c.self.invariant.0
-    c.args.self.now c.self.view_is c.args.key.code c.in-Err.at c.in-Err.ensures.missing c.requires in
-    c.insert.ensures.succeeds (omega (arith, l, o.0))
+pub insert-requires : goal.insert-requires
+insert-requires c = record {
+  inside = place_within c.self.inside.places.items c.self.inside.arena.items c.self.inside.spare.items _ _ _ c.self.invariant.0
+      c.args.self.now c.self.view_is c.args.key.code c.in-Err.at c.in-Err.ensures.missing;
+  room = places_left c.self.inside.places.items c.self.inside.arena.items c.self.inside.spare.items _ _ _ c.self.invariant.0
+      c.args.self.now c.self.view_is c.args.key.code c.in-Err.at c.in-Err.ensures.missing c.requires;
+}
 
 pub invariant_of-self-in-Err : goal.invariant_of-self-in-Err
 invariant_of-self-in-Err c =
     let place : Place = record { key = c.args.key; spot = c.store-spot.result } in
-    let items : c.insert.new.self.items ≡ insert c.self.inside.places.items c.in-Err.at place =
-    rw c.unwrap.ensures at c.insert.ensures.items in (
+    let items : c.insert.new.self.items ≡ insert c.self.inside.places.items c.in-Err.at place = c.insert.ensures.items in (
       subst (λ (ps : List Place). IsTableOf ps c.store-spot.new.arena.items c.store-spot.new.spare.items c.self.inside.limit
           c.self.inside.room (record {
-            for_places = vec_capacity c.insert.new.self;
+            for_places = c.insert.new.self.capacity;
             for_arena = vec_capacity c.store-spot.new.arena;
             for_spare = vec_capacity c.store-spot.new.spare;
           })) (sym items)
@@ -100,8 +100,7 @@ invariant_of-self-in-Err c =
 pub returns-in-Err-clause-put : goal.returns-in-Err-clause-put
 returns-in-Err-clause-put c =
     let place : Place = record { key = c.args.key; spot = c.store-spot.result } in
-    let items : c.insert.new.self.items ≡ insert c.self.inside.places.items c.in-Err.at place =
-    rw c.unwrap.ensures at c.insert.ensures.items in
+    let items : c.insert.new.self.items ≡ insert c.self.inside.places.items c.in-Err.at place = c.insert.ensures.items in
     ap (λ (ps : List Place). value_of (record { limit = c.self.inside.limit; room = c.self.inside.room }) ps c.store-spot.new.arena.items)
     items
     ∙ inserted_value c.self.inside.places.items c.self.inside.arena.items c.self.inside.spare.items _ _ _ c.self.invariant.0 c.args.self.now

@@ -8,7 +8,7 @@ use Rattle.lfs_inodes.specs.Blocks.{Blocks, TableValue, HasNumberAt, blocks_of, 
 use Rattle.lfs_inodes.proofs.Blocks.{changed_without, count_without, without_at}
 use Rattle.lfs_inodes.proofs.Data.{data_removed}
 use Rattle.lfs_inodes.proofs.Held.{codes_value, held_left, tight_left, removed_value, sorted_value, wider, value_of}
-use Rattle.lfs_inodes.specs.declared.table.Place.{Place}
+use Rattle.lfs_inodes.specs.declared.index.Place.{Place}
 use Rattle.lfs_inodes.specs.Held.{IsTableOf, IsTightUnless}
 use Rattle.lfs_inodes.proofs.table.DirtyTable.remove_at.Goals as goal
 
@@ -19,17 +19,16 @@ invariant_of-self c =
     let formed : IsCode (number_at c.args.self.now.blocks c.args.at) =
     codes_value _ c.self.inside.places.items c.self.inside.arena.items c.args.self.now c.self.view_is c.args.at c.requires in
     let items : c.push.new.self.items ≡ c.self.inside.spare.items ++ c.remove-place.result.spot ∷ [] =
-    rw c.unwrap.ensures at c.push.ensures.items in
-    let less = c.remove-place.ensures.capacity in (
+    rw c.unwrap.ensures at c.push.ensures.items in (
       subst (λ (ps : List Place). IsTableOf ps c.self.inside.arena.items c.push.new.self.items c.self.inside.limit c.self.inside.room
           (record {
-            for_places = vec_capacity c.remove-place.new.self;
+            for_places = c.remove-place.new.self.capacity;
             for_arena = vec_capacity c.self.inside.arena;
             for_spare = vec_capacity c.push.new.self;
           })) (sym c.remove-place.ensures.items)
           (wider _ _ _ _ _ _ _ (held_left c.self.inside.places.items c.self.inside.arena.items c.self.inside.spare.items _ _ _
           c.self.invariant.0 c.args.self.now c.self.view_is _ c.args.at at c.remove-place.result c.remove-place.ensures.value
-          c.push.new.self.items items) (omega arith) (omega arith) c.push.ensures.capacity),
+          c.push.new.self.items items) c.remove-place.ensures.capacity (omega arith) c.push.ensures.capacity),
       λ h. subst (λ (ps : List Place). IsTightUnless c.self.inside.loose ps c.self.inside.arena.items) (sym c.remove-place.ensures.items)
           (λ h. tight_left c.self.inside.places.items c.self.inside.arena.items c.self.inside.spare.items _ _ _ c.self.invariant.0
           c.args.self.now c.self.view_is _ c.args.at at c.remove-place.result c.remove-place.ensures.value formed

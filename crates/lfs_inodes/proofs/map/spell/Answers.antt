@@ -1,6 +1,6 @@
 use Rattle.lfs_model.specs.Fields.{Are32}
 use Rattle.lfs_inodes.proofs.Maps.{are32_of}
-use Rattle.lfs_inodes.proofs.map.spelled.Goals as goal
+use Rattle.lfs_inodes.proofs.map.spell.Goals as goal
 
 pub returns-then-is_empty-clause-fits : goal.returns-then-is_empty-clause-fits
 unfolding Are32
