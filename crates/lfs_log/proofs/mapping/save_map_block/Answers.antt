@@ -13,7 +13,8 @@ returns-then-not-encode-clause-saves g c =
             addresses = ap (λ (a : MapValue). a.addresses) c.set_block_address.ensures.set;
             hidden = ap (λ (a : MapValue). a.hidden) c.set_block_address.ensures.set;
           })
-          (search rules) c.requires.memory (g.met.D.SectorDevice.lawful c.args.device.now) (λ m t is. c.encode.ensures.dropped m t is (search rules));
+          (search rules) c.requires.memory (g.met.D.SectorDevice.lawful c.args.device.now)
+          (λ m t is. c.encode.ensures.dropped m t is (search rules));
       tells = omega arith;
     })
 
