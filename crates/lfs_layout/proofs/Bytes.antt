@@ -1,19 +1,40 @@
 -- What `byteorder` reads, in the words of the formats.
-use Rattle.std.proofs.Common.{◌≡◌, ◌≤◌, ◌+◌, ◌-◌, ◌*◌, ℕ, zero, suc, List, [], ◌∷◌, length, take, drop, refl, sym, ap, ◌∙◌, arith, inl, inr}
+use Rattle.std.proofs.Common.{◌≡◌, ◌<◌, ◌≤◌, ◌+◌, ◌-◌, ◌*◌, ℕ, zero, suc, List, [], ◌∷◌, length, take, drop, get_or}
+use Rattle.std.proofs.Common.{refl, sym, ap, ◌∙◌, arith, inl, inr}
 use Rattle.std.proofs.lemmas.List.{take-append-drop, drop-drop, length-drop, length-take-le, get_or-drop, get_or_past, nil_from_length}
 use Rattle.std.proofs.lemmas.List.{take_all, length-take}
 use Rattle.std.proofs.lemmas.Bool.{cases_lt}
 use Rattle.byteorder.specs.Endian.{little_from, little_number, IsRead}
 use Rattle.byteorder.specs.Numbers.{little_from-cons, little_from-lt}
-use Rattle.lfs_model.specs.Fields.{le32, words, Are32, part, number_of, read32, numbers}
+use Rattle.lfs_model.specs.Fields.{le32, words, zeros, Are32, part, number_of, read32, numbers}
 use Rattle.lfs_model.proofs.Numbers.{IsBytes, taken_fits, dropped_fits, le32_of_number, words_inj}
-use Rattle.lfs_model.proofs.Parts.{length-part, part_fits}
+use Rattle.lfs_model.proofs.Parts.{length-part, part_fits, get_or-part, zeros_from_each, each_of_zeros}
 use Rattle.lfs_model.proofs.Runs.{length-run, numbers_fit, words_of_numbers}
 
 -- what `&s[at..at + n]` is
 pub part_cut : (at n : ℕ) (s : List ℕ) → take (at + n - at) (drop at s) ≡ part at n s
 unfolding part
 part_cut at n s = ap (λ (m : ℕ). take m (drop at s)) (omega arith)
+
+-- ---- bytes that are 0, one by one
+pub cut_is : (at n : ℕ) (s : List ℕ) → take n (drop at s) ≡ part at n s
+unfolding part
+cut_is at n s = refl
+
+module _ (at n : ℕ) (s : List ℕ) (room : at + n ≤ length s) where
+  pub zero_byte : part at n s ≡ zeros n → (k : ℕ) → at ≤ k → k < at + n → get_or s k 0 ≡ 0
+  zero_byte e k low high =
+      let long = length-part at n s room in
+      let is : k ≡ at + (k - at) = omega (arith, low) in
+      ap (λ (j : ℕ). get_or s j 0) is
+      ∙ sym (get_or-part at n s (k - at) (omega (arith, low, high)))
+      ∙ each_of_zeros (part at n s) n e (k - at) (omega (arith, long, low, high))
+
+  pub zero_part : ((k : ℕ) → at ≤ k → k < at + n → get_or s k 0 ≡ 0) → part at n s ≡ zeros n
+  zero_part each =
+      let long = length-part at n s room in
+      zeros_from_each (part at n s) n long (λ i lt.
+      get_or-part at n s i (omega (arith, long, lt)) ∙ each (at + i) (omega arith) (omega (arith, long, lt)))
 
 number_of_none : (n i : ℕ) → little_from i n [] ≡ 0
 number_of_none zero i = refl

@@ -2,6 +2,7 @@
 ghost use Rattle.std.specs.Prelude.{◌≡◌, ◌≤◌, ◌+◌, ◌*◌, ◌↔◌, length, IsTrue};
 ghost use Rattle.lfs_model.specs.Fields.{le16, le32, le64, words, zeros, part, read16, read32, read64, numbers, Are32};
 
+use crate::zero::{LANES, is_zero_from};
 use byteorder::{ByteOrder, LittleEndian};
 use lfs_model::limits::SECTOR_LEN;
 
@@ -53,12 +54,19 @@ pub fn is_text_at(sector: &[u8; 512], at: usize, text: &[u8]) -> bool
     &sector[at..at + text.len()] == text
 }
 
-/// Whether the `len` bytes from a place on are 0.
+/// Whether the `len` bytes from a place on are 0: those of whole lanes, and then the others.
 pub fn is_zero_at(sector: &[u8; 512], at: usize, len: usize) -> bool
     requires { at + len ≤ SECTOR_LEN }
     ensures { IsTrue result ↔ part at len sector.now ≡ zeros len }
 {
-    sector[at..at + len].iter().all(|b| *b == 0)
+    let steps = len / LANES;
+    for step in 0..steps {
+        if !is_zero_from(sector, at + LANES * step) {
+            return false;
+        }
+    }
+    let rest = at + LANES * steps;
+    sector[rest..at + len].iter().all(|b| *b == 0)
 }
 
 /// Tells a caller's proof that its numbers have 32 bits.
